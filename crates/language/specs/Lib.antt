@@ -1,0 +1,10 @@
+pub mod Kind
+pub mod Tree
+pub mod Characters
+pub mod Scalars
+pub mod Strings
+pub mod Inline
+pub mod BlockText
+pub mod Blocks
+pub mod Document
+pub mod Answered

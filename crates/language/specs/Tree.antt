@@ -1,0 +1,125 @@
+-- THE TREE that a document gives, with spans and decoded texts; its rows and its text (01, What the reader takes and gives). Assumes nothing.
+use mathlib.Core.List.{List, [], _∷_, _++_}
+use Prim.Native.Nat.{ℕ, suc, _+_}
+use lib.ListN.{length}
+use lib.Dec.{leb}
+use Rattle.notation.specs.Class.{pick}
+use Rattle.language.specs.Kind.{TRUE, ARRAY, OBJECT, KEY}
+
+-- A scalar or a key: its kind, the first byte of its span, the byte after it, its text. A container: its kind, its span, its count, its children.
+-- "A key's row stands just before its value's row, with the object as parent of both": so an object's children are key, value, key, value.
+mutual
+  pub data Tree : Type 0 where
+    leaf : ℕ → ℕ → ℕ → List ℕ → Tree
+    node : ℕ → ℕ → ℕ → ℕ → Forest → Tree
+
+  pub data Forest : Type 0 where
+    none : Forest
+    more : Tree → Forest → Forest
+
+abbrev pub forest : List Tree → Forest
+forest [] = none
+forest (t ∷ ts) = more t (forest ts)
+
+abbrev pub count : {X : Type 0} → List X → ℕ
+count [] = 0
+count (x ∷ xs) = suc (count xs)
+
+abbrev pub first : Tree → ℕ
+first (leaf k a e s) = a
+first (node k a e c ts) = a
+
+abbrev pub after : Tree → ℕ
+after (leaf k a e s) = e
+after (node k a e c ts) = e
+
+-- A property or pair: a key and its value. An entry of a block array: the place of its dash, and its item.
+pub data Field : Type 0 where
+  field : Tree → Tree → Field
+
+pub data Entry : Type 0 where
+  entry : ℕ → Tree → Entry
+
+abbrev pub fields : List Field → List Tree
+fields [] = []
+fields (field k v ∷ fs) = k ∷ v ∷ fields fs
+
+abbrev pub entries : List Entry → List Tree
+entries [] = []
+entries (entry d v ∷ es) = v ∷ entries es
+
+abbrev pub endOf : ℕ → List Tree → ℕ
+endOf e [] = e
+endOf e (t ∷ ts) = endOf (after t) ts
+
+-- containers, with the span given; their count is that of the elements or pairs
+abbrev pub arrayTree : ℕ → ℕ → List Tree → Tree
+arrayTree a e ts = node ARRAY a e (count ts) (forest ts)
+
+abbrev pub objectTree : ℕ → ℕ → List Field → Tree
+objectTree a e fs = node OBJECT a e (count fs) (forest (fields fs))
+
+-- "of a block array or object, from its first dash or key to the end of its last child" (01, Blocks, Span)
+abbrev pub blockArray : List Entry → Tree
+blockArray [] = arrayTree 0 0 []
+blockArray (entry d v ∷ es) = arrayTree d (endOf 0 (v ∷ entries es)) (v ∷ entries es)
+
+abbrev pub blockObject : List Field → Tree
+blockObject [] = objectTree 0 0 []
+blockObject (field k v ∷ fs) = objectTree (first k) (endOf 0 (fields (field k v ∷ fs))) (field k v ∷ fs)
+
+-- THE ROWS. "Rows stand in document order, seven words each"
+abbrev pub width : ℕ
+width = 7
+
+-- kind; first byte of the span; byte after it; text start; text end; parent row; row after the last descendant
+abbrev pub rowList : ℕ → ℕ → ℕ → ℕ → ℕ → ℕ → ℕ → List ℕ
+rowList k a e s t p n = k ∷ a ∷ e ∷ s ∷ t ∷ p ∷ n ∷ []
+
+unfoldable mutual
+  pub size : Tree → ℕ
+  size (leaf k a e s) = 1
+  size (node k a e c ts) = suc (sizes ts)
+
+  pub sizes : Forest → ℕ
+  sizes none = 0
+  sizes (more t ts) = size t + sizes ts
+
+-- "Other texts follow one another in row order from 0 without gaps"
+unfoldable mutual
+  pub textOf : Tree → List ℕ
+  textOf (leaf k a e s) = s
+  textOf (node k a e c ts) = textsOf ts
+
+  pub textsOf : Forest → List ℕ
+  textsOf none = []
+  textsOf (more t ts) = textOf t ++ textsOf ts
+
+-- "For kinds 1 to 3 both text words are 0"
+abbrev pub leafRow : ℕ → ℕ → ℕ → ℕ → ℕ → ℕ → List ℕ → List ℕ
+leafRow r p x k a e s = pick (leb k TRUE) (rowList k a e 0 0 p (r + 1)) (rowList k a e x (x + length s) p (r + 1))
+
+-- the rows of a tree from the row r, with the parent p, and the text from x on; "For 8 and 9 text start is 0 and text end is the number of elements or pairs"
+unfoldable mutual
+  pub rowsOf : ℕ → ℕ → ℕ → Tree → List ℕ
+  rowsOf r p x (leaf k a e s) = leafRow r p x k a e s
+  rowsOf r p x (node k a e c ts) = rowList k a e 0 c p (r + 1 + sizes ts) ++ rowss (r + 1) r x ts
+
+  pub rowss : ℕ → ℕ → ℕ → Forest → List ℕ
+  rowss r p x none = []
+  rowss r p x (more t ts) = rowsOf r p x t ++ rowss (r + size t) p (x + length (textOf t)) ts
+
+-- EQUAL KEYS. A key of this text, which starts at a, stands among these children
+pub data Has (s : List ℕ) (a : ℕ) : Forest → Type 0 where
+  has-here : {e : ℕ} {ts : Forest} → Has s a (more (leaf KEY a e s) ts)
+  has-later : {t : Tree} {ts : Forest} → Has s a ts → Has s a (more t ts)
+
+-- "two equal decoded keys in one object" (01, Numbers of refusal, REPEAT): the key that starts at p equals an earlier one of its object
+mutual
+  pub data Repeats (p : ℕ) : Tree → Type 0 where
+    inside : {k a e c : ℕ} {ts : Forest} → Repeated p ts → Repeats p (node k a e c ts)
+
+  pub data Repeated (p : ℕ) : Forest → Type 0 where
+    again : {a e : ℕ} {s : List ℕ} {ts : Forest} → Has s p ts → Repeated p (more (leaf KEY a e s) ts)
+    below : {t : Tree} {ts : Forest} → Repeats p t → Repeated p (more t ts)
+    beside : {t : Tree} {ts : Forest} → Repeated p ts → Repeated p (more t ts)

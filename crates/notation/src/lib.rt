@@ -1,0 +1,1 @@
+// What the words of a grammar mean stands in specs/; this crate has no code.

@@ -1,0 +1,110 @@
+-- What a return of a reader in code has to show, from what the tests and the calls on the way say: each law's conclusion is the contract. Assumes nothing.
+use mathlib.Core.Path.{_≡_, refl, sym, ap, _∙_}
+use mathlib.Core.List.{List, [], _∷_}
+use mathlib.Core.Bool.{true, false}
+use Prim.Native.Nat.{ℕ, _+_, _*_, _≤_, _<_}
+use native.Mathlib.Nat.{add-zero}
+use native.Mathlib.Omega.{arith}
+use lib.ListN.{length, drop, getD}
+use lib.Seq.{sets}
+use lib.Dec.{leb}
+use borrow.Author.Tests.{le-leb, lt-leb}
+use Rattle.exact.specs.Out.{Out, ok, bad, Reader}
+use Rattle.exact.specs.Class.{is, only}
+use Rattle.exact.specs.Comb.{altR}
+use Rattle.exact.specs.Lines.{reached}
+use Rattle.exact.specs.Place.{peek, alt-is, alt-not}
+use Rattle.language.specs.Kind.{TRUE}
+use Rattle.language.specs.Tree.{Tree, leaf, width, size, textOf, rowsOf, rowList}
+use Rattle.rooms.specs.declared.Cursor.{Cursor}
+use Rattle.rooms.specs.declared.Step.the-variants.{Byte, Over}
+use Rattle.rooms.specs.declared.Ans.{Ans}
+use Rattle.rooms.specs.declared.Ans.the-variants.{Ok, No}
+use Rattle.rooms.specs.declared.Far.{Far}
+use Rattle.rooms.specs.declared.Far.the-variants.{Upto, Not}
+use Rattle.rooms.specs.Contract.{Stepped, Ready, Span, Filled, Taken, Answers, Reaches}
+
+-- ---- the cursor
+
+pub stepped : (doc : List ℕ) (c n : Cursor) (b : ℕ) → c .at < length doc → b ≡ getD doc (c .at) 0 → n ≡ record { at = c .at + 1; row = c .row; text = c .text } → Stepped doc c (Byte b n)
+unfolding Stepped
+stepped doc c n b l e h = (l, e, h)
+
+pub stepped-over : (doc : List ℕ) (c : Cursor) → length doc ≤ c .at → Stepped doc c Over
+unfolding Stepped
+stepped-over doc c l = l
+
+-- ---- answers, made and taken apart
+
+module _ (doc : List ℕ) (c : Cursor) (p : ℕ) (o : Out Tree) (R R' T T' : List ℕ) where
+  pub refused : (q : ℕ) → o ≡ bad q → Answers doc c p o (No q) R R' T T'
+  unfolding Answers
+  refused q h = h
+
+  pub took : (n : Cursor) → Taken doc c p o n 0 R R' T T' → Answers doc c p o (Ok n) R R' T T'
+  unfolding Answers
+  took n h = h
+
+  pub taken : (a : Ans) (n : Cursor) → a ≡ Ok n → Answers doc c p o a R R' T T' → Taken doc c p o n 0 R R' T T'
+  unfolding Answers
+  taken a n e h = rw e at h
+
+  pub refusal : (a : Ans) (q : ℕ) → a ≡ No q → Answers doc c p o a R R' T T' → o ≡ bad q
+  unfolding Answers
+  refusal a q e h = rw e at h
+
+  pub not-reached : (q : ℕ) → o ≡ bad q → Reaches doc c p o (Not q) R R' T T'
+  unfolding Reaches
+  not-reached q h = h
+
+  pub reaching : (n : Cursor) (far : ℕ) → Taken doc c p o n far R R' T T' → Reaches doc c p o (Upto n far) R R' T T'
+  unfolding Reaches
+  reaching n far h = h
+
+  pub reached-taken : (a : Far) (n : Cursor) (far : ℕ) → a ≡ Upto n far → Reaches doc c p o a R R' T T' → Taken doc c p o n far R R' T T'
+  unfolding Reaches
+  reached-taken a n far e h = rw e at h
+
+  pub reached-refusal : (a : Far) (q : ℕ) → a ≡ Not q → Reaches doc c p o a R R' T T' → o ≡ bad q
+  unfolding Reaches
+  reached-refusal a q e h = rw e at h
+
+-- ---- a leaf, of a kind with a text and of one without
+
+module _ (doc : List ℕ) (c : Cursor) (p : ℕ) (o : Out Tree) (k e far : ℕ) (ahead : c .at < e) (inside : e ≤ length doc) (R R' T T' : List ℕ) where
+  pub leaf-text : (s : List ℕ) → o ≡ reached far (leaf k (c .at) e s) e (drop e doc) → TRUE < k → c .at + length s ≤ e
+      → R' ≡ sets R (width * c .row) (rowList k (c .at) e (c .text) (c .text + length s) p (c .row + 1)) → T' ≡ sets T (c .text) s
+      → Taken doc c p o (record { at = e; row = c .row + 1; text = c .text + length s }) far R R' T T'
+  unfolding size textOf rowsOf
+  leaf-text s h l f r t =
+      let z : leb k TRUE ≡ false = lt-leb k TRUE l in
+      record {
+        tree = leaf k (c .at) e s;
+        is = h;
+        span = record { ahead = ahead; inside = inside; row = refl; text = refl; fewRows = omega arith; fewText = f };
+        filled = record { table = rw z r; room = t };
+      }
+
+  pub leaf-bare : o ≡ reached far (leaf k (c .at) e []) e (drop e doc) → k ≤ TRUE → R' ≡ sets R (width * c .row) (rowList k (c .at) e 0 0 p (c .row + 1)) → T' ≡ T
+      → Taken doc c p o (record { at = e; row = c .row + 1; text = c .text }) far R R' T T'
+  unfolding size textOf rowsOf
+  leaf-bare h l r t =
+      let z : leb k TRUE ≡ true = le-leb k TRUE l in
+      record {
+        tree = leaf k (c .at) e [];
+        is = h;
+        span = record { ahead = ahead; inside = inside; row = refl; text = sym (add-zero (c .text)); fewRows = omega arith; fewText = omega arith };
+        filled = record { table = rw z r; room = t };
+      }
+
+-- ---- one reader in place of another, by the byte b at the cursor
+
+module _ (doc : List ℕ) (c : Cursor) (p : ℕ) (a : Ans) (R R' T T' : List ℕ) (b : ℕ) (h : b ≡ peek doc (c .at)) where
+  abbrev pub Via : Reader Tree → Type 0
+  Via r = Answers doc c p (r (c .at) (drop (c .at) doc)) a R R' T T'
+
+  pub via-first : (d : ℕ) (r q : Reader Tree) → d < 256 → b ≡ d → Via r → Via (altR (is (only d)) r q)
+  via-first d r q l k x = rw (alt-is doc (c .at) d b l h r q k) x
+
+  pub via-other : (d : ℕ) (r q : Reader Tree) → d < 256 → (b ≡ d → ⊥) → Via q → Via (altR (is (only d)) r q)
+  via-other d r q l k x = rw (alt-not doc (c .at) d b l h r q k) x

@@ -1,0 +1,4 @@
+pub mod Contract
+pub mod Stores
+pub mod Forest
+pub mod Laws

@@ -1,0 +1,165 @@
+// The reading cursor, and the stores into the rooms lent. A store past a room's end changes nothing, so that the same readers check a document, with empty
+// rooms, and fill the rooms.
+ghost use mathlib.Core.Path.{_≡_};
+ghost use Prim.Native.Nat.{ℕ, _+_, _*_, _≤_, _<_};
+ghost use lib.ListN.{length, set};
+ghost use lib.Seq.{sets, slice};
+ghost use Rattle.exact.specs.Place.{peek, common};
+ghost use lib.ListN.{drop};
+ghost use Rattle.language.specs.Tree.{width, rowList};
+ghost use Rattle.rooms.specs.Contract.{Stepped, Small};
+use language::Kind;
+
+// Where a reader stands: the byte, the row and the text byte that come next.
+pub struct Cursor {
+    pub at: usize,
+    pub row: usize,
+    pub text: usize,
+}
+
+// What reading a byte gives: the byte and the next cursor, or the document's end.
+pub enum Step {
+    Byte(u8, Cursor),
+    Over,
+}
+
+// What a reader answers: the cursor after what it read, or the place where it is refused.
+pub enum Ans {
+    Ok(Cursor),
+    No(usize),
+}
+
+// The same with the place up to which something longer stays viable, 0 for none.
+pub enum Far {
+    Upto(Cursor, usize),
+    Not(usize),
+}
+
+// How many words a row has.
+pub const WIDTH: usize = 7;
+
+// The words of a row.
+pub struct Words {
+    pub kind: u32,
+    pub first: u32,
+    pub after: u32,
+    pub from: u32,
+    pub to: u32,
+    pub parent: u32,
+    pub next: u32,
+}
+
+impl Cursor {
+    // The byte at the cursor, 256 at the end.
+    pub fn look(self, doc: &[u8]) -> u32
+        ensures { λ r. ⌜ r ≡ peek (now (doc .entry)) (self .at) ⌝ }
+    {
+        let at = self.at;
+        if at < doc.len() { doc[at] as u32 } else { 256 }
+    }
+
+    // The byte at the cursor, and the cursor behind it.
+    pub fn step(self, doc: &[u8]) -> Step
+        ensures { λ r. ⌜ Stepped (now (doc .entry)) self r ⌝ }
+    {
+        let at = self.at;
+        if at < doc.len() {
+            return Step::Byte(
+                doc[at],
+                Cursor {
+                    at: at + 1,
+                    row: self.row,
+                    text: self.text,
+                },
+            );
+        }
+        Step::Over
+    }
+}
+
+// How many bytes of the word stand at `at`.
+pub fn same(doc: &[u8], at: usize, word: &[u8]) -> usize
+    requires { ⌜ at ≤ length (now doc) ⌝ }
+    ensures { λ r. ⌜ (r ≡ common (now (word .entry)) (drop at (now (doc .entry)))) × (at + r ≤ length (now (doc .entry))) ⌝ }
+{
+    let mut n = 0;
+    while n < word.len() {
+        if doc.len() - at <= n {
+            return n;
+        }
+        if doc[at + n] != word[n] {
+            return n;
+        }
+        n += 1;
+    }
+    n
+}
+
+// A word stored, where there is room.
+pub fn put(rows: &mut [u32], i: usize, v: u32)
+    ensures { λ _. ⌜ now (rows .exit) ≡ set (now (rows .entry)) i v ⌝ }
+{
+    if i < rows.len() {
+        rows[i] = v;
+    }
+}
+
+// A byte stored, where there is room.
+pub fn put_byte(text: &mut [u8], i: usize, v: u8)
+    ensures { λ _. ⌜ now (text .exit) ≡ set (now (text .entry)) i v ⌝ }
+{
+    if i < text.len() {
+        text[i] = v;
+    }
+}
+
+// The document's bytes from a to e, stored from x on.
+pub fn copy(doc: &[u8], a: usize, e: usize, text: &mut [u8], x: usize)
+    requires { ⌜ (a ≤ e) × (e ≤ length (now doc)) × (x + e < 100000) ⌝ }
+    ensures { λ _. ⌜ now (text .exit) ≡ sets (now (text .entry)) x (slice a e (now (doc .entry))) ⌝ }
+{
+    let mut i = a;
+    while i < e {
+        put_byte(text, x + (i - a), doc[i]);
+        i += 1;
+    }
+}
+
+// The words of a row.
+pub fn put_row(rows: &mut [u32], row: usize, w: Words)
+    requires { ⌜ row < 100000 ⌝ }
+    ensures { λ _. ⌜ now (rows .exit) ≡ sets (now (rows .entry)) (width * row) (rowList (w .kind) (w .first) (w .after) (w .from) (w .to) (w .parent) (w .next)) ⌝ }
+{
+    let i = WIDTH * row;
+    put(rows, i, w.kind);
+    put(rows, i + 1, w.first);
+    put(rows, i + 2, w.after);
+    put(rows, i + 3, w.from);
+    put(rows, i + 4, w.to);
+    put(rows, i + 5, w.parent);
+    put(rows, i + 6, w.next);
+}
+
+// The words of a row of numbers that fit.
+pub fn row_of(
+    kind: Kind,
+    first: usize,
+    after: usize,
+    from: usize,
+    to: usize,
+    parent: u32,
+    next: usize,
+) -> Words
+    requires { ⌜ Small first after from to next ⌝ }
+    ensures { λ r. ⌜ r ≡ record { kind = kind .0; first = first; after = after; from = from; to = to; parent = parent; next = next } ⌝ }
+{
+    Words {
+        kind: kind.0,
+        first: first as u32,
+        after: after as u32,
+        from: from as u32,
+        to: to as u32,
+        parent,
+        next: next as u32,
+    }
+}
