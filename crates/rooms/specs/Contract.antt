@@ -6,7 +6,7 @@ use lib.ListN.{length, drop, getD}
 use lib.Seq.{sets}
 use Rattle.exact.specs.Out.{Out, ok, soft, bad}
 use Rattle.exact.specs.Lines.{reached}
-use Rattle.language.specs.Tree.{Tree, width, size, textOf, rowsOf}
+use Rattle.language.specs.Tree.{Tree, after, width, size, textOf, rowsOf}
 use Rattle.language.specs.Answered.{limit}
 use Rattle.rooms.specs.declared.Cursor.{Cursor}
 use Rattle.rooms.specs.declared.Step.{Step}
@@ -15,6 +15,8 @@ use Rattle.rooms.specs.declared.Ans.{Ans}
 use Rattle.rooms.specs.declared.Ans.the-variants.{Ok, No}
 use Rattle.rooms.specs.declared.Far.{Far}
 use Rattle.rooms.specs.declared.Far.the-variants.{Upto, Not}
+use Rattle.rooms.specs.declared.Block.{Block}
+use Rattle.rooms.specs.declared.Block.the-variants.{Done, Bad}
 
 -- a byte was there, and the next cursor stands behind it; or the document is at its end
 unfoldable pub Stepped : List ℕ → Cursor → Step → Type 0
@@ -58,6 +60,16 @@ Answers doc c parent o (No p) rows rows' text text' = o ≡ bad p
 unfoldable pub Reaches : List ℕ → Cursor → ℕ → Out Tree → Far → List ℕ → List ℕ → List ℕ → List ℕ → Type 0
 Reaches doc c parent o (Upto n far) rows rows' text text' = Taken doc c parent o n far rows rows' text text'
 Reaches doc c parent o (Not p) rows rows' text text' = o ≡ bad p
+
+-- .. and of one whose tree ends at e, before the line's end
+pub record Blocked (doc : List ℕ) (c : Cursor) (parent : ℕ) (o : Out Tree) (n : Cursor) (far e : ℕ) (rows rows' text text' : List ℕ) : Type 0 where
+  pub taken : Taken doc c parent o n far rows rows' text text'
+  pub ends : after (taken .tree) ≡ e
+  pub inner : e ≤ n .at
+
+unfoldable pub Blocks : List ℕ → Cursor → ℕ → Out Tree → Block → List ℕ → List ℕ → List ℕ → List ℕ → Type 0
+Blocks doc c parent o (Done n far e) rows rows' text text' = Blocked doc c parent o n far e rows rows' text text'
+Blocks doc c parent o (Bad p) rows rows' text text' = o ≡ bad p
 
 -- the numbers of a row fit
 pub record Small (first after from to next : ℕ) : Type 0 where

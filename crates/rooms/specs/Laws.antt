@@ -22,7 +22,9 @@ use Rattle.rooms.specs.declared.Ans.{Ans}
 use Rattle.rooms.specs.declared.Ans.the-variants.{Ok, No}
 use Rattle.rooms.specs.declared.Far.{Far}
 use Rattle.rooms.specs.declared.Far.the-variants.{Upto, Not}
-use Rattle.rooms.specs.Contract.{Stepped, Ready, Span, Filled, Taken, Answers, Reaches}
+use Rattle.rooms.specs.declared.Block.{Block}
+use Rattle.rooms.specs.declared.Block.the-variants.{Done, Bad}
+use Rattle.rooms.specs.Contract.{Stepped, Ready, Span, Filled, Taken, Answers, Reaches, Blocked, Blocks}
 
 -- ---- the cursor
 
@@ -68,6 +70,22 @@ module _ (doc : List ℕ) (c : Cursor) (p : ℕ) (o : Out Tree) (R R' T T' : Lis
   pub reached-refusal : (a : Far) (q : ℕ) → a ≡ Not q → Reaches doc c p o a R R' T T' → o ≡ bad q
   unfolding Reaches
   reached-refusal a q e h = rw e at h
+
+  pub not-block : (q : ℕ) → o ≡ bad q → Blocks doc c p o (Bad q) R R' T T'
+  unfolding Blocks
+  not-block q h = h
+
+  pub a-block : (n : Cursor) (far e : ℕ) → Blocked doc c p o n far e R R' T T' → Blocks doc c p o (Done n far e) R R' T T'
+  unfolding Blocks
+  a-block n far e h = h
+
+  pub block-taken : (a : Block) (n : Cursor) (far e : ℕ) → a ≡ Done n far e → Blocks doc c p o a R R' T T' → Blocked doc c p o n far e R R' T T'
+  unfolding Blocks
+  block-taken a n far e z h = rw z at h
+
+  pub block-refusal : (a : Block) (q : ℕ) → a ≡ Bad q → Blocks doc c p o a R R' T T' → o ≡ bad q
+  unfolding Blocks
+  block-refusal a q z h = rw z at h
 
 -- ---- a leaf, of a kind with a text and of one without
 

@@ -2,3 +2,4 @@ pub mod Contract
 pub mod Stores
 pub mod Forest
 pub mod Laws
+pub mod Indent

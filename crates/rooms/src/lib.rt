@@ -1,11 +1,11 @@
 // The reading cursor, and the stores into the rooms lent. A store past a room's end changes nothing, so that the same readers check a document, with empty
 // rooms, and fill the rooms.
 ghost use mathlib.Core.Path.{_≡_};
-ghost use Prim.Native.Nat.{ℕ, _+_, _*_, _≤_, _<_};
-ghost use lib.ListN.{length, set};
+ghost use Prim.Native.Nat.{ℕ, _+_, _*_, _≤_, _<_, max};
+ghost use lib.ListN.{length, set, drop};
 ghost use lib.Seq.{sets, slice};
 ghost use Rattle.exact.specs.Place.{peek, common};
-ghost use lib.ListN.{drop};
+ghost use Rattle.exact.specs.Block.{lead};
 ghost use Rattle.language.specs.Tree.{width, rowList};
 ghost use Rattle.rooms.specs.Contract.{Stepped, Small};
 use language::Kind;
@@ -33,6 +33,12 @@ pub enum Ans {
 pub enum Far {
     Upto(Cursor, usize),
     Not(usize),
+}
+
+// What the reader of a block answers: the same, with the place where the span of what it read ends.
+pub enum Block {
+    Done(Cursor, usize, usize),
+    Bad(usize),
 }
 
 // How many words a row has.
@@ -95,6 +101,34 @@ pub fn same(doc: &[u8], at: usize, word: &[u8]) -> usize
     n
 }
 
+// How many spaces stand at `at`, of n.
+pub fn indent(doc: &[u8], at: usize, n: usize) -> usize
+    requires { ⌜ at ≤ length (now doc) ⌝ }
+    ensures { λ r. ⌜ (r ≡ lead n (drop at (now (doc .entry)))) × (r ≤ n) × (at + r ≤ length (now (doc .entry))) ⌝ }
+{
+    let mut i = 0;
+    while i < n {
+        if doc.len() - at <= i {
+            return i;
+        }
+        if doc[at + i] != 32 {
+            return i;
+        }
+        i += 1;
+    }
+    i
+}
+
+// The greater of two places.
+pub fn greater(a: usize, b: usize) -> usize
+    ensures { λ r. ⌜ r ≡ max a b ⌝ }
+{
+    if a < b {
+        return b;
+    }
+    a
+}
+
 // A word stored, where there is room.
 pub fn put(rows: &mut [u32], i: usize, v: u32)
     ensures { λ _. ⌜ now (rows .exit) ≡ set (now (rows .entry)) i v ⌝ }
@@ -113,8 +147,20 @@ pub fn put_byte(text: &mut [u8], i: usize, v: u8)
     }
 }
 
-// The document's bytes from a to e, stored from x on.
-pub fn copy(doc: &[u8], a: usize, e: usize, text: &mut [u8], x: usize)
+// The document's bytes from a to e, stored from x on, where all of them have room.
+fn copy_whole(doc: &[u8], a: usize, e: usize, text: &mut [u8], x: usize)
+    requires { ⌜ (a ≤ e) × (e ≤ length (now doc)) × (x + e < 100000) × (x + e ≤ a + length (now text)) ⌝ }
+    ensures { λ _. ⌜ now (text .exit) ≡ sets (now (text .entry)) x (slice a e (now (doc .entry))) ⌝ }
+{
+    let mut i = a;
+    while i < e {
+        text[x + (i - a)] = doc[i];
+        i += 1;
+    }
+}
+
+// The same where some may have none.
+fn copy_part(doc: &[u8], a: usize, e: usize, text: &mut [u8], x: usize)
     requires { ⌜ (a ≤ e) × (e ≤ length (now doc)) × (x + e < 100000) ⌝ }
     ensures { λ _. ⌜ now (text .exit) ≡ sets (now (text .entry)) x (slice a e (now (doc .entry))) ⌝ }
 {
@@ -125,12 +171,26 @@ pub fn copy(doc: &[u8], a: usize, e: usize, text: &mut [u8], x: usize)
     }
 }
 
-// The words of a row.
-pub fn put_row(rows: &mut [u32], row: usize, w: Words)
-    requires { ⌜ row < 100000 ⌝ }
-    ensures { λ _. ⌜ now (rows .exit) ≡ sets (now (rows .entry)) (width * row) (rowList (w .kind) (w .first) (w .after) (w .from) (w .to) (w .parent) (w .next)) ⌝ }
+// The document's bytes from a to e, stored from x on.
+pub fn copy(doc: &[u8], a: usize, e: usize, text: &mut [u8], x: usize)
+    requires { ⌜ (a ≤ e) × (e ≤ length (now doc)) × (x + e < 100000) ⌝ }
+    ensures { λ _. ⌜ now (text .exit) ≡ sets (now (text .entry)) x (slice a e (now (doc .entry))) ⌝ }
 {
-    let i = WIDTH * row;
+    if text.len() <= x {
+        return;
+    }
+    if x + e <= a + text.len() {
+        copy_whole(&*doc, a, e, text, x);
+        return;
+    }
+    copy_part(&*doc, a, e, text, x);
+}
+
+// The words of a row, where some may have no room.
+fn put_part(rows: &mut [u32], i: usize, w: Words)
+    requires { ⌜ i < 700000 ⌝ }
+    ensures { λ _. ⌜ now (rows .exit) ≡ sets (now (rows .entry)) i (rowList (w .kind) (w .first) (w .after) (w .from) (w .to) (w .parent) (w .next)) ⌝ }
+{
     put(rows, i, w.kind);
     put(rows, i + 1, w.first);
     put(rows, i + 2, w.after);
@@ -138,6 +198,25 @@ pub fn put_row(rows: &mut [u32], row: usize, w: Words)
     put(rows, i + 4, w.to);
     put(rows, i + 5, w.parent);
     put(rows, i + 6, w.next);
+}
+
+// The words of a row: one test, then plain stores.
+pub fn put_row(rows: &mut [u32], row: usize, w: Words)
+    requires { ⌜ row < 100000 ⌝ }
+    ensures { λ _. ⌜ now (rows .exit) ≡ sets (now (rows .entry)) (width * row) (rowList (w .kind) (w .first) (w .after) (w .from) (w .to) (w .parent) (w .next)) ⌝ }
+{
+    let i = WIDTH * row;
+    if rows.len() < i + WIDTH {
+        put_part(rows, i, w);
+        return;
+    }
+    rows[i] = w.kind;
+    rows[i + 1] = w.first;
+    rows[i + 2] = w.after;
+    rows[i + 3] = w.from;
+    rows[i + 4] = w.to;
+    rows[i + 5] = w.parent;
+    rows[i + 6] = w.next;
 }
 
 // The words of a row of numbers that fit.

@@ -1,77 +1,126 @@
-use Rattle.rooms.specs.Stores.{seven}
-use Prim.Native.Nat.{_*_}
+-- `put_row` stores the words of a row.
 use borrow.Author.Needs.{needs}
+use native.Mathlib.Omega.{arith}
+use Prim.Native.Nat.{_*_}
+use lib.ListN.{length-set}
+use Rattle.rooms.specs.Stores.{stored}
 use Rattle.rooms.proofs.put_row.Statement.{statement}
 use Rattle.rooms.proofs.put_row.Tie as tie
 use Rattle.rooms.proofs.put_row.Reads as reads
 use Rattle.rooms.proofs.put_row.Lts as lts
-use Rattle.rooms.proofs.put.Reads as put-reads
+use Rattle.rooms.proofs.put_part.Reads as put-part-reads
 
 mul-i : tie.Need-mul-i
 mul-i c = search needs
 
-put-requires : tie.Need-put-requires
-put-requires c κs = search needs
+add-if1 : tie.Need-add-if1
+add-if1 c = search needs
 
-add-put : tie.Need-add-put
-add-put c = search needs
-
-put-requires-2 : tie.Need-put-requires-2
-put-requires-2 c κs = search needs
-
-add-put-2 : tie.Need-add-put-2
-add-put-2 c = search needs
-
-put-requires-3 : tie.Need-put-requires-3
-put-requires-3 c κs = search needs
-
-add-put-3 : tie.Need-add-put-3
-add-put-3 c = search needs
-
-put-requires-4 : tie.Need-put-requires-4
-put-requires-4 c κs = search needs
-
-add-put-4 : tie.Need-add-put-4
-add-put-4 c = search needs
-
-put-requires-5 : tie.Need-put-requires-5
-put-requires-5 c κs = search needs
-
-add-put-5 : tie.Need-add-put-5
-add-put-5 c = search needs
-
-put-requires-6 : tie.Need-put-requires-6
-put-requires-6 c κs = search needs
-
-add-put-6 : tie.Need-add-put-6
-add-put-6 c = search needs
-
-put-requires-7 : tie.Need-put-requires-7
-put-requires-7 c κs = search needs
+put-part-requires : tie.Need-put-part-requires
+put-part-requires c κs = search needs
 
 same-length : tie.Need-same-length
 same-length c = search needs
 
 returns : tie.Need-returns
-returns c = let s = c .before .before .before .before .before .before .before .before .before .before .before .before .before .before .before .before .before .before .before .before .before .before .before .before .before .before .before .before .before .args in seven (s .rows .now) (c .before .before .before .before .before .before .before .before .before .before .before .before .before .before .before .before .before .before .before .before .before .before .before .before .before .before .put .last .0) (c .before .before .before .before .before .before .before .before .before .before .before .before .before .before .before .before .before .before .before .before .before .before .put2 .last .0) (c .before .before .before .before .before .before .before .before .before .before .before .before .before .before .before .before .before .before .put3 .last .0) (c .before .before .before .before .before .before .before .before .before .before .before .before .before .before .put4 .last .0) (c .before .before .before .before .before .before .before .before .before .before .put5 .last .0) (c .before .before .before .before .before .before .put6 .last .0) (c .before .before .put7 .last .0) (7 * s .row) (s .w .kind) (s .w .first) (s .w .after) (s .w .from) (s .w .to) (s .w .parent) (s .w .next) (c .before .before .before .before .before .before .before .before .before .before .before .before .before .before .before .before .before .before .before .before .before .before .before .before .before .before .put .ensures) (c .before .before .before .before .before .before .before .before .before .before .before .before .before .before .before .before .before .before .before .before .before .before .put2 .ensures) (c .before .before .before .before .before .before .before .before .before .before .before .before .before .before .before .before .before .before .put3 .ensures) (c .before .before .before .before .before .before .before .before .before .before .before .before .before .before .put4 .ensures) (c .before .before .before .before .before .before .before .before .before .before .put5 .ensures) (c .before .before .before .before .before .before .put6 .ensures) (c .before .before .put7 .ensures)
+returns c = search needs
+
+mul-rows : tie.Need-mul-rows
+mul-rows c = search needs
+
+slice-write-rows : tie.Need-slice-write-rows
+slice-write-rows c = search needs
+
+add-rows : tie.Need-add-rows
+add-rows c = search needs
+
+mul-rows-2 : tie.Need-mul-rows-2
+mul-rows-2 c = search needs
+
+slice-write-rows-2 : tie.Need-slice-write-rows-2
+slice-write-rows-2 c = simp length-set (omega arith)
+
+add-rows-2 : tie.Need-add-rows-2
+add-rows-2 c = search needs
+
+mul-rows-3 : tie.Need-mul-rows-3
+mul-rows-3 c = search needs
+
+slice-write-rows-3 : tie.Need-slice-write-rows-3
+slice-write-rows-3 c = simp length-set (omega arith)
+
+add-rows-3 : tie.Need-add-rows-3
+add-rows-3 c = search needs
+
+mul-rows-4 : tie.Need-mul-rows-4
+mul-rows-4 c = search needs
+
+slice-write-rows-4 : tie.Need-slice-write-rows-4
+slice-write-rows-4 c = simp length-set (omega arith)
+
+add-rows-4 : tie.Need-add-rows-4
+add-rows-4 c = search needs
+
+mul-rows-5 : tie.Need-mul-rows-5
+mul-rows-5 c = search needs
+
+slice-write-rows-5 : tie.Need-slice-write-rows-5
+slice-write-rows-5 c = simp length-set (omega arith)
+
+add-rows-5 : tie.Need-add-rows-5
+add-rows-5 c = search needs
+
+mul-rows-6 : tie.Need-mul-rows-6
+mul-rows-6 c = search needs
+
+slice-write-rows-6 : tie.Need-slice-write-rows-6
+slice-write-rows-6 c = simp length-set (omega arith)
+
+add-rows-6 : tie.Need-add-rows-6
+add-rows-6 c = search needs
+
+mul-rows-7 : tie.Need-mul-rows-7
+mul-rows-7 c = search needs
+
+slice-write-rows-7 : tie.Need-slice-write-rows-7
+slice-write-rows-7 c = simp length-set (omega arith)
+
+same-length-2 : tie.Need-same-length-2
+same-length-2 c = search needs
+
+returns-2 : tie.Need-returns-2
+returns-2 c =
+    let s = c .before .before .args in
+    stored (s .rows .now) (7 * s .row) (s .w .kind) (s .w .first) (s .w .after) (s .w .from) (s .w .to) (s .w .parent) (s .w .next)
 
 pub put-row-spec : {M : Type 1} → statement M
 put-row-spec =
     tie.close
     (tie.spec
     mul-i
-    put-requires
-    add-put
-    put-requires-2
-    add-put-2
-    put-requires-3
-    add-put-3
-    put-requires-4
-    add-put-4
-    put-requires-5
-    add-put-5
-    put-requires-6
-    add-put-6
-    put-requires-7
+    add-if1
+    put-part-requires
     same-length
-    returns)
+    returns
+    mul-rows
+    slice-write-rows
+    add-rows
+    mul-rows-2
+    slice-write-rows-2
+    add-rows-2
+    mul-rows-3
+    slice-write-rows-3
+    add-rows-3
+    mul-rows-4
+    slice-write-rows-4
+    add-rows-4
+    mul-rows-5
+    slice-write-rows-5
+    add-rows-5
+    mul-rows-6
+    slice-write-rows-6
+    add-rows-6
+    mul-rows-7
+    slice-write-rows-7
+    same-length-2
+    returns-2)

@@ -1,0 +1,10 @@
+-- Whether an answer says that the left integer is the greater. Assumes nothing.
+use mathlib.Core.Bool.{Bool, true, false}
+use Rattle.questions.specs.declared.Compared.{Compared}
+use Rattle.questions.specs.declared.Compared.the-variants.{Less, Equal, Greater, NotInt}
+
+abbrev pub isAbove : Compared → Bool
+isAbove Less = false
+isAbove Equal = false
+isAbove Greater = true
+isAbove NotInt = false

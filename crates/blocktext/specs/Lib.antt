@@ -1,0 +1,16 @@
+pub mod Follow
+pub mod Opens
+pub mod Led
+pub mod Plus
+pub mod LineEnd
+pub mod Deeper
+pub mod Further
+pub mod Body
+pub mod TextLines
+pub mod BlockStrings
+pub mod HexLines
+pub mod BlockBytes
+pub mod Joined
+pub mod JoinedFirst
+pub mod Clean
+pub mod Vectors

@@ -1,0 +1,1 @@
+// Readers and their exactness stand in specs/.

@@ -1,0 +1,3 @@
+-- What several proofs use.
+pub mod Chars
+pub mod Lines

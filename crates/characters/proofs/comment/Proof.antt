@@ -1,0 +1,37 @@
+-- `comment` answers as `commentR` does.
+use native.Mathlib.Omega.{arith}
+use Prim.Native.Nat.{_≤_, _-_}
+use lib.ListN.{length, drop}
+use mathlib.Core.Path.{_≡_}
+use Rattle.characters.proofs.Lines.{has-in, commenting}
+use borrow.Author.Needs.{needs}
+use Rattle.characters.proofs.comment.Statement.{statement}
+use Rattle.characters.proofs.comment.Tie as tie
+use Rattle.characters.proofs.comment.Reads as reads
+use Rattle.characters.proofs.comment.Lts as lts
+use Rattle.characters.proofs.has.Reads as has-reads
+use Rattle.characters.proofs.pieces.Reads as pieces-reads
+
+has-requires : tie.Need-has-requires
+has-requires c κs = search needs
+
+add-pieces : tie.Need-add-pieces
+add-pieces c =
+    let s = c .before .before .before .args in
+    let i = has-in (s .doc .now) (s .at) (c .before .has .result) 35 (c .before .has .ensures) (omega arith) (c .if1 .taken) in
+    omega arith
+
+pieces-requires : tie.Need-pieces-requires
+pieces-requires c κs =
+    let s = c .before .before .before .args in
+    let i = has-in (s .doc .now) (s .at) (c .before .has .result) 35 (c .before .has .ensures) (omega arith) (c .if1 .taken) in
+    omega arith
+
+returns : tie.Need-returns
+returns c = search commenting
+
+returns-2 : tie.Need-returns-2
+returns-2 c = search commenting
+
+pub comment-spec : {M : Type 1} → statement M
+comment-spec = tie.close (tie.spec has-requires add-pieces pieces-requires returns returns-2)

@@ -1,0 +1,52 @@
+use native.Mathlib.Omega.{arith}
+use mathlib.Core.Path.{_≡_, refl, sym, _∙_}
+use Prim.Native.Nat.{ℕ, _<_, _≤_, _+_, _-_, _*_}
+use lib.ListN.{length, drop, getD}
+use borrow.Author.Needs.{needs}
+use Rattle.characters.specs.Scan.{rows, find, find-row, find-next, find-end, Scanned, scanned-last}
+use Rattle.characters.proofs.Chars.{chars, table-long, same-find}
+use Rattle.characters.proofs.fits.Statement.{statement}
+use Rattle.characters.proofs.fits.Tie as tie
+use Rattle.characters.proofs.fits.Reads as reads
+use Rattle.characters.proofs.fits.Lts as lts
+
+shared-slice-read-if1 : tie.Need-shared-slice-read-if1
+shared-slice-read-if1 c = search chars
+
+returns : tie.Need-returns
+returns c = search chars
+
+add-if2 : tie.Need-add-if2
+add-if2 c = search chars
+
+shared-slice-read-if2 : tie.Need-shared-slice-read-if2
+shared-slice-read-if2 c = search chars
+
+returns-2 : tie.Need-returns-2
+returns-2 c = search chars
+
+add-if3 : tie.Need-add-if3
+add-if3 c = search chars
+
+shared-slice-read-if3 : tie.Need-shared-slice-read-if3
+shared-slice-read-if3 c = search chars
+
+returns-3 : tie.Need-returns-3
+returns-3 c = search chars
+
+returns-4 : tie.Need-returns-4
+returns-4 c = search chars
+
+pub fits-spec : {M : Type 1} → statement M
+fits-spec =
+    tie.close
+    (tie.spec
+    shared-slice-read-if1
+    returns
+    add-if2
+    shared-slice-read-if2
+    returns-2
+    add-if3
+    shared-slice-read-if3
+    returns-3
+    returns-4)

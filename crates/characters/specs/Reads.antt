@@ -1,0 +1,53 @@
+-- What the readers in code promise of the readers that they run. Assumes nothing.
+use mathlib.Core.Path.{_≡_}
+use mathlib.Core.List.{List}
+use mathlib.Core.Bool.{Bool, true}
+use Prim.Native.Nat.{ℕ, _≤_, _<_}
+use lib.ListN.{length, drop}
+use lib.Seq.{slice}
+use Rattle.exact.specs.Class.{Class, pick}
+use Rattle.exact.specs.Out.{Out, ok, bad}
+use Rattle.language.specs.Characters.{character, utf8, wide}
+use Rattle.characters.specs.Utf8.{charR}
+use Rattle.characters.specs.declared.Reading.{Reading}
+use Rattle.characters.specs.declared.Read.{Read}
+use Rattle.characters.specs.declared.Read.the-variants.{Scalar, Not}
+use Rattle.characters.specs.declared.Skip.{Skip}
+use Rattle.characters.specs.declared.Skip.the-variants.{End, Bad}
+
+-- allowed, if it is 128 or more
+abbrev pub Permitted : ℕ → Type 0
+Permitted v = 127 < v → wide v ≡ true
+
+-- THE SCALAR VALUE v stands from `at` up to n: it is the character read wherever its class has it
+pub record Stands (doc : List ℕ) (at v n : ℕ) : Type 0 where
+  pub ahead : at < n
+  pub inside : n ≤ length doc
+  pub bytes : slice at n doc ≡ utf8 v
+  pub allowed : Permitted v
+  pub taken : (plain : Class) → charR plain at (drop at doc) ≡ pick (character plain v) (ok (utf8 v) n (drop n doc)) (bad at)
+
+unfoldable pub ReadAt : List ℕ → ℕ → Read → Type 0
+ReadAt doc at (Scalar v n) = Stands doc at v (n .at)
+ReadAt doc at (Not p) = (plain : Class) → charR plain at (drop at doc) ≡ bad p
+
+-- A CHARACTER of 128 or more ends at n
+pub record Wide (doc : List ℕ) (at n : ℕ) : Type 0 where
+  pub value : ℕ
+  pub high : 127 < value
+  pub stands : Stands doc at value n
+
+unfoldable pub WideAt : List ℕ → ℕ → Skip → Type 0
+WideAt doc at (End n) = Wide doc at n
+WideAt doc at (Bad p) = (plain : Class) → charR plain at (drop at doc) ≡ bad p
+
+-- A READER whose value is not asked for: where it ends, or where it is refused
+pub record Ends {X : Type 0} (doc : List ℕ) (at : ℕ) (o : Out X) (n : ℕ) : Type 0 where
+  pub value : X
+  pub is : o ≡ ok value n (drop n doc)
+  pub behind : at ≤ n
+  pub inside : n ≤ length doc
+
+unfoldable pub Skips : {X : Type 0} → List ℕ → ℕ → Out X → Skip → Type 0
+Skips doc at o (End n) = Ends doc at o n
+Skips doc at o (Bad p) = o ≡ bad p

@@ -1,0 +1,6 @@
+-- What several proofs use.
+pub mod Passing
+pub mod Members
+pub mod Listing
+pub mod Containers
+pub mod Choices

@@ -1,0 +1,129 @@
+-- The loop over the members of a container: its invariant, its start, a turn, and its ways out.
+use mathlib.Core.Path.{_≡_, refl, sym, ap, _∙_}
+use mathlib.Core.List.{List, [], _∷_, _++_, append-assoc}
+use mathlib.Core.Bool.{Bool, true, false}
+use Prim.Native.Nat.{ℕ, zero, suc, _+_, _-_, _*_, _≤_, _<_}
+use native.Mathlib.Omega.{arith}
+use lib.ListN.{length, drop}
+use lib.Seq.{sets}
+use Rattle.language.specs.Tree.{Tree, node, none, forest, count, width, rowList}
+use Rattle.exact.specs.Class.{is, only}
+use Rattle.exact.specs.Out.{Out, Reader, bind, fmap, ok, soft, bad}
+use Rattle.exact.specs.Lang.{retR, byteR}
+use Rattle.exact.specs.Comb.{seqR, altR}
+use Rattle.exact.specs.Place.{peek, peek-in, byte-is, alt-is, alt-not, listR, listN, bounded, list-more, list-last, list-comma, list-other, list-bad}
+use Rattle.rooms.specs.declared.Cursor.{Cursor}
+use Rattle.rooms.specs.declared.Ans.{Ans}
+use Rattle.rooms.specs.declared.Ans.the-variants.{Ok, No}
+use Rattle.rooms.specs.Contract.{Ready, Answers}
+use Rattle.rooms.specs.Laws
+use Rattle.inline.specs.declared.Sep.{Sep}
+use Rattle.inline.specs.declared.Sep.the-variants.{More, Last, Bad}
+use Rattle.inline.specs.Lists.{listedR}
+use Rattle.inline.specs.Brackets.{opens, closes, kindOf, Member, children, memberR, enclosed, bracketR, closes-small, closes-other, opens-small, children-none, children-append}
+use Rattle.inline.specs.Written.{Written, written-none, written-append, node-span, node-filled}
+use Rattle.inline.specs.Contract.{Enclosed, onward, Fails, no-first, no-second, Read, Goes, Ends, Stops, no-member, no-part, Turned}
+
+-- behind the bracket of a container at c, where its first child's row comes next
+abbrev pub within : Cursor → Cursor
+within c = record { at = c .at + 1; row = c .row + 1; text = c .text }
+
+-- At the loop's head: `done` has been read and written, and what is left is read from the cursor, with a bound that is enough for it.
+pub record Loop (o : Bool) (r : Reader Tree) (doc : List ℕ) (c : Cursor) (R₀ T₀ R T : List ℕ) (cur : Cursor) (cnt : ℕ) : Type 0 where
+  pub from : Ready doc c
+  pub opened : peek doc (c .at) ≡ opens o
+  pub listed : peek doc (c .at + 1) ≡ closes o → ⊥
+  pub bound : ℕ
+  pub done : List (Member o)
+  pub rest : listR (closes o) (memberR o r) (c .at + 1) (drop (c .at + 1) doc)
+      ≡ fmap (done ++_) (listN (closes o) (memberR o r) bound (cur .at) (drop (cur .at) doc))
+  pub enough : (m : Member o) (a : ℕ) → memberR o r (cur .at) (drop (cur .at) doc) ≡ ok m a (drop a doc) → cur .at ≤ a → length doc ≤ bound + a
+  pub counted : cnt ≡ count done
+  pub written : Written doc (within c) cur (c .row) (children o done) R₀ R T₀ T
+  pub ready : Ready doc cur
+  pub few : cnt ≤ cur .at
+
+fmap-nil : {X : Type 0} (o : Out (List X)) → fmap ([] ++_) o ≡ o
+fmap-nil (ok v a t) = refl
+fmap-nil (soft p v a t) = refl
+fmap-nil (bad p) = refl
+
+fmap-then : {X : Type 0} (ms : List X) (m : X) (o : Out (List X)) → fmap (ms ++_) (fmap (m ∷_) o) ≡ fmap ((ms ++ m ∷ []) ++_) o
+fmap-then ms m (ok v a s) = ap (λ l. ok l a s) (sym (append-assoc ms (m ∷ []) v))
+fmap-then ms m (soft p v a s) = ap (λ l. soft p l a s) (sym (append-assoc ms (m ∷ []) v))
+fmap-then ms m (bad p) = refl
+
+pub count-then : {X : Type 0} (ms : List X) (m : X) → count (ms ++ m ∷ []) ≡ count ms + 1
+count-then [] m = refl
+count-then (n ∷ ms) m = let h = count-then ms m in omega arith
+
+module _ (o : Bool) (r : Reader Tree) (doc : List ℕ) (c : Cursor) (R₀ T₀ : List ℕ) where
+  pub loop-start : Ready doc c → peek doc (c .at) ≡ opens o → (peek doc (c .at + 1) ≡ closes o → ⊥) → Loop o r doc c R₀ T₀ R₀ T₀ (within c) 0
+  loop-start d h z =
+      let b = bounded (closes o) (memberR o r) doc (c .at + 1) in
+      let i = peek-in doc (c .at) (opens o) (sym h) (opens-small o) in
+      record {
+        from = d;
+        opened = h;
+        listed = z;
+        bound = b .bound;
+        done = [];
+        rest = b .same ∙ sym (fmap-nil (listN (closes o) (memberR o r) (b .bound) (c .at + 1) (drop (c .at + 1) doc)));
+        enough = λ m a e l. b .enough m a e;
+        counted = refl;
+        written = rw (children-none o) (written-none doc (within c) (within c) (c .row) R₀ T₀ (omega arith) (omega arith) refl refl);
+        ready = record { small = d .small; inside = omega arith; fewRows = omega (arith, d .fewRows); fewText = omega (arith, d .fewText) };
+        few = omega arith;
+      }
+
+  enough-for : {R T : List ℕ} {cur : Cursor} {cnt : ℕ} (l : Loop o r doc c R₀ T₀ R T cur cnt) (m : Member o) (a : ℕ) → memberR o r (cur .at) (drop (cur .at) doc) ≡ ok m a (drop a doc)
+      → cur .at < a → length doc ≤ l .bound + a
+  enough-for l m a e h = l .enough m a e (omega arith)
+
+  module _ (R T R' T' : List ℕ) (cur n : Cursor) (cnt : ℕ) (l : Loop o r doc c R₀ T₀ R T cur cnt) where
+    pub written-more : (g : Read o doc cur (c .row) (memberR o r) n R R' T T') → Written doc (within c) n (c .row) (children o (l .done ++ g .member ∷ [])) R₀ R' T₀ T'
+    written-more g =
+        rw (children-append o)
+        (written-append doc (within c) cur n (c .row) (children o (l .done)) (children o (g .member ∷ [])) R₀ R R' T₀ T T' (l .written) (g .written))
+
+    pub loop-more : Goes o doc cur (c .row) (memberR o r) n R R' T T' → Loop o r doc c R₀ T₀ R' T' n (cnt + 1)
+    loop-more q =
+        let g = q .read in
+        let w = g .written in
+        let m = list-more (closes o) (closes-small o) (closes-other o) (memberR o r) doc (cur .at) (g .after) (g .member) (g .is) (l .bound) (enough-for l (g .member) (g .after) (g .is) (g .ahead)) (q .comma) (q .space) in
+        let k = count-then (l .done) (g .member) in
+        record {
+          from = l .from;
+          opened = l .opened;
+          listed = l .listed;
+          bound = m .0;
+          done = l .done ++ g .member ∷ [];
+          rest = rw (q .to) (l .rest ∙ (ap (fmap (l .done ++_)) (m .1) ∙ fmap-then (l .done) (g .member) (listN (closes o) (memberR o r) (m .0) (g .after + 2) (drop (g .after + 2) doc))));
+          enough = λ v a e h. omega (arith, m .2, q .to);
+          counted = omega (arith, l .counted);
+          written = written-more g;
+          ready =
+              record {
+                small = l .ready .small;
+                inside = w .inside;
+                fewRows = omega (arith, w .row, l .ready .fewRows, w .fewRows);
+                fewText = omega (arith, w .text, l .ready .fewText, w .fewText);
+              };
+          few = omega (arith, l .few, g .ahead, q .to);
+        }
+
+    pub loop-last : (q : Ends o (closes o) doc cur (c .row) (memberR o r) n R R' T T')
+        → listR (closes o) (memberR o r) (c .at + 1) (drop (c .at + 1) doc) ≡ ok (l .done ++ q .read .member ∷ []) (n .at) (drop (n .at) doc)
+    loop-last q =
+        let g = q .read in
+        rw (q .to)
+        (l .rest ∙ ap (fmap (l .done ++_)) (list-last (closes o) (closes-small o) (closes-other o) (memberR o r) doc (cur .at) (g .after) (g .member) (g .is) (l .bound) (q .closed)))
+
+    parts : (m : Member o) (a p : ℕ) → memberR o r (cur .at) (drop (cur .at) doc) ≡ ok m a (drop a doc) → cur .at < a → (peek doc a ≡ closes o → ⊥) → Fails doc a 44 32 p
+        → listN (closes o) (memberR o r) (l .bound) (cur .at) (drop (cur .at) doc) ≡ bad p
+    parts m a _ h u z (no-first e) = list-other (closes o) (closes-small o) (closes-other o) (memberR o r) doc (cur .at) a m h (l .bound) e z
+    parts m a _ h u z (no-second e f) = list-comma (closes o) (closes-small o) (closes-other o) (memberR o r) doc (cur .at) a m h (l .bound) (enough-for l m a h u) e f
+
+    pub loop-stops : (p : ℕ) → Stops o (closes o) doc (cur .at) (memberR o r) p → listR (closes o) (memberR o r) (c .at + 1) (drop (c .at + 1) doc) ≡ bad p
+    loop-stops p (no-member h) = l .rest ∙ ap (fmap (l .done ++_)) (list-bad (closes o) (memberR o r) (cur .at) (drop (cur .at) doc) p (l .bound) h)
+    loop-stops p (no-part m a h u z f) = l .rest ∙ ap (fmap (l .done ++_)) (parts m a p h u z f)

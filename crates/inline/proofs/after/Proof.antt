@@ -1,0 +1,41 @@
+-- `after` meets its contract: what follows a member.
+use Rattle.inline.proofs.Passing.{passing}
+use Rattle.inline.proofs.after.Statement.{statement}
+use Rattle.inline.proofs.after.Tie as tie
+
+look-requires : tie.Need-look-requires
+look-requires c κs = search passing
+
+ahead-requires : tie.Need-ahead-requires
+ahead-requires c κs = search passing
+
+returns : tie.Need-returns
+returns c = search passing
+
+pass-requires : tie.Need-pass-requires
+pass-requires c κs = search passing
+
+enum-known-m : tie.Need-enum-known-m
+enum-known-m c = search passing
+
+enum-known-p : tie.Need-enum-known-p
+enum-known-p c = search passing
+
+returns-2 : tie.Need-returns-2
+returns-2 c = search passing
+
+returns-3 : tie.Need-returns-3
+returns-3 c = search passing
+
+pub after-spec : {M : Type 1} → statement M
+after-spec =
+    tie.close
+    (tie.spec
+    look-requires
+    ahead-requires
+    returns
+    pass-requires
+    enum-known-m
+    enum-known-p
+    returns-2
+    returns-3)

@@ -1,0 +1,9 @@
+pub mod Looked
+pub mod Digits
+pub mod Same
+pub mod Common
+pub mod Plain
+pub mod Follows
+pub mod Opening
+pub mod Clean
+pub mod Vectors

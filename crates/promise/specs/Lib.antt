@@ -1,0 +1,3 @@
+pub mod Unique
+pub mod Refusals
+pub mod LargerRooms

@@ -1,0 +1,1 @@
+// What is proved about the promise stands in specs/; this crate has no code.

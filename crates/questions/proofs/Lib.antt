@@ -1,0 +1,5 @@
+pub mod RowLaws
+pub mod TextLaws
+pub mod WalkLaws
+pub mod NumeralLaws
+pub mod OrderLaws

@@ -1,0 +1,55 @@
+-- `same` tells equal texts: below `i` the two agree, and they are of one length.
+use Rattle.questions.proofs.WalkLaws.{Alike, sames}
+use Prim.Native.Nat.{_-_}
+use lib.ListN.{length}
+use Rattle.questions.proofs.finding.same.Statement.{statement}
+use Rattle.questions.proofs.finding.same.Tie as tie
+
+abbrev Inv-loop : tie.InvT-loop
+Inv-loop a b i₀ i = Alike a b i
+
+abbrev μ-loop : tie.MeasureT-loop
+μ-loop a b i₀ i = length a - i
+
+returns : tie.Need-returns Inv-loop μ-loop
+returns c = search sames
+
+loop-holds : tie.Need-loop-holds Inv-loop μ-loop
+loop-holds c = search sames
+
+shared-slice-read-if2 : tie.Need-shared-slice-read-if2 Inv-loop μ-loop
+shared-slice-read-if2 c = search sames
+
+shared-slice-read-if2-2 : tie.Need-shared-slice-read-if2-2 Inv-loop μ-loop
+shared-slice-read-if2-2 c = search sames
+
+returns-2 : tie.Need-returns-2 Inv-loop μ-loop
+returns-2 c = search sames
+
+add-i : tie.Need-add-i Inv-loop μ-loop
+add-i c = search sames
+
+loop-less : tie.Need-loop-less Inv-loop μ-loop
+loop-less c = search sames
+
+loop-again : tie.Need-loop-again Inv-loop μ-loop
+loop-again c = search sames
+
+returns-3 : tie.Need-returns-3 Inv-loop μ-loop
+returns-3 c = search sames
+
+pub same-spec : {M : Type 1} → statement M
+same-spec =
+    tie.close
+    (tie.spec
+    Inv-loop
+    μ-loop
+    returns
+    loop-holds
+    shared-slice-read-if2
+    shared-slice-read-if2-2
+    returns-2
+    add-i
+    loop-less
+    loop-again
+    returns-3)

@@ -1,0 +1,13 @@
+-- `good` tells a good row: with the row below the words divided by the width, no product can wrap.
+use Rattle.questions.proofs.RowLaws.{rows}
+use Rattle.questions.proofs.table.good.Statement.{statement}
+use Rattle.questions.proofs.table.good.Tie as tie
+
+returns : tie.Need-returns
+returns c = search rows
+
+returns-2 : tie.Need-returns-2
+returns-2 c = search rows
+
+pub good-spec : {M : Type 1} → statement M
+good-spec = tie.close (tie.spec returns returns-2)

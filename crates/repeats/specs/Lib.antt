@@ -1,0 +1,4 @@
+pub mod Flat
+pub mod Repeating
+pub mod Listed
+pub mod Keys

@@ -1,0 +1,1 @@
+// Laws of repeated keys stand in specs/.

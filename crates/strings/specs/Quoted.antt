@@ -1,0 +1,119 @@
+-- The readers of quoted strings, and that they are exact.
+use mathlib.Core.Path.{_≡_, refl}
+use mathlib.Core.List.{List, [], _∷_, _++_}
+use mathlib.Core.Bool.{true}
+use Prim.Native.Nat.{ℕ}
+use Rattle.notation.specs.Lang.{cat}
+use Rattle.language.specs.Kind.{STRING}
+use Rattle.language.specs.Tree.{Tree}
+use Rattle.language.specs.Characters.{utf8}
+use Rattle.language.specs.Strings.{hexNumber, lettered, standsFor, Escape, SingleEscape, Between, Double, Single, Quoted, String}
+use native.Mathlib.Omega.{arith}
+use Rattle.exact.specs.Class.{Class, is, only, apart, apart-nil, leb-yes, _to_}
+use Rattle.exact.specs.Out.{Reader}
+use Rattle.exact.specs.Lang.{Lang, retR, byteR}
+use Rattle.exact.specs.Comb.{seqR, altR, manyR}
+use Rattle.exact.specs.Ll.{Shape, Ll, ret-ll, byte-ll, seq-ll, alt-ll, star-ll, relax, wordR, word-ll, byte₁}
+use Rattle.characters.specs.Char.{charR, charS, char-ll}
+use Rattle.strings.specs.Code.{codeR, code-ll}
+use Rattle.strings.specs.Spans.{solid, spannedR, spanned-ll}
+
+-- ESCAPES
+unfoldable pub escapeR : Reader (List ℕ)
+escapeR =
+    seqR (byteR (is (only 92))) λ _.
+    altR
+    (is lettered)
+    (seqR (byteR (is lettered)) λ b. retR (standsFor b ∷ []))
+    (seqR (wordR (117 ∷ 123 ∷ [])) λ _. seqR codeR λ ds. seqR (byteR (is (only 125))) λ _. retR (utf8 (hexNumber 0 ds)))
+
+unfoldable pub singleEscapeR : Reader (List ℕ)
+singleEscapeR = seqR (byteR (is (only 92))) λ _. seqR (byteR (is ((39 to 39) ∷ (92 to 92) ∷ []))) λ b. retR (b ∷ [])
+
+abbrev pub escapeS : Shape
+escapeS = solid (only 92) []
+
+pub escape-ll : Ll escapeS Escape escapeR
+unfolding escapeR
+escape-ll =
+    relax
+    escapeS
+    refl
+    refl
+    refl
+    (seq-ll refl (byte₁ 92) λ _.
+    alt-ll
+    refl
+    refl
+    (seq-ll refl (byte-ll lettered 34 refl) λ b. ret-ll (standsFor b ∷ []))
+    (seq-ll refl (word-ll (117 ∷ 123 ∷ [])) λ _. seq-ll refl code-ll λ ds. seq-ll refl (byte₁ 125) λ _. ret-ll (utf8 (hexNumber 0 ds))))
+
+pub singleEscape-ll : Ll escapeS SingleEscape singleEscapeR
+unfolding singleEscapeR
+singleEscape-ll = relax escapeS refl refl refl (seq-ll refl (byte₁ 92) λ _. seq-ll refl (byte-ll ((39 to 39) ∷ (92 to 92) ∷ []) 39 refl) λ b. ret-ll (b ∷ []))
+
+-- BETWEEN QUOTES
+abbrev pub pieceR : Reader (List ℕ) → Class → Reader (List ℕ)
+pieceR r others = altR (is (only 92)) r (charR others)
+
+abbrev pub pieceS : Class → Shape
+pieceS others = solid (only 92 ++ charS others .first) []
+
+unfoldable pub betweenR : ℕ → Reader (List ℕ) → Class → Reader (List ℕ)
+betweenR quote r others =
+    seqR (byteR (is (only quote))) λ _. seqR (manyR (is (pieceS others .first)) (pieceR r others)) λ ps. seqR (byteR (is (only quote))) λ _. retR (cat ps)
+
+abbrev pub betweenS : ℕ → Shape
+betweenS quote = solid (only quote) []
+
+-- the quote is none of the characters, and neither is the backslash
+pub between-ll : (quote : ℕ) (others : Class) {E : Lang (List ℕ)} {r : Reader (List ℕ)} → apart (charS others .first) (only 92) ≡ true
+    → apart (only quote) (pieceS others .first) ≡ true → Ll escapeS E r → Ll (betweenS quote) (Between quote E others) (betweenR quote r others)
+unfolding betweenR
+between-ll quote others e f l =
+    relax
+    (betweenS quote)
+    refl
+    (rw (leb-yes quote quote (omega arith)) refl)
+    refl
+    (seq-ll (apart-nil (pieceS others .first ++ only quote)) (byte₁ quote) λ _. seq-ll f (star-ll refl (apart-nil (pieceS others .first)) (alt-ll refl e l (char-ll others))) λ ps. seq-ll refl (byte₁ quote) λ _. ret-ll (cat ps))
+
+abbrev pub unquoted : Class
+unquoted = (32 to 33) ∷ (35 to 91) ∷ (93 to 126) ∷ []
+
+abbrev pub unsingle : Class
+unsingle = (32 to 38) ∷ (40 to 91) ∷ (93 to 126) ∷ []
+
+abbrev pub doubleR : Reader (List ℕ)
+doubleR = betweenR 34 escapeR unquoted
+
+abbrev pub singleR : Reader (List ℕ)
+singleR = betweenR 39 singleEscapeR unsingle
+
+pub double-ll : Ll (betweenS 34) Double doubleR
+double-ll = between-ll 34 unquoted refl refl escape-ll
+
+pub single-ll : Ll (betweenS 39) Single singleR
+single-ll = between-ll 39 unsingle refl refl singleEscape-ll
+
+-- EITHER QUOTE
+unfoldable pub quotedR : Reader (List ℕ)
+quotedR = altR (is (only 34)) doubleR singleR
+
+abbrev pub quotedS : Shape
+quotedS = solid ((34 to 34) ∷ (39 to 39) ∷ []) []
+
+pub quoted-ll : Ll quotedS Quoted quotedR
+unfolding quotedR
+quoted-ll = relax quotedS refl refl refl (alt-ll refl refl double-ll single-ll)
+
+-- A STRING
+unfoldable pub stringR : Reader Tree
+stringR = spannedR STRING quotedR
+
+abbrev pub stringS : Shape
+stringS = quotedS
+
+pub string-ll : Ll stringS String stringR
+unfolding stringR
+string-ll = spanned-ll STRING (quotedS .first) [] quoted-ll

@@ -1,0 +1,13 @@
+//! Documents to try: grown from the grammar, changed, small, deep, long and bordering.
+
+pub mod deep;
+pub mod grow;
+pub mod mutate;
+pub mod pieces;
+pub mod rng;
+pub mod shapes;
+pub mod shrink;
+pub mod small;
+
+pub use grow::{grow, Grown};
+pub use rng::Rng;

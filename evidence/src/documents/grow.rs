@@ -1,0 +1,153 @@
+//! Random documents from the grammar with every construct, each with the rows
+//! and text that it was grown to mean: a third source beside the two readers.
+
+mod blocks;
+mod values;
+
+use super::{pieces, Rng};
+use crate::second::{Refusal, REPEAT};
+
+/// Numbers 1 to 6, or the words of all rows and the text.
+pub type Meant = Result<(Vec<u32>, Vec<u8>), Refusal>;
+
+/// A document and what it was grown to mean.
+pub struct Grown {
+    pub doc: Vec<u8>,
+    pub meant: Meant,
+}
+
+/// A document of about `size` bytes with at most `nesting` containers one inside another.
+pub fn grow(rng: &mut Rng, size: usize, nesting: usize) -> Grown {
+    let (repeats, wide) = (rng.once_in(8), rng.once_in(10));
+    let mut grower =
+        Grower { repeats, wide, rng, size, doc: Vec::new(), rows: Vec::new(), text: Vec::new(), repeat: None };
+    grower.document(nesting);
+    let meant = match grower.repeat {
+        Some(place) => Err(Refusal { number: REPEAT, place }),
+        None => Ok((grower.rows.concat(), grower.text)),
+    };
+    Grown { doc: grower.doc, meant }
+}
+
+struct Grower<'r> {
+    rng: &'r mut Rng,
+    size: usize,
+    doc: Vec<u8>,
+    rows: Vec<[u32; 7]>,
+    text: Vec<u8>,
+    repeat: Option<usize>,
+    /// Whether keys may repeat.
+    repeats: bool,
+    /// Whether arrays and objects go on until the size is reached.
+    wide: bool,
+}
+
+/// The keys an object has so far.
+type Keys = Vec<Vec<u8>>;
+
+impl Grower<'_> {
+    fn write(&mut self, text: &str) {
+        self.doc.extend_from_slice(text.as_bytes());
+    }
+
+    fn indent(&mut self, column: usize) {
+        self.doc.resize(self.doc.len() + column, b' ');
+    }
+
+    fn at(&self) -> usize {
+        self.doc.len()
+    }
+
+    /// Whether the document is to go on growing.
+    fn more(&mut self) -> bool {
+        self.doc.len() < self.size && (self.wide || !self.rng.once_in(8))
+    }
+
+    fn leaf(&mut self, kind: u32, parent: usize, span: (usize, usize), text: &[u8]) {
+        let from = self.text.len() as u32;
+        self.text.extend_from_slice(text);
+        let words = if kind <= 3 { (0, 0) } else { (from, self.text.len() as u32) };
+        let next = self.rows.len() as u32 + 1;
+        self.rows.push([kind, span.0 as u32, span.1 as u32, words.0, words.1, parent as u32, next]);
+    }
+
+    fn open(&mut self, kind: u32, parent: usize) -> usize {
+        let from = self.at() as u32;
+        self.rows.push([kind, from, 0, 0, 0, parent as u32, 0]);
+        self.rows.len() - 1
+    }
+
+    fn close(&mut self, row: usize, to: usize, count: usize) {
+        let next = self.rows.len() as u32;
+        let words = &mut self.rows[row];
+        (words[2], words[4], words[6]) = (to as u32, count as u32, next);
+    }
+
+    /// Writes a key and its row, and notes whether the object has it already.
+    fn key(&mut self, object: usize, keys: &mut Keys) {
+        let from = self.at();
+        let (written, meant) = self.new_key(keys);
+        self.write(&written);
+        let to = self.at();
+        self.leaf(10, object, (from, to), &meant);
+        if keys.contains(&meant) && self.repeat.is_none() {
+            self.repeat = Some(from);
+        }
+        keys.push(meant);
+    }
+
+    /// A key as written and as meant; one that the object has only in a document with repeats.
+    fn new_key(&mut self, keys: &Keys) -> (String, Vec<u8>) {
+        if self.repeats && !keys.is_empty() && self.rng.once_in(5 + keys.len()) {
+            let key = keys[self.rng.below(keys.len())].clone();
+            return (pieces::written_anew(self.rng, &key), key);
+        }
+        loop {
+            let (written, meant) = if self.rng.once_in(4) {
+                pieces::quoted(self.rng)
+            } else {
+                let key = pieces::bare_key(self.rng);
+                (key.clone(), key.into_bytes())
+            };
+            if !keys.contains(&meant) {
+                return (written, meant);
+            }
+        }
+    }
+
+    fn comment(&mut self) {
+        let text = pieces::text(self.rng, 0);
+        self.write("#");
+        self.write(&text);
+    }
+
+    /// Sometimes a line comment, then the line's end.
+    fn line_end(&mut self) {
+        if self.rng.once_in(5) {
+            self.write("  ");
+            self.comment();
+        }
+        self.write("\n");
+    }
+
+    fn document(&mut self, nesting: usize) {
+        while self.rng.once_in(4) {
+            self.comment();
+            self.write("\n");
+        }
+        match self.rng.below(8) {
+            0 => self.open_string(0, 0),
+            1 => self.open_bytes(0, 0),
+            2 => {
+                let to = self.value(0, true, nesting);
+                self.write("\n");
+                to
+            }
+            3..=5 => self.object(0, 0, nesting),
+            _ => self.array(0, 0, nesting),
+        };
+        while self.rng.once_in(4) {
+            self.write("\n");
+        }
+    }
+}

@@ -1,0 +1,11 @@
+//! Evidence at scale: a second reader of YAY documents, a slow checker of its
+//! refusal places, documents to try, and the comparison with a reader under test.
+
+pub mod compare;
+pub mod documents;
+pub mod hex;
+#[cfg(feature = "proved")]
+pub mod proved;
+pub mod second;
+pub mod slow;
+pub mod vectors;
