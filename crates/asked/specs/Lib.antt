@@ -1,1 +1,2 @@
+-- What the program expects of `compare`.
 pub mod Above

@@ -1,8 +1,8 @@
 -- The test for CHAR: laws as `search` takes them. Assumes nothing.
-use mathlib.Core.Path.{_≡_, refl, sym, ap, _∙_}
-use mathlib.Core.List.{List, [], _∷_, _++_}
+use mathlib.Core.Path.{_≡_, sym, ap, _∙_}
+use mathlib.Core.List.{List}
 use mathlib.Core.Bool.{Bool, true, false}
-use Prim.Native.Nat.{ℕ, zero, suc, _+_, _-_, _*_, _≤_, _<_}
+use Prim.Native.Nat.{ℕ, _+_, _-_, _*_, _≤_, _<_}
 use native.Mathlib.Omega.{arith}
 use lib.ListN.{length, drop, getD, drop-of-length-le}
 use lib.Dec.{eqb}
@@ -15,7 +15,7 @@ use Rattle.characters.specs.Reads.{Stands, ReadAt, Wide, WideAt}
 use Rattle.characters.specs.Going.{low-stands, Going, going-first, going-over, going-none, going-more, going-done, wide-refused}
 use Rattle.characters.specs.Value.{Between, Tail, Added, wide-digits, stands-as}
 use Rattle.characters.specs.Allowed.{bad-char}
-use Rattle.characters.specs.Scan.{rows, find, fits, fits-at, fits-other, fits-low, fits-high, fits-yes, find-row, find-next, find-end, caught-by, caught-other, caught-low, caught-high, caught-tail, Scanned, scanned-first, scanned-more, scanned-last}
+use Rattle.characters.specs.Scan.{rows, find, fits-at, fits-other, fits-low, fits-high, fits-yes, find-row, find-next, find-end, caught-by, caught-other, caught-low, caught-high, caught-tail, Scanned, scanned-first, scanned-more, scanned-last}
 
 module _ (t : List ℕ) (i s b : ℕ) where
   pub row-other : (getD t i 0 ≡ s → ⊥) → false ≡ fits-at t i s b

@@ -1,15 +1,15 @@
 -- Pieces, comments and line comments: laws as `search` takes them. Assumes nothing.
 use mathlib.Core.Path.{_≡_, refl, sym, ap, _∙_}
-use mathlib.Core.List.{List, [], _∷_, _++_}
+use mathlib.Core.List.{List}
 use mathlib.Core.Bool.{Bool, true, false}
-use Prim.Native.Nat.{ℕ, zero, suc, _+_, _-_, _*_, _≤_, _<_}
+use Prim.Native.Nat.{ℕ, _+_, _-_, _≤_, _<_}
 use native.Mathlib.Omega.{arith}
-use lib.ListN.{length, drop, getD, drop-of-length-le, List·getD-eq-default}
+use lib.ListN.{length, drop, getD, List·getD-eq-default}
 use lib.Dec.{eqb}
 use borrow.Author.Needs.{needs}
 use borrow.Author.Tests.{ne-eqb, eqb-true, eqb-false}
 use Rattle.exact.specs.Class.{only, only-no, only-yes}
-use Rattle.exact.specs.Out.{Out, bad}
+use Rattle.exact.specs.Out.{bad}
 use Rattle.exact.specs.Place.{peek, peek-in, runEnd, run-over, run-none, run-more, getD-any}
 use Rattle.language.specs.Characters.{dark, character}
 use Rattle.characters.specs.declared.Read.{Read}
@@ -18,7 +18,7 @@ use Rattle.characters.specs.declared.Reading.{Reading}
 use Rattle.characters.specs.declared.Skip.{Skip}
 use Rattle.characters.specs.declared.Skip.the-variants.{End, Bad}
 use Rattle.characters.specs.Comments.{pieceR, piecesR, commentR, lineCommentR, optionalCommentR}
-use Rattle.characters.specs.Reads.{Permitted, Stands, ReadAt, Ends, Skips}
+use Rattle.characters.specs.Reads.{ReadAt, Skips, ends-of, bad-of, read-stands, read-permits, read-refused}
 use Rattle.characters.specs.Pieces.{dark-below, dark-among, dark-delete, dark-above, piece-bad, piece-light, piece-ends, piece-ahead, Along, along-first, pieces-over, pieces-end, pieces-bad, pieces-on, comment-none, comment-ends, comment-bad, line-none, line-half, line-ends, line-bad, option-none, option-ends, option-bad}
 
 -- ---- a byte, and spaces
@@ -52,48 +52,22 @@ pub ruleset lining = (has-byte, has-none, spaces-over, spaces-none, same-end, en
 
 pub ruleset darkly = (dark-below, dark-among, dark-delete, dark-above, needs)
 
--- ---- what is passed over, made and taken apart
-
-module _ {X : Type 0} (doc : List ℕ) (at : ℕ) (o : Out X) where
-  pub skips-end : (n : ℕ) → Ends doc at o n → Skips doc at o (End n)
-  unfolding Skips
-  skips-end n h = h
-
-  pub skips-bad : (p : ℕ) → o ≡ bad p → Skips doc at o (Bad p)
-  unfolding Skips
-  skips-bad p h = h
-
-  pub ends-of : (r : Skip) (n : ℕ) → r ≡ End n → Skips doc at o r → Ends doc at o n
-  unfolding Skips
-  ends-of r n e h = rw e at h
-
-  pub bad-of : (r : Skip) (p : ℕ) → r ≡ Bad p → Skips doc at o r → o ≡ bad p
-  unfolding Skips
-  bad-of r p e h = rw e at h
-
 -- ---- a piece
 
 module _ (doc : List ℕ) (at j : ℕ) (r : Read) (h : ReadAt doc j r) where
-  pub read-stands : (v : ℕ) (n : Reading) → r ≡ Scalar v n → Stands doc j v (n .at)
-  unfolding ReadAt
-  read-stands v n e = rw e at h
-
-  pub read-permits : (v : ℕ) (n : Reading) → r ≡ Scalar v n → Permitted v
-  read-permits v n e = read-stands v n e .allowed
-
   module _ (e : j ≡ runEnd (only 32) doc at) where
     pub piece-refused : (p : ℕ) → r ≡ Not p → Skips doc at (pieceR at (drop at doc)) (Bad p)
-    unfolding Skips ReadAt
-    piece-refused p k = piece-bad doc at j e p ((rw k at h) dark)
+    unfolding Skips
+    piece-refused p k = piece-bad doc at j e p (read-refused doc j r h p k dark)
 
     module _ (v : ℕ) (n : Reading) (k : r ≡ Scalar v n) where
       pub piece-dark : (x : Bool) → x ≡ character dark v → x ≡ true → Skips doc at (pieceR at (drop at doc)) (End (n .at))
       unfolding Skips
-      piece-dark x c t = piece-ends doc at j e v (n .at) (read-stands v n k) (sym t ∙ c)
+      piece-dark x c t = piece-ends doc at j e v (n .at) (read-stands doc j r h v n k) (sym t ∙ c)
 
       pub piece-not : (x : Bool) → x ≡ character dark v → x ≡ false → Skips doc at (pieceR at (drop at doc)) (Bad j)
       unfolding Skips
-      piece-not x c t = piece-light doc at j e v (n .at) (read-stands v n k) (sym t ∙ c)
+      piece-not x c t = piece-light doc at j e v (n .at) (read-stands doc j r h v n k) (sym t ∙ c)
 
 pub ruleset piecing = (read-permits, piece-refused, piece-dark, piece-not, needs)
 

@@ -2,12 +2,11 @@
 -- characters. Assumes nothing.
 use mathlib.Core.Path.{_≡_, refl, sym, ap, subst, _∙_}
 use mathlib.Core.List.{List, [], _∷_, _++_}
-use mathlib.Core.Logic.{_⊎_, inl, inr}
 use mathlib.Core.Bool.{Bool, true, false}
-use Prim.Native.Nat.{ℕ, zero, suc, _+_, _-_, _≤_, _<_}
+use Prim.Native.Nat.{ℕ, suc, _-_, _≤_, _<_}
 use native.Mathlib.Omega.{arith}
 use native.Mathlib.Decide.{decLe}
-use lib.ListN.{length, take, drop, getD, take-append-drop, length-take, length-drop}
+use lib.ListN.{length, take, drop, getD, take-append-drop, length-drop}
 use lib.Seq.{take-suc, length-take-le}
 use Rattle.exact.specs.Verdict.{Begins}
 use Rattle.exact.specs.Class.{pick, clash, and, is}
@@ -128,4 +127,3 @@ t₂ = refl
 
 t₃ : bad-char 4 (240 ∷ 159 ∷ 152 ∷ 128 ∷ 128 ∷ []) ≡ true
 t₃ = refl
-

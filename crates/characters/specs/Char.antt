@@ -1,10 +1,10 @@
 -- The machine's words are the characters of 01, given by their scalar values and `utf8`: the reader is exact for `Char`. Assumes nothing.
-use mathlib.Core.Path.{_≡_, refl, sym, ap, subst, _∙_}
+use mathlib.Core.Path.{_≡_, refl, ap, subst, _∙_}
 use mathlib.Core.List.{List, [], _∷_, _++_}
 use Prim.Native.Nat.{ℕ, suc, _+_}
 use native.Mathlib.Omega.{arith}
 use lib.ListN.{length}
-use Rattle.exact.specs.Class.{Class, _to_}
+use Rattle.exact.specs.Class.{Class}
 use Rattle.exact.specs.Comb.{exact-iff}
 use Rattle.exact.specs.Ll.{Ll}
 use Rattle.exact.specs.Run.{Run, past, run-of, run-full, stay, ahead}

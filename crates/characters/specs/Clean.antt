@@ -1,13 +1,13 @@
 -- Languages of whole allowed characters, and that the combinators make such of such. Assumes nothing.
-use mathlib.Core.Path.{_≡_, refl, sym, ap, subst, _∙_}
+use mathlib.Core.Path.{_≡_, refl}
 use mathlib.Core.List.{List, [], _∷_, _++_}
 use mathlib.Core.Logic.{_⊎_, inl, inr}
 use mathlib.Core.Bool.{Bool, true, false}
-use Prim.Native.Nat.{ℕ, zero, suc, _+_, _≤_, _<_}
+use Prim.Native.Nat.{ℕ, zero, suc}
 use lib.Dec.{leb}
 use Rattle.notation.specs.Lang.{Here, here, Word, Plus, Map, Such, Indented}
 use Rattle.exact.specs.Verdict.{Tail, Begins}
-use Rattle.exact.specs.Class.{pick, clash, Class, and, or, is, apart, and-of, or-of, none, is-right, sub, inside, only, _to_}
+use Rattle.exact.specs.Class.{pick, clash, Class, and, or, is, apart, and-of, or-of, none, is-right, sub, inside, only}
 use Rattle.exact.specs.Lang.{Lang, Then, Ret, Byte, End, ret, byte, end}
 use Rattle.exact.specs.Comb.{Seq, Alt, Star, one, two, nil, cons}
 use Rattle.exact.specs.Run.{Run, Laws, lives, stay, ahead}

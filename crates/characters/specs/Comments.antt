@@ -1,9 +1,9 @@
 -- Readers of pieces of a line, comments and line comments, and of a thing that may be absent, each exact for the language of 01. Assumes nothing.
 use mathlib.Core.Path.{_≡_, refl}
 use mathlib.Core.List.{List, [], _∷_, _++_}
-use mathlib.Core.Bool.{Bool, true, false}
+use mathlib.Core.Bool.{true, false}
 use Prim.Native.Nat.{ℕ}
-use Rattle.exact.specs.Class.{Class, is, only, _to_, apart}
+use Rattle.exact.specs.Class.{Class, is, only}
 use Rattle.exact.specs.Out.{Reader}
 use Rattle.exact.specs.Lang.{Lang, retR, byteR}
 use Rattle.exact.specs.Comb.{seqR, mapR, altR, manyR, cat}

@@ -4,23 +4,23 @@ use mathlib.Core.Path.{_≡_, refl, sym, ap, subst, _∙_}
 use mathlib.Core.List.{List, [], _∷_, _++_, append-assoc, append-nil}
 use mathlib.Core.Logic.{_⊎_, inl, inr}
 use mathlib.Core.Bool.{Bool, true, false}
-use Prim.Native.Nat.{ℕ, zero, suc, _+_, _-_, _≤_, _<_}
+use Prim.Native.Nat.{ℕ, suc, _+_, _≤_, _<_}
 use native.Mathlib.Numerals.{add-one}
 use native.Mathlib.Omega.{arith}
 use native.Mathlib.Decide.{decLe}
 use lib.ListN.{length, take, drop, getD, drop-of-length-le}
 use lib.Seq.{drop-cons, drop-append-le, take-suc, length-take-le, slice, slice-empty, slice-cons}
-use lib.Dec.{leb, eqb}
+use lib.Dec.{leb}
 use borrow.Author.Tests.{leb-true, le-leb, lt-leb, eq-eqb, ne-eqb}
-use Rattle.exact.specs.Class.{Class, pick, clash, is, or-of, _to_}
+use Rattle.exact.specs.Class.{Class, pick, clash, is, or-of}
 use Rattle.exact.specs.Out.{Out, fmap, ok, soft, bad}
 use Rattle.exact.specs.Run.{steps, runL}
 use Rattle.language.specs.Characters.{ascii, character, utf8, wide}
-use Rattle.characters.specs.Utf8.{At, Arrow, leads, follow, kind, lively, finished, live, full, next, start, done, dead, one-more, two-more, after-c2, after-e0, after-ed, after-ef, after-ef-b7, after-f0, after-f1, after-f4, plane-end, last, char-inside, charR}
-use Rattle.characters.specs.Tails.{left-of, begun, left-live, followed, full-done, tail-step}
+use Rattle.characters.specs.Utf8.{At, leads, follow, kind, lively, finished, live, full, next, start, done, dead, one-more, two-more, after-c2, after-e0, after-ed, after-ef, after-ef-b7, after-f0, after-f1, after-f4, plane-end, last, char-inside, charR}
+use Rattle.characters.specs.Tails.{left-of, begun, followed, full-done, tail-step}
 use Rattle.characters.specs.States.{low-byte, lead-byte}
 use Rattle.characters.specs.Spelling.{Spelling, spell, utf8-one}
-use Rattle.characters.specs.Whole.{step, restart, whole, whole-of, inside-step, outside-step}
+use Rattle.characters.specs.Whole.{step, restart, whole-of, inside-step, outside-step}
 use Rattle.characters.specs.Scan.{rows, find, code, step-code, whole-code, live-code}
 use Rattle.characters.specs.Reads.{Stands, Wide}
 
@@ -130,9 +130,6 @@ code-dead τ h = by (live τ) (live-code τ ∙ eq-eqb (code τ) 0 h)
 code-full : (σ : At) (b : ℕ) → kind σ ≡ char-inside → code (step σ b) ≡ 1 → full (step σ b) ≡ true
 code-full σ b k e = by (decLe 1 (left-of σ))
   where
-    τ : At
-    τ = step σ b
-
     w : (live (step σ b) ≡ true) × (left-of (step σ b) ≡ 0)
     w = whole-of (step σ b) (whole-code (step σ b) ∙ eq-eqb (code (step σ b)) 1 e)
 
@@ -177,9 +174,6 @@ module _ (doc : List ℕ) (at i s : ℕ) (g : Going doc at i s) where
   going-over h = stopped (bad i) (rw (drop-of-length-le doc h, not-full) refl)
 
   module _ (l : i < length doc) (r : ℕ) (e : r ≡ find rows s (getD doc i 0)) where
-    b : ℕ
-    b = getD doc i 0
-
     to-code : code (next ascii (g .state) (getD doc i 0)) ≡ r
     to-code =
         ap (λ k. code (next ascii (restart k (g .state)) (getD doc i 0))) (sym (g .inside))

@@ -15,3 +15,4 @@ pub mod Going
 pub mod Value
 pub mod Pieces
 pub mod Comments
+mod Vectors

@@ -1,15 +1,15 @@
 -- A table over bytes, read as a table over the numbers that the bytes make: the state after a number's bytes is found in it, and what it says of all numbers
 -- from one to another is found by computing. Assumes nothing.
-use mathlib.Core.Path.{_≡_, refl, sym, ap, subst, _∙_}
-use mathlib.Core.List.{List, [], _∷_, _++_}
+use mathlib.Core.Path.{_≡_, refl, sym, ap, _∙_}
+use mathlib.Core.List.{List, [], _∷_}
 use mathlib.Core.Logic.{_⊎_, inl, inr}
 use mathlib.Core.Bool.{Bool, true, false}
-use Prim.Native.Nat.{ℕ, zero, suc, pred, _+_, _-_, _*_, _≤_, _<_, max, min}
+use Prim.Native.Nat.{ℕ, suc, pred, _+_, _-_, _*_, _≤_, _<_, max, min}
 use native.Mathlib.Omega.{arith}
 use native.Mathlib.Decide.{decLe}
 use lib.Dec.{leb, ltb, eqb}
-use borrow.Author.Tests.{leb-true, leb-false, ltb-true, ltb-false, eqb-true}
-use Rattle.exact.specs.Class.{Class, Range, _to_, pick, and, or, clash, within, is, apart, none, and-of, or-of, and-true, leb-yes, range-of}
+use borrow.Author.Tests.{leb-true, ltb-true, eqb-true}
+use Rattle.exact.specs.Class.{Class, _to_, pick, and, or, clash, within, is, apart, none, and-of, or-of, and-true, leb-yes, range-of}
 use Rattle.characters.specs.Utf8.{At, Arrow, _to-be_, table, follow, full, next, dead}
 
 pub iff : {a b : Bool} → (a ≡ true → b ≡ true) → (b ≡ true → a ≡ true) → a ≡ b
@@ -161,10 +161,10 @@ unfoldable pub through : Bool → Class → (ℕ → ℕ → Bool) → ℕ → �
 through t [] k l h = k l h
 through t ((l′ to h′) ∷ c) k l h =
     elim (ltb h l) [
-      true ↦ true
-    | false ↦ elim (or (ltb h l′) (ltb h′ l)) [
-        true ↦ through t c k l h
-      | false ↦ and t (and (through t c k l (pred l′)) (through t c k (suc h′) h))
+      | true ↦ true
+      | false ↦ elim (or (ltb h l′) (ltb h′ l)) [
+        | true ↦ through t c k l h
+        | false ↦ and t (and (through t c k l (pred l′)) (through t c k (suc h′) h))
       ]
     ]
 

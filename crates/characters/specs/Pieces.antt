@@ -1,23 +1,20 @@
 -- What code learns of the pieces of a line, of comments and line comments at a place of a document. Assumes nothing.
 use mathlib.Core.Path.{_≡_, refl, sym, ap, subst, _∙_}
 use mathlib.Core.List.{List, [], _∷_, _++_}
-use mathlib.Core.Logic.{_⊎_, inl, inr}
 use mathlib.Core.Bool.{Bool, true, false}
-use Prim.Native.Nat.{ℕ, zero, suc, _+_, _-_, _≤_, _<_}
-use native.Mathlib.Numerals.{add-one}
+use Prim.Native.Nat.{ℕ, zero, suc, _+_, _≤_, _<_}
 use native.Mathlib.Omega.{arith}
 use lib.ListN.{length, take, drop, getD, drop-of-length-le, length-drop}
 use lib.Seq.{drop-cons, slice}
-use lib.Dec.{leb, ltb}
-use borrow.Author.Tests.{le-leb, lt-leb, lt-ltb, le-ltb}
-use Rattle.exact.specs.Class.{Class, _to_, pick, and, clash, is, only, only-no, only-yes, left, right, is-right, is-neither, and-of}
-use Rattle.exact.specs.Out.{Out, Reader, ok, soft, bad, bind, fmap, reach, reach-from, Tamed, tamed-bind, tamed-fmap, forward, t-ok, t-soft, t-bad}
-use Rattle.exact.specs.Lang.{retR, ret-exact, byteR}
-use Rattle.exact.specs.Comb.{seqR, seq-tame, mapR, altR, manyR, starR, cat}
+use borrow.Author.Tests.{le-leb, lt-leb}
+use Rattle.exact.specs.Class.{Class, pick, clash, is, only, left, right, is-right, and-of}
+use Rattle.exact.specs.Out.{Out, ok, soft, bad, bind, fmap, reach, reach-from, Tamed, tamed-bind, tamed-fmap, forward, t-ok, t-soft, t-bad}
+use Rattle.exact.specs.Lang.{retR, ret-exact}
+use Rattle.exact.specs.Comb.{seqR, seq-tame, manyR, starR, cat}
 use Rattle.exact.specs.Run.{runL, run-exact}
 use Rattle.exact.specs.Place.{peek, run, runEnd, run-end, many-run, byte-is, byte-not, alt-is, alt-not}
 use Rattle.language.specs.Characters.{dark, character, utf8, wide}
-use Rattle.characters.specs.Utf8.{At, Arrow, _to-be_, table, follow, live, full, Classes, found, next, laws, start, charR}
+use Rattle.characters.specs.Utf8.{Arrow, _to-be_, table, follow, live, full, Classes, found, next, laws, start, charR}
 use Rattle.characters.specs.Char.{char-ll}
 use Rattle.characters.specs.Tails.{every}
 use Rattle.characters.specs.Reads.{Stands, Ends}

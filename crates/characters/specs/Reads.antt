@@ -1,7 +1,7 @@
--- What the readers in code promise of the readers that they run. Assumes nothing.
+-- What the readers in code promise of the readers that they run, and how a caller takes it apart. Assumes nothing.
 use mathlib.Core.Path.{_≡_}
 use mathlib.Core.List.{List}
-use mathlib.Core.Bool.{Bool, true}
+use mathlib.Core.Bool.{true}
 use Prim.Native.Nat.{ℕ, _≤_, _<_}
 use lib.ListN.{length, drop}
 use lib.Seq.{slice}
@@ -51,3 +51,34 @@ pub record Ends {X : Type 0} (doc : List ℕ) (at : ℕ) (o : Out X) (n : ℕ) :
 unfoldable pub Skips : {X : Type 0} → List ℕ → ℕ → Out X → Skip → Type 0
 Skips doc at o (End n) = Ends doc at o n
 Skips doc at o (Bad p) = o ≡ bad p
+
+-- ---- contracts, made and taken apart
+
+module _ {X : Type 0} (doc : List ℕ) (at : ℕ) (o : Out X) where
+  pub skips-end : (n : ℕ) → Ends doc at o n → Skips doc at o (End n)
+  unfolding Skips
+  skips-end n h = h
+
+  pub skips-bad : (p : ℕ) → o ≡ bad p → Skips doc at o (Bad p)
+  unfolding Skips
+  skips-bad p h = h
+
+  pub ends-of : (r : Skip) (n : ℕ) → r ≡ End n → Skips doc at o r → Ends doc at o n
+  unfolding Skips
+  ends-of r n e h = rw e at h
+
+  pub bad-of : (r : Skip) (p : ℕ) → r ≡ Bad p → Skips doc at o r → o ≡ bad p
+  unfolding Skips
+  bad-of r p e h = rw e at h
+
+module _ (doc : List ℕ) (at : ℕ) (r : Read) (h : ReadAt doc at r) where
+  pub read-stands : (v : ℕ) (n : Reading) → r ≡ Scalar v n → Stands doc at v (n .at)
+  unfolding ReadAt
+  read-stands v n e = rw e at h
+
+  pub read-permits : (v : ℕ) (n : Reading) → r ≡ Scalar v n → Permitted v
+  read-permits v n e = read-stands v n e .allowed
+
+  pub read-refused : (p : ℕ) → r ≡ Not p → (plain : Class) → charR plain at (drop at doc) ≡ bad p
+  unfolding ReadAt
+  read-refused p e plain = (rw e at h) plain

@@ -1,7 +1,7 @@
 -- The test for CHAR as code runs it: the states of a character as numbers, and the table of Utf8 as bytes, four for each range: the state, the least and the
 -- greatest byte, the state after it. Assumes nothing.
-use mathlib.Core.Path.{_≡_, refl, sym, ap, subst, _∙_}
-use mathlib.Core.List.{List, [], _∷_, _++_}
+use mathlib.Core.Path.{_≡_, refl, sym, ap, _∙_}
+use mathlib.Core.List.{List, [], _∷_}
 use mathlib.Core.Bool.{Bool, true, false}
 use Prim.Native.Nat.{ℕ, zero, suc, _+_, _-_, _*_, _≤_, _<_}
 use native.Mathlib.Numerals.{add-one}
@@ -9,8 +9,8 @@ use native.Mathlib.Omega.{arith}
 use lib.ListN.{length, take, drop, getD, drop-of-length-le}
 use lib.Seq.{drop-cons, length-take-le}
 use lib.Dec.{leb, eqb}
-use borrow.Author.Tests.{eqb-true, eqb-false, eq-eqb, ne-eqb, le-leb, lt-leb}
-use Rattle.exact.specs.Class.{Range, _to_, Class, pick, and, or, is}
+use borrow.Author.Tests.{eq-eqb, ne-eqb, le-leb, lt-leb}
+use Rattle.exact.specs.Class.{_to_, Class, pick, and, or, is}
 use Rattle.characters.specs.Utf8.{At, Arrow, _to-be_, table, follow, live, start, done, dead, one-more, two-more, after-c2, after-e0, after-ed, after-ef, after-ef-b7, after-f0, after-f1, after-f4, plane-end, last}
 use Rattle.characters.specs.Allowed.{ascii, step, whole, tail-byte, catch, caught, three-before, bad-char}
 

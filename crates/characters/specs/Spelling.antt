@@ -1,9 +1,9 @@
 -- The words that end the machine are the bytes `utf8 v` of the allowed characters v, and no others: an overlong form is none. Assumes nothing.
 use mathlib.Core.Path.{_≡_, refl, sym, ap, subst, _∙_}
-use mathlib.Core.List.{List, [], _∷_, _++_}
+use mathlib.Core.List.{List, [], _∷_}
 use mathlib.Core.Logic.{_⊎_, inl, inr}
 use mathlib.Core.Bool.{Bool, true, false}
-use Prim.Native.Nat.{ℕ, zero, suc, _+_, _-_, _*_, _/_, _%_, _≤_, _<_}
+use Prim.Native.Nat.{ℕ, suc, _+_, _-_, _*_, _/_, _%_, _≤_, _<_}
 use native.Mathlib.Omega.{arith}
 use native.Mathlib.Decide.{decLe}
 use lib.Dec.{leb, eqb}
@@ -208,56 +208,41 @@ module _ (plain : Class) where
     lead-left : (k l h : ℕ) → says (λ σ. eqb (left-of σ) k) leads l h ≡ true → 128 ≤ a → l ≤ a → a ≤ h → left-of (next plain start a) ≡ k
     lead-left k l h s m x y = ap left-of (lead-byte plain a m) ∙ eqb-true (left-of (follow leads a)) k (says-yes a (λ σ. eqb (left-of σ) k) leads l h s x y)
 
-    spell-two : 194 ≤ a → a ≤ 223 → Spelling (a ∷ w)
-    spell-two l h =
-        let n = lead-left 1 194 223 left-one (omega arith) l h in
-        let o = onward w (next plain start a) (omega arith) e in
-        let z = at-last (o .more) (next plain (next plain start a) (o .tail)) (o .goes) (omega (arith, o .less)) (o .ends) in
-        let f : a ∷ w ≡ a ∷ o .tail ∷ [] = ap (a ∷_) (o .splits ∙ ap (o .tail ∷_) z) in
-        subst Spelling (sym f) (spelling-two a (o .tail) (64 * (a - 192) + (o .tail - 128)) l h (o .low) (o .high) refl (subst (λ u. full (to-state plain u) ≡ true) f e))
+    abbrev lead : At
+    lead = next plain start a
 
-    spell-three : 224 ≤ a → a ≤ 239 → Spelling (a ∷ w)
-    spell-three l h =
-        let n = lead-left 2 224 239 left-two (omega arith) l h in
-        let o = onward w (next plain start a) (omega arith) e in
-        let p = onward (o .more) (next plain (next plain start a) (o .tail)) (omega (arith, o .less)) (o .ends) in
-        let z = at-last (p .more) (next plain (next plain (next plain start a) (o .tail)) (p .tail)) (p .goes) (omega (arith, o .less, p .less)) (p .ends) in
-        let f : a ∷ w ≡ a ∷ o .tail ∷ p .tail ∷ [] = ap (a ∷_) (o .splits ∙ ap (o .tail ∷_) (p .splits ∙ ap (p .tail ∷_) z)) in
-        subst
-        Spelling
-        (sym f)
-        (spelling-three
-        a
-        (o .tail)
-        (p .tail)
-        (4096 * (a - 224) + 64 * (o .tail - 128) + (p .tail - 128))
-        l
-        h
-        (o .low)
-        (o .high)
-        (p .low)
-        (p .high)
-        refl
-        (subst (λ u. full (to-state plain u) ≡ true) f e))
+    spelt-as : (u : List ℕ) → w ≡ u → (full (to-state plain (a ∷ u)) ≡ true → Spelling (a ∷ u)) → Spelling (a ∷ w)
+    spelt-as u f k = subst (λ v. Spelling (a ∷ v)) (sym f) (k (subst (λ v. full (to-state plain (a ∷ v)) ≡ true) f e))
 
-    spell-four : 240 ≤ a → a ≤ 244 → Spelling (a ∷ w)
-    spell-four l h =
-        let n = lead-left 3 240 244 left-three (omega arith) l h in
-        let o = onward w (next plain start a) (omega arith) e in
-        let p = onward (o .more) (next plain (next plain start a) (o .tail)) (omega (arith, o .less)) (o .ends) in
-        let q = onward (p .more) (next plain (next plain (next plain start a) (o .tail)) (p .tail)) (omega (arith, o .less, p .less)) (p .ends) in
+    by-two : 194 ≤ a → a ≤ 223 → left-of lead ≡ 1 → Onward lead w → Spelling (a ∷ w)
+    by-two l h n o =
+        let z = at-last (o .more) (next plain lead (o .tail)) (o .goes) (omega (arith, o .less)) (o .ends) in
+        spelt-as
+        (o .tail ∷ [])
+        (o .splits ∙ ap (o .tail ∷_) z)
+        (spelling-two a (o .tail) (64 * (a - 192) + (o .tail - 128)) l h (o .low) (o .high) refl)
+
+    by-three : 224 ≤ a → a ≤ 239 → left-of lead ≡ 2 → (o : Onward lead w) → Onward (next plain lead (o .tail)) (o .more) → Spelling (a ∷ w)
+    by-three l h n o p =
+        let z = at-last (p .more) (next plain (next plain lead (o .tail)) (p .tail)) (p .goes) (omega (arith, o .less, p .less)) (p .ends) in
+        spelt-as
+        (o .tail ∷ p .tail ∷ [])
+        (o .splits ∙ ap (o .tail ∷_) (p .splits ∙ ap (p .tail ∷_) z))
+        (spelling-three a (o .tail) (p .tail) (4096 * (a - 224) + 64 * (o .tail - 128) + (p .tail - 128)) l h (o .low) (o .high) (p .low) (p .high) refl)
+
+    by-four : 240 ≤ a → a ≤ 244 → left-of lead ≡ 3 → (o : Onward lead w) → (p : Onward (next plain lead (o .tail)) (o .more))
+        → Onward (next plain (next plain lead (o .tail)) (p .tail)) (p .more) → Spelling (a ∷ w)
+    by-four l h n o p q =
         let z =
         at-last
         (q .more)
-        (next plain (next plain (next plain (next plain start a) (o .tail)) (p .tail)) (q .tail))
+        (next plain (next plain (next plain lead (o .tail)) (p .tail)) (q .tail))
         (q .goes)
         (omega (arith, o .less, p .less, q .less))
         (q .ends) in
-        let f : a ∷ w ≡ a ∷ o .tail ∷ p .tail ∷ q .tail ∷ [] =
-        ap (a ∷_) (o .splits ∙ ap (o .tail ∷_) (p .splits ∙ ap (p .tail ∷_) (q .splits ∙ ap (q .tail ∷_) z))) in
-        subst
-        Spelling
-        (sym f)
+        spelt-as
+        (o .tail ∷ p .tail ∷ q .tail ∷ [])
+        (o .splits ∙ ap (o .tail ∷_) (p .splits ∙ ap (p .tail ∷_) (q .splits ∙ ap (q .tail ∷_) z)))
         (spelling-four
         a
         (o .tail)
@@ -272,8 +257,32 @@ module _ (plain : Class) where
         (p .high)
         (q .low)
         (q .high)
-        refl
-        (subst (λ u. full (to-state plain u) ≡ true) f e))
+        refl)
+
+    -- one byte after another
+    third : (o : Onward lead w) → 2 ≤ left-of lead → Onward (next plain lead (o .tail)) (o .more)
+    third o n = onward (o .more) (next plain lead (o .tail)) (omega (arith, o .less)) (o .ends)
+
+    fourth : (o : Onward lead w) (p : Onward (next plain lead (o .tail)) (o .more)) → 3 ≤ left-of lead → Onward (next plain (next plain lead (o .tail)) (p .tail)) (p .more)
+    fourth o p n = onward (p .more) (next plain (next plain lead (o .tail)) (p .tail)) (omega (arith, o .less, p .less)) (p .ends)
+
+    four-from : 240 ≤ a → a ≤ 244 → left-of lead ≡ 3 → (o : Onward lead w) → Onward (next plain lead (o .tail)) (o .more) → Spelling (a ∷ w)
+    four-from l h n o p = by-four l h n o p (fourth o p (omega arith))
+
+    spell-two : 194 ≤ a → a ≤ 223 → Spelling (a ∷ w)
+    spell-two l h = let n = lead-left 1 194 223 left-one (omega arith) l h in by-two l h n (onward w lead (omega arith) e)
+
+    spell-three : 224 ≤ a → a ≤ 239 → Spelling (a ∷ w)
+    spell-three l h =
+        let n = lead-left 2 224 239 left-two (omega arith) l h in
+        let o = onward w lead (omega arith) e in
+        by-three l h n o (third o (omega arith))
+
+    spell-four : 240 ≤ a → a ≤ 244 → Spelling (a ∷ w)
+    spell-four l h =
+        let n = lead-left 3 240 244 left-three (omega arith) l h in
+        let o = onward w lead (omega arith) e in
+        four-from l h n o (third o (omega arith))
 
     spell-high : 128 ≤ a → Spelling (a ∷ w)
     spell-high m = by (or-of (within (194 to 244) a) false (inside (Classes leads) ((194 to 244) ∷ []) a refl (found leads a lived)))

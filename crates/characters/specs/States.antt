@@ -1,11 +1,11 @@
 -- The machine's state after a word of one byte to four is what its table says, read as one over numbers. Assumes nothing.
-use mathlib.Core.Path.{_≡_, refl, sym, ap, subst, _∙_}
+use mathlib.Core.Path.{_≡_, refl, sym, ap, _∙_}
 use mathlib.Core.List.{List, [], _∷_, _++_}
 use mathlib.Core.Logic.{_⊎_, inl, inr}
 use mathlib.Core.Bool.{Bool, true, false}
-use Prim.Native.Nat.{ℕ, _+_, _-_, _*_, _≤_, _<_, min}
+use Prim.Native.Nat.{ℕ, _+_, _-_, _*_, _≤_, min}
 use native.Mathlib.Omega.{arith}
-use Rattle.exact.specs.Class.{Class, _to_, pick, clash, within, or, is, none, or-of, range-of, left, is-neither}
+use Rattle.exact.specs.Class.{Class, _to_, pick, clash, within, is, none, or-of, range-of, left, is-neither}
 use Rattle.exact.specs.Run.{steps}
 use Rattle.characters.specs.Utf8.{At, Arrow, _to-be_, leads, below, follow, live, full, Classes, next, start, done, dead}
 use Rattle.characters.specs.OverNumbers.{iff, within-yes, push, sharp-rows, pushed}

@@ -1,11 +1,11 @@
 -- The numbers 2 to 5 told apart, in the words of the paper: CHAR after the fact. Assumes nothing.
-use mathlib.Core.Path.{_≡_, refl, sym, ap, subst, _∙_}
-use mathlib.Core.List.{List, [], _∷_, _++_}
+use mathlib.Core.Path.{_≡_, refl}
+use mathlib.Core.List.{List}
 use mathlib.Core.Bool.{Bool, true, false}
-use Prim.Native.Nat.{ℕ, zero, suc, _+_, _≤_, _<_}
+use Prim.Native.Nat.{ℕ, suc, _<_}
 use lib.ListN.{length, take}
 use Rattle.exact.specs.Verdict.{Tail, Begins}
-use Rattle.exact.specs.Class.{pick, _to_}
+use Rattle.exact.specs.Class.{pick}
 use Rattle.exact.specs.Decide.{Report, Correct, taken, syntax, deep, over, c-taken, c-syntax, c-deep, c-over}
 use Rattle.characters.specs.Allowed.{Allowed, bad-char, char-yes, char-no}
 

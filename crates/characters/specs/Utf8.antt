@@ -1,12 +1,10 @@
 -- The allowed characters in UTF-8 as a machine by a table of byte classes, and that its reader is exact for its runs. Which are allowed below 128 is given:
 -- `plain`. Assumes nothing.
-use mathlib.Core.Path.{_≡_, refl, sym, ap, subst, _∙_}
+use mathlib.Core.Path.{_≡_, refl, ap}
 use mathlib.Core.List.{List, [], _∷_, _++_}
-use mathlib.Core.Logic.{_⊎_, inl, inr}
 use mathlib.Core.Bool.{Bool, true, false}
-use Prim.Native.Nat.{ℕ, zero, suc, _+_, _≤_, _<_, min}
+use Prim.Native.Nat.{ℕ, min}
 use native.Mathlib.Omega.{arith}
-use lib.ListN.{length}
 use Rattle.exact.specs.Class.{Starts, pick, clash, Class, is, left, right, _to_}
 use Rattle.exact.specs.Out.{Reader}
 use Rattle.exact.specs.Lang.{Lang, bar, within-none, weaken}

@@ -1,12 +1,12 @@
 -- A character's scalar value from its bytes, by how many they are. Assumes nothing.
-use mathlib.Core.Path.{_≡_, refl, sym, ap, subst, _∙_}
-use mathlib.Core.List.{List, [], _∷_}
-use Prim.Native.Nat.{ℕ, zero, suc, _+_, _-_, _*_, _/_, _%_, _≤_, _<_}
+use mathlib.Core.Path.{_≡_, sym, ap, subst, _∙_}
+use mathlib.Core.List.{List}
+use Prim.Native.Nat.{ℕ, _+_, _-_, _*_, _/_, _%_, _≤_, _<_}
 use native.Mathlib.Nat.{add-zero}
 use native.Mathlib.Omega.{arith}
 use native.Mathlib.Decide.{decLe}
-use lib.ListN.{length, take, drop, getD}
-use lib.Seq.{slice, length-slice, getD-drop, getD-take}
+use lib.ListN.{length, take, getD}
+use lib.Seq.{length-slice, getD-drop, getD-take}
 use Rattle.language.specs.Characters.{utf8}
 use Rattle.characters.specs.Wide.{wide-least}
 use Rattle.characters.specs.Spelling.{utf8-two, utf8-three, utf8-four}

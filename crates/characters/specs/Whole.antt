@@ -3,20 +3,19 @@ use mathlib.Core.Path.{_≡_, refl, sym, ap, subst, _∙_}
 use mathlib.Core.List.{List, [], _∷_, _++_}
 use mathlib.Core.Logic.{_⊎_, inl, inr}
 use mathlib.Core.Bool.{Bool, true, false}
-use Prim.Native.Nat.{ℕ, zero, suc, _+_, _-_, _≤_, _<_}
+use Prim.Native.Nat.{ℕ, suc, _≤_}
 use native.Mathlib.Omega.{arith}
-use lib.ListN.{length}
 use lib.Dec.{leb, eqb}
 use borrow.Author.Tests.{leb-true, eqb-true}
-use Rattle.exact.specs.Verdict.{Tail, Begins}
-use Rattle.exact.specs.Class.{pick, clash, Class, and, or, is, apart, and-of, or-of, none, sub, inside, _to_}
-use Rattle.exact.specs.Lang.{Then, End, end}
+use Rattle.exact.specs.Verdict.{Begins}
+use Rattle.exact.specs.Class.{clash, Class, and, is, apart, and-of, or-of, none}
+use Rattle.exact.specs.Lang.{End, end}
 use Rattle.exact.specs.Comb.{Star, nil, cons}
 use Rattle.exact.specs.Run.{Run, lives, stay, ahead}
 use Rattle.language.specs.Characters.{ascii, Char, Allowed}
 use Rattle.characters.specs.Char.{spelt-char, char-spelt}
 pub use Rattle.characters.specs.Tails.{left-of, tail-byte, every, followed, begun, left-live, left-most, full-done, tail-step}
-use Rattle.characters.specs.Utf8.{At, Arrow, table, follow, Kind, kind, lively, live, full, next, stuck, laws, start, done, dead, one-more, two-more, after-c2, after-e0, after-ed, after-ef, after-ef-b7, after-f0, after-f1, after-f4, plane-end, last, _to-be_, char-end, char-lost, char-inside}
+use Rattle.characters.specs.Utf8.{At, table, Kind, kind, lively, live, full, next, stuck, laws, start, done, dead, one-more, two-more, after-c2, after-e0, after-ed, after-ef, after-ef-b7, after-f0, after-f1, after-f4, plane-end, last, char-end, char-lost, char-inside}
 
 -- THE MACHINE: a character may begin after one
 abbrev pub restart : Kind → At → At
@@ -212,4 +211,3 @@ live-begins u e =
     let w = ends (scan start u) e in
     let a = whole-allowed (u ++ w .0) (subst (λ (σ : At). whole σ ≡ true) (sym (scan-append u (w .0) start)) (w .1)) in
     record { more = w .0; value = a .0; word = a .1 }
-

@@ -1,13 +1,11 @@
 // Readers of characters, comments and line comments, and the test for CHAR.
 ghost use mathlib.Core.Path.{_≡_};
-ghost use mathlib.Core.Bool.{true};
-ghost use Prim.Native.Nat.{ℕ, _+_, _-_, _*_, _≤_, _<_};
+ghost use Prim.Native.Nat.{_+_, _-_, _*_, _≤_, _<_};
 ghost use lib.ListN.{length, drop, getD};
-ghost use lib.Seq.{slice};
 ghost use lib.Dec.{eqb};
 ghost use Rattle.exact.specs.Class.{only};
 ghost use Rattle.exact.specs.Place.{peek, runEnd};
-ghost use Rattle.language.specs.Characters.{dark, character, utf8, wide};
+ghost use Rattle.language.specs.Characters.{dark, character};
 ghost use Rattle.characters.specs.Allowed.{bad-char};
 ghost use Rattle.characters.specs.Comments.{pieceR, piecesR, commentR, lineCommentR, optionalCommentR};
 ghost use Rattle.characters.specs.Reads.{Permitted, Stands, ReadAt, Wide, WideAt, Skips};
@@ -157,7 +155,8 @@ fn of_two(a: u32, b: u32) -> u32
 
 fn of_three(a: u32, b: u32, c: u32) -> u32
     requires { ⌜ Between 224 239 a ⌝ }
-    requires { ⌜ (b < 64) × (c < 64) ⌝ }
+    requires { ⌜ b < 64 ⌝ }
+    requires { ⌜ c < 64 ⌝ }
     ensures { λ r. ⌜ r ≡ 4096 * (a - 224) + 64 * b + c ⌝ }
 {
     4096 * (a - 224) + 64 * b + c
@@ -165,7 +164,9 @@ fn of_three(a: u32, b: u32, c: u32) -> u32
 
 fn of_four(a: u32, b: u32, c: u32, d: u32) -> u32
     requires { ⌜ Between 240 244 a ⌝ }
-    requires { ⌜ (b < 64) × (c < 64) × (d < 64) ⌝ }
+    requires { ⌜ b < 64 ⌝ }
+    requires { ⌜ c < 64 ⌝ }
+    requires { ⌜ d < 64 ⌝ }
     ensures { λ r. ⌜ r ≡ 262144 * (a - 240) + 4096 * b + 64 * c + d ⌝ }
 {
     262144 * (a - 240) + 4096 * b + 64 * c + d
@@ -210,7 +211,7 @@ impl Reading {
 }
 
 // Whether the byte b stands at `at`.
-fn has(doc: &[u8], at: usize, b: u8) -> bool
+pub fn has(doc: &[u8], at: usize, b: u8) -> bool
     ensures { λ r. ⌜ r ≡ eqb (peek (now (doc .entry)) at) b ⌝ }
 {
     if at < doc.len() {
@@ -234,7 +235,7 @@ pub fn spaces_end(doc: &[u8], at: usize) -> usize
 }
 
 // Whether an allowed character is one that may end a line: neither a space nor a line feed.
-fn is_dark(v: u32) -> bool
+pub fn is_dark(v: u32) -> bool
     requires { ⌜ Permitted v ⌝ }
     ensures { λ r. ⌜ r ≡ character dark v ⌝ }
 {
@@ -251,7 +252,7 @@ fn is_dark(v: u32) -> bool
 }
 
 // A piece of a line: spaces, and a character that is none.
-fn piece(doc: &[u8], at: usize) -> Skip
+pub fn piece(doc: &[u8], at: usize) -> Skip
     ensures { λ r. ⌜ Skips (now (doc .entry)) at (pieceR at (drop at (now (doc .entry)))) r ⌝ }
 {
     let dark = spaces_end(&*doc, at);

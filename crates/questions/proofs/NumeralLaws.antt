@@ -127,6 +127,21 @@ unfolding negative
 sign-some [] h = absurd (omega arith)
 sign-some (b ∷ s) h = refl
 
-pub ruleset numerals =
-    (digits-first, digits-over, digits-low, digits-high, digits-more, counting-over, counting-low, counting-high, counting-rest,
-    int-empty, int-minus, int-zero, int-plain, sign-none, sign-some, needs)
+pub ruleset numerals = (
+  digits-first,
+  digits-over,
+  digits-low,
+  digits-high,
+  digits-more,
+  counting-over,
+  counting-low,
+  counting-high,
+  counting-rest,
+  int-empty,
+  int-minus,
+  int-zero,
+  int-plain,
+  sign-none,
+  sign-some,
+  needs,
+)

@@ -1,17 +1,9 @@
-use native.Mathlib.Omega.{arith}
-use mathlib.Core.Path.{_≡_, refl, sym, _∙_}
-use Prim.Native.Nat.{ℕ, _<_, _≤_, _+_, _-_, _*_}
-use lib.ListN.{length, drop, getD}
-use borrow.Author.Needs.{needs}
-use Rattle.characters.specs.Scan.{rows, find, find-row, find-next, find-end, Scanned, scanned-last}
-use Rattle.characters.proofs.Chars.{chars, table-long, same-find}
+-- `bad_byte` is the test for CHAR. The loop's invariant: the state after the bytes before i, from three before the place on.
+use Prim.Native.Nat.{_≤_, _-_}
+use Rattle.characters.specs.Scan.{Scanned}
+use Rattle.characters.proofs.Chars.{chars}
 use Rattle.characters.proofs.bad_byte.Statement.{statement}
 use Rattle.characters.proofs.bad_byte.Tie as tie
-use Rattle.characters.proofs.bad_byte.Reads as reads
-use Rattle.characters.proofs.bad_byte.Lts as lts
-use Rattle.characters.proofs.catch_byte.Reads as catch-byte-reads
-use Rattle.characters.proofs.step.Reads as step-reads
-use Rattle.characters.proofs.three_before.Reads as three-before-reads
 
 abbrev Inv-loop : tie.InvT-loop
 Inv-loop doc table p state₀ i₀ state i = Scanned doc p i state × (p - 3 ≤ i) × (i ≤ p)

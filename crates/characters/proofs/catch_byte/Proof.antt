@@ -1,15 +1,7 @@
-use native.Mathlib.Omega.{arith}
-use mathlib.Core.Path.{_≡_, refl, sym, _∙_}
-use Prim.Native.Nat.{ℕ, _<_, _≤_, _+_, _-_, _*_}
-use lib.ListN.{length, drop, getD}
-use borrow.Author.Needs.{needs}
-use Rattle.characters.specs.Scan.{rows, find, find-row, find-next, find-end, Scanned, scanned-last}
-use Rattle.characters.proofs.Chars.{chars, table-long, same-find}
+-- `catch_byte` answers the state, and passes over tail bytes before a character is seen to start.
+use Rattle.characters.proofs.Chars.{chars}
 use Rattle.characters.proofs.catch_byte.Statement.{statement}
 use Rattle.characters.proofs.catch_byte.Tie as tie
-use Rattle.characters.proofs.catch_byte.Reads as reads
-use Rattle.characters.proofs.catch_byte.Lts as lts
-use Rattle.characters.proofs.step.Reads as step-reads
 
 step-requires : tie.Need-step-requires
 step-requires c κs = search chars

@@ -1,16 +1,9 @@
 -- `comment` answers as `commentR` does.
 use native.Mathlib.Omega.{arith}
-use Prim.Native.Nat.{_≤_, _-_}
-use lib.ListN.{length, drop}
-use mathlib.Core.Path.{_≡_}
 use Rattle.characters.proofs.Lines.{has-in, commenting}
 use borrow.Author.Needs.{needs}
 use Rattle.characters.proofs.comment.Statement.{statement}
 use Rattle.characters.proofs.comment.Tie as tie
-use Rattle.characters.proofs.comment.Reads as reads
-use Rattle.characters.proofs.comment.Lts as lts
-use Rattle.characters.proofs.has.Reads as has-reads
-use Rattle.characters.proofs.pieces.Reads as pieces-reads
 
 has-requires : tie.Need-has-requires
 has-requires c κs = search needs

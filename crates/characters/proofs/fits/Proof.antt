@@ -1,14 +1,7 @@
-use native.Mathlib.Omega.{arith}
-use mathlib.Core.Path.{_≡_, refl, sym, _∙_}
-use Prim.Native.Nat.{ℕ, _<_, _≤_, _+_, _-_, _*_}
-use lib.ListN.{length, drop, getD}
-use borrow.Author.Needs.{needs}
-use Rattle.characters.specs.Scan.{rows, find, find-row, find-next, find-end, Scanned, scanned-last}
-use Rattle.characters.proofs.Chars.{chars, table-long, same-find}
+-- `fits` tells whether the row of the table has the state and the byte.
+use Rattle.characters.proofs.Chars.{chars}
 use Rattle.characters.proofs.fits.Statement.{statement}
 use Rattle.characters.proofs.fits.Tie as tie
-use Rattle.characters.proofs.fits.Reads as reads
-use Rattle.characters.proofs.fits.Lts as lts
 
 shared-slice-read-if1 : tie.Need-shared-slice-read-if1
 shared-slice-read-if1 c = search chars

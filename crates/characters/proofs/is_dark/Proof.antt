@@ -1,12 +1,7 @@
 -- `is_dark` tells whether the character is one of the class `dark` or of 128 or more.
-use Prim.Native.Nat.{_≤_, _-_}
-use lib.ListN.{length, drop}
-use mathlib.Core.Path.{_≡_}
 use Rattle.characters.proofs.Lines.{darkly}
 use Rattle.characters.proofs.is_dark.Statement.{statement}
 use Rattle.characters.proofs.is_dark.Tie as tie
-use Rattle.characters.proofs.is_dark.Reads as reads
-use Rattle.characters.proofs.is_dark.Lts as lts
 
 returns : tie.Need-returns
 returns c = search darkly

@@ -1,16 +1,10 @@
 -- `line_comment` answers as `lineCommentR` does.
 use native.Mathlib.Omega.{arith}
 use Prim.Native.Nat.{_+_}
-use lib.ListN.{length, drop}
-use mathlib.Core.Path.{_≡_}
 use Rattle.characters.proofs.Lines.{has-in, commenting}
 use borrow.Author.Needs.{needs}
 use Rattle.characters.proofs.line_comment.Statement.{statement}
 use Rattle.characters.proofs.line_comment.Tie as tie
-use Rattle.characters.proofs.line_comment.Reads as reads
-use Rattle.characters.proofs.line_comment.Lts as lts
-use Rattle.characters.proofs.comment.Reads as comment-reads
-use Rattle.characters.proofs.has.Reads as has-reads
 
 has-requires : tie.Need-has-requires
 has-requires c κs = search needs

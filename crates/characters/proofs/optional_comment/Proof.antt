@@ -1,15 +1,8 @@
 -- `optional_comment` answers as `optionalCommentR` does.
-use Prim.Native.Nat.{_≤_, _-_}
-use lib.ListN.{length, drop}
-use mathlib.Core.Path.{_≡_}
 use Rattle.characters.proofs.Lines.{commenting}
 use borrow.Author.Needs.{needs}
 use Rattle.characters.proofs.optional_comment.Statement.{statement}
 use Rattle.characters.proofs.optional_comment.Tie as tie
-use Rattle.characters.proofs.optional_comment.Reads as reads
-use Rattle.characters.proofs.optional_comment.Lts as lts
-use Rattle.characters.proofs.has.Reads as has-reads
-use Rattle.characters.proofs.line_comment.Reads as line-comment-reads
 
 has-requires : tie.Need-has-requires
 has-requires c κs = search needs

@@ -1,16 +1,8 @@
 -- `piece` answers as `pieceR` does.
-use Prim.Native.Nat.{_≤_, _-_}
-use lib.ListN.{length, drop}
-use mathlib.Core.Path.{_≡_}
 use Rattle.characters.proofs.Lines.{piecing}
 use borrow.Author.Needs.{needs}
 use Rattle.characters.proofs.piece.Statement.{statement}
 use Rattle.characters.proofs.piece.Tie as tie
-use Rattle.characters.proofs.piece.Reads as reads
-use Rattle.characters.proofs.piece.Lts as lts
-use Rattle.characters.proofs.Reading.scalar.Reads as scalar-reads
-use Rattle.characters.proofs.is_dark.Reads as is-dark-reads
-use Rattle.characters.proofs.spaces_end.Reads as spaces-end-reads
 
 spaces-end-requires : tie.Need-spaces-end-requires
 spaces-end-requires c κs = search needs

@@ -1,14 +1,10 @@
 -- `pieces` answers as `piecesR` does. The loop's invariant: the pieces up to i are read.
 use Prim.Native.Nat.{_≤_, _-_}
-use lib.ListN.{length, drop}
-use mathlib.Core.Path.{_≡_}
+use lib.ListN.{length}
 use Rattle.characters.specs.Pieces.{Along}
 use Rattle.characters.proofs.Lines.{lines}
 use Rattle.characters.proofs.pieces.Statement.{statement}
 use Rattle.characters.proofs.pieces.Tie as tie
-use Rattle.characters.proofs.pieces.Reads as reads
-use Rattle.characters.proofs.pieces.Lts as lts
-use Rattle.characters.proofs.piece.Reads as piece-reads
 
 abbrev Inv-loop : tie.InvT-loop
 Inv-loop doc at i₀ i = Along doc at i × (i ≤ length doc)

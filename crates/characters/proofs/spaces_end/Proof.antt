@@ -1,14 +1,12 @@
 -- `spaces_end` answers the place behind the spaces. The loop's invariant: the spaces from i on end where those from `at` on do.
-use Prim.Native.Nat.{_≤_, _-_}
-use lib.ListN.{length, drop}
+use Prim.Native.Nat.{_-_}
+use lib.ListN.{length}
 use mathlib.Core.Path.{_≡_}
 use Rattle.exact.specs.Class.{only}
 use Rattle.exact.specs.Place.{runEnd}
 use Rattle.characters.proofs.Lines.{lining}
 use Rattle.characters.proofs.spaces_end.Statement.{statement}
 use Rattle.characters.proofs.spaces_end.Tie as tie
-use Rattle.characters.proofs.spaces_end.Reads as reads
-use Rattle.characters.proofs.spaces_end.Lts as lts
 
 abbrev Inv-loop : tie.InvT-loop
 Inv-loop doc at i₀ i = runEnd (only 32) doc at ≡ runEnd (only 32) doc i

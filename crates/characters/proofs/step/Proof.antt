@@ -1,15 +1,12 @@
+-- `step` answers the state that the table gives. The loop's invariant: no row before j fits.
 use native.Mathlib.Omega.{arith}
-use mathlib.Core.Path.{_≡_, refl, sym, _∙_}
-use Prim.Native.Nat.{ℕ, _<_, _≤_, _+_, _-_, _*_}
-use lib.ListN.{length, drop, getD}
-use borrow.Author.Needs.{needs}
-use Rattle.characters.specs.Scan.{rows, find, find-row, find-next, find-end, Scanned, scanned-last}
-use Rattle.characters.proofs.Chars.{chars, table-long, same-find}
+use mathlib.Core.Path.{_≡_, refl}
+use Prim.Native.Nat.{_≤_, _-_, _*_}
+use lib.ListN.{drop}
+use Rattle.characters.specs.Scan.{find}
+use Rattle.characters.proofs.Chars.{chars}
 use Rattle.characters.proofs.step.Statement.{statement}
 use Rattle.characters.proofs.step.Tie as tie
-use Rattle.characters.proofs.step.Reads as reads
-use Rattle.characters.proofs.step.Lts as lts
-use Rattle.characters.proofs.fits.Reads as fits-reads
 
 abbrev Inv-loop : tie.InvT-loop
 Inv-loop table state b j₀ j = (find table state b ≡ find (drop (4 * j) table) state b) × (j ≤ 44)

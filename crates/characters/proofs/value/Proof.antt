@@ -4,12 +4,6 @@ use native.Mathlib.Omega.{arith}
 use Rattle.characters.proofs.Chars.{valued}
 use Rattle.characters.proofs.value.Statement.{statement}
 use Rattle.characters.proofs.value.Tie as tie
-use Rattle.characters.proofs.value.Reads as reads
-use Rattle.characters.proofs.value.Lts as lts
-use Rattle.characters.proofs.of_four.Reads as of-four-reads
-use Rattle.characters.proofs.of_three.Reads as of-three-reads
-use Rattle.characters.proofs.of_two.Reads as of-two-reads
-use Rattle.characters.proofs.tail.Reads as tail-reads
 
 shared-slice-read-first : tie.Need-shared-slice-read-first
 shared-slice-read-first c = search needs

@@ -3,10 +3,6 @@ use Rattle.characters.proofs.Chars.{reading}
 use borrow.Author.Needs.{needs}
 use Rattle.characters.proofs.Reading.scalar.Statement.{statement}
 use Rattle.characters.proofs.Reading.scalar.Tie as tie
-use Rattle.characters.proofs.Reading.scalar.Reads as reads
-use Rattle.characters.proofs.Reading.scalar.Lts as lts
-use Rattle.characters.proofs.value.Reads as value-reads
-use Rattle.characters.proofs.wide_end.Reads as wide-end-reads
 
 returns : tie.Need-returns
 returns c = search reading

@@ -1,0 +1,11 @@
+-- What the theorems say: Objects, Once, Find, Kinds, Read (find-exactly). The rest serves the proofs.
+pub mod Objects
+pub mod Stands
+pub mod Rows
+pub mod Rooted
+pub mod Looks
+pub mod Walks
+pub mod Once
+pub mod Find
+pub mod Kinds
+pub mod Read

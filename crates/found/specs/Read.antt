@@ -1,0 +1,82 @@
+-- FINDING ON WHAT `read` FILLED: on the table of an accepted document `find` answers the value of the key in that object, exactly if the object has the key
+-- (01, Questions). Assumes nothing.
+use mathlib.Core.Path.{_≡_, refl, subst}
+use mathlib.Core.List.{List}
+use mathlib.Core.Bool.{Bool, true, false}
+use mathlib.Core.Logic.{_↔_}
+use Prim.Native.Nat.{ℕ, _*_}
+use lib.ListN.{length, drop}
+use Rattle.language.specs.declared.Answer.the-variants.{Accepted}
+use Rattle.language.specs.Tree.{Tree, width, size, textOf, rowsOf}
+use Rattle.language.specs.Document.{Document}
+use Rattle.language.specs.Answered.{deepest, Reads, Answered, accepted}
+use Rattle.questions.specs.declared.Found.{Found}
+use Rattle.questions.specs.declared.Found.the-variants.{BadRow}
+use Rattle.questions.specs.Walk.{foundReply, object, Finds, refused}
+use Rattle.questions.specs.Unique.{one-found}
+use Rattle.spans.specs.Document.{sound}
+use Rattle.found.specs.Objects.{RowOf, Pair, Holds, ObjectAt}
+use Rattle.found.specs.Stands.{stands-first}
+use Rattle.found.specs.Rooted.{value-row, one-object}
+use Rattle.found.specs.Once.{Once, once}
+use Rattle.found.specs.Find.{Filled, Answers, answers, find-value}
+use Rattle.found.specs.Kinds.{Object, objects}
+
+-- the tree of a document that was read, and what its table and its room hold
+pub record Filling (doc : List ℕ) (n : ℕ) (table room : List ℕ) : Type 0 where
+  pub tree : Tree
+  pub reads : Reads doc tree
+  pub filled : Filled tree n table room
+
+pub filling : {doc table text table′ text′ : List ℕ} {n m : ℕ} → Answered doc table text (Accepted n m) table′ text′ → Filling doc n table′ text′
+filling {table = table} {text = text} (accepted t r l k) =
+    record {
+      tree = t;
+      reads = r;
+      filled = record { count = refl; rows = stands-first (rowsOf 0 0 0 t) (drop (width * size t) table); text = stands-first (textOf t) (drop (length (textOf t)) text) };
+    }
+
+-- OF A TREE, A TABLE WITH ITS n ROWS AND A ROOM: what each answer f that `find` may give for the row r and the key s has to be
+pub record FindsExactly (t : Tree) (n : ℕ) (table room : List ℕ) : Type 0 where
+  -- the rows that the walk takes for objects are those of the tree's objects
+  pub objects-are : (r : ℕ) → (object table n r ≡ true) ↔ Object t r
+  -- such a row has one list of pairs, in which a key stands once; and the row that a pair names is that of its value
+  pub one-list : {r : ℕ} {fs gs : List Pair} → ObjectAt t r fs → ObjectAt t r gs → fs ≡ gs
+  pub keys-once : {r : ℕ} {fs : List Pair} → ObjectAt t r fs → Once fs
+  pub values-are : {r i : ℕ} {s : List ℕ} {v : Tree} {fs : List Pair} → ObjectAt t r fs → Holds s i v fs → RowOf i v 0 t
+  -- in an object: the value of the key exactly if the object has the key, NONE exactly if not, never BADROW
+  pub finding : {r : ℕ} {fs : List Pair} → ObjectAt t r fs → (s : List ℕ) (f : Found) → Finds table n room s r (foundReply f) → Answers f fs s
+  -- in every other row: BADROW
+  pub others : {r : ℕ} → (Object t r → ⊥) → (s : List ℕ) (f : Found) → Finds table n room s r (foundReply f) → f ≡ BadRow
+
+no-object : {table room s : List ℕ} {n r : ℕ} (f : Found) (y : Bool) → object table n r ≡ y → (y ≡ true → ⊥) → Finds table n room s r (foundReply f) → f ≡ BadRow
+no-object f true e n g = absurd (n refl)
+no-object {table} {room} {s} {n} {r} f false e m g = one-found table n room s r f BadRow g (refused e)
+
+finds-exactly : {doc : List ℕ} {n : ℕ} {table room : List ℕ} {t : Tree} → Reads doc t → Filled t n table room → FindsExactly t n table room
+finds-exactly {doc} {n} {table} {t = t} d h =
+    let o = objects h (sound deepest doc t (d .word)) in
+    record {
+      objects-are = o;
+      one-list = λ y w. one-object y w;
+      keys-once = λ y. once (d .once) y;
+      values-are = λ y w. value-row y w;
+      finding = λ y s f g. answers f g (find-value h (d .once) y s);
+      others = λ {r} m s f g. no-object f (object table n r) refl (λ e. m (o r .0 e)) g;
+    }
+
+-- A DOCUMENT THAT WAS ACCEPTED: its tree, and finding in it
+pub record Finding (doc : List ℕ) (n : ℕ) (table room : List ℕ) : Type 0 where
+  pub tree : Tree
+  pub reads : Reads doc tree
+  pub exactly : FindsExactly tree n table room
+
+pub find-exactly : {doc table text table′ text′ : List ℕ} {n m : ℕ} → Answered doc table text (Accepted n m) table′ text′ → Finding doc n table′ text′
+find-exactly x = let z = filling x in record { tree = z .tree; reads = z .reads; exactly = finds-exactly (z .reads) (z .filled) }
+
+-- .. and in any tree of it, where a document has one tree
+pub find-in-tree : {doc table text table′ text′ : List ℕ} {n m : ℕ} {t : Tree} → ((u v : Tree) → Document deepest doc u → Document deepest doc v → u ≡ v)
+    → Answered doc table text (Accepted n m) table′ text′ → Document deepest doc t → FindsExactly t n table′ text′
+find-in-tree {table′ = table′} {text′ = text′} {n = n} {t = t} one x d =
+    let z = find-exactly x in
+    subst (λ (u : Tree). FindsExactly u n table′ text′) (one (z .tree) t (z .reads .word) d) (z .exactly)

@@ -1,0 +1,85 @@
+-- EVERY DOCUMENT'S TREE: its rows and its text are fewer than the document's bytes, its spans and its kinds are in their place. Assumes nothing.
+use mathlib.Core.Path.{_≡_}
+use mathlib.Core.List.{List}
+use mathlib.Core.Logic.{inl}
+use mathlib.Core.Bool.{true}
+use Prim.Native.Nat.{ℕ, zero, suc, _+_, _≤_, _<_}
+use native.Mathlib.Omega.{arith}
+use lib.ListN.{length}
+use Rattle.notation.specs.Lang.{End, end}
+use Rattle.language.specs.Tree.{Tree, leaf, node, Forest, first, after, size, textOf}
+use Rattle.language.specs.Document.{RootLine, Root, Whole, Document}
+use Rattle.spans.specs.Every.{ret-every, byte-every, byte-then, bind-every, alt-every}
+use Rattle.spans.specs.Placed.{Placed, Child, Siblings, Within, Inside, span-some, child-inside, siblings-ordered, within-placed, within-inside}
+use Rattle.spans.specs.Formed.{Formed, Sound, formed-sound}
+use Rattle.spans.specs.Kinds.{Contains, Tells, within-either, either-contains, either-tells}
+use Rattle.spans.specs.Lies.{Lies, lies-from, lies-to, lies-line}
+use Rattle.spans.specs.Texts.{star-goes, comment-goes}
+use Rattle.spans.specs.Inline.{value-lies}
+use Rattle.spans.specs.Blocks.{OnLines, object-lies, array-lies, open-lies, nested-lies, item-lies}
+
+root-line-lies : (k : ℕ) → OnLines (RootLine k)
+root-line-lies k at = bind-every (value-lies true k at) (λ v m x. byte-then (λ b. ret-every (lies-line (omega arith) x)))
+
+root-lies : (k : ℕ) → OnLines (Root k)
+root-lies zero at = alt-every (root-line-lies zero at) (open-lies 0 at)
+root-lies (suc k) at =
+    alt-every (alt-every (root-line-lies (suc k) at) (open-lies 0 at)) (alt-every (array-lies (item-lies k 2) 0 at) (object-lies k 0 (nested-lies k 2) at))
+
+whole-lies : (k : ℕ) → OnLines (Whole k)
+whole-lies k at =
+    bind-every
+    (star-goes (λ a. bind-every (comment-goes a) (λ c m h. byte-every (λ b. omega arith))) at)
+    (λ cs m h. bind-every
+    (root-lies k m)
+    (λ v e x. bind-every (star-goes (λ a. byte-every (λ b. omega arith)) e) (λ fs at′ l. ret-every (lies-from h (lies-to l x)))))
+
+module _ (k : ℕ) (doc : List ℕ) (t : Tree) (d : Document k doc t) where
+  document-lies : Lies Formed 1 0 t (length doc)
+  unfolding Document
+  document-lies = by (d .others) (whole-lies k 0 .has (d .first)) (whole-lies k 0 .moves (d .first))
+    where
+      by : {v : Tree} {m : ℕ} {s : List ℕ} → End v m s t → Lies Formed 1 0 v m → m + length s ≡ 0 + length doc → Lies Formed 1 0 t (length doc)
+      by end x h = lies-to (omega arith) x
+
+  -- "Rows and text are each fewer than the document's bytes."
+  pub few-rows : size t < length doc
+  few-rows = let h = document-lies .rows in omega arith
+
+  pub few-text : length (textOf t) < length doc
+  few-text = let h = document-lies .text in omega arith
+
+  -- its spans are in their place; the next four say so in plain words
+  pub placed : Placed t
+  placed = document-lies .placed
+
+  -- "Each child's span lies inside its parent's": p is any tree in t, u a child of p
+  pub inside : {p u : Tree} → Within p t → Child u p → Inside p u
+  inside w c = child-inside (within-placed placed w) c
+
+  -- "siblings' spans are disjoint and in order": p is any tree in t, v a child of p behind its child u
+  pub in-order : {p u v : Tree} → Within p t → Siblings u v p → after u ≤ first v
+  in-order w s = siblings-ordered (within-placed placed w) s
+
+  -- no span is empty, and every one lies in the document
+  pub some-span : {u : Tree} → Within u t → first u < after u
+  some-span w = span-some (within-placed placed w)
+
+  pub in-document : {u : Tree} → Within u t → after u ≤ length doc
+  in-document w = omega (arith, document-lies .ends, within-inside placed w .ends)
+
+  -- the whole tree is that of a value, by its kinds, its counts and the texts that are empty
+  pub sound : Formed t
+  sound = document-lies .formed
+
+  -- at any depth: a container is an array of values or an object of pairs of a key and a value, with their number for its count
+  pub containers : {q a e c : ℕ} {ts : Forest} → Within (node q a e c ts) t → Contains c ts q
+  containers w = either-contains (within-either (inl sound) w)
+
+  -- and a leaf is of a kind from 1 to 7, with no text up to 3, or a key
+  pub leaves : {q a e : ℕ} {s : List ℕ} → Within (leaf q a e s) t → Tells s q
+  leaves w = either-tells (within-either (inl sound) w)
+
+  -- no container is a key
+  pub document-sound : Sound t
+  document-sound = formed-sound sound

@@ -1,0 +1,13 @@
+pub mod Every
+pub mod Placed
+pub mod Formed
+pub mod Kinds
+pub mod Lies
+pub mod Texts
+pub mod Scalars
+pub mod Strings
+pub mod Inline
+pub mod Body
+pub mod Parts
+pub mod Blocks
+pub mod Document

@@ -1,0 +1,1 @@
+// What is proved about spans, counts and kinds stands in specs/; this crate has no code.
