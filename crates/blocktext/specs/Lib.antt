@@ -14,3 +14,11 @@ pub mod Joined
 pub mod JoinedFirst
 pub mod Clean
 pub mod Vectors
+pub mod Going
+pub mod Spaces
+pub mod Words
+pub mod Pieces
+pub mod Placed
+pub mod Contract
+pub mod LineLooks
+pub mod Leaves

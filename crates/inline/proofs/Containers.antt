@@ -1,16 +1,16 @@
 -- A container in code: from the bracket to the loop, the loop's ways out, and the container's row, as `search` takes them.
 use mathlib.Core.Path.{_≡_, refl, sym, ap, _∙_}
 use mathlib.Core.List.{List, [], _∷_, _++_}
-use mathlib.Core.Bool.{Bool, true, false}
-use Prim.Native.Nat.{ℕ, _+_, _-_, _*_, _≤_, _<_}
+use mathlib.Core.Bool.{Bool}
+use Prim.Native.Nat.{ℕ, _+_, _-_, _*_, _<_}
 use native.Mathlib.Omega.{arith}
 use lib.ListN.{length, drop}
 use lib.Seq.{sets}
 use borrow.Author.Needs.{needs}
 use Rattle.language.specs.Tree.{Tree, count, width, rowList}
-use Rattle.exact.specs.Class.{is, only}
-use Rattle.exact.specs.Out.{Out, Reader, bind, ok, bad}
-use Rattle.exact.specs.Lang.{retR, byteR}
+use Rattle.exact.specs.Class.{is}
+use Rattle.exact.specs.Out.{Out, Reader, bind, ok}
+use Rattle.exact.specs.Lang.{retR}
 use Rattle.exact.specs.Comb.{seqR}
 use Rattle.exact.specs.Place.{peek, peek-in, byte-is, alt-is, alt-not, listR}
 use Rattle.language.specs.declared.Kind.{Kind}

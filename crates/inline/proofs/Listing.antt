@@ -1,28 +1,20 @@
 -- The loop over the members of a container: its invariant, its start, a turn, and its ways out.
 use mathlib.Core.Path.{_≡_, refl, sym, ap, _∙_}
 use mathlib.Core.List.{List, [], _∷_, _++_, append-assoc}
-use mathlib.Core.Bool.{Bool, true, false}
-use Prim.Native.Nat.{ℕ, zero, suc, _+_, _-_, _*_, _≤_, _<_}
+use mathlib.Core.Bool.{Bool}
+use Prim.Native.Nat.{ℕ, _+_, _≤_, _<_}
 use native.Mathlib.Omega.{arith}
 use lib.ListN.{length, drop}
-use lib.Seq.{sets}
-use Rattle.language.specs.Tree.{Tree, node, none, forest, count, width, rowList}
-use Rattle.exact.specs.Class.{is, only}
-use Rattle.exact.specs.Out.{Out, Reader, bind, fmap, ok, soft, bad}
-use Rattle.exact.specs.Lang.{retR, byteR}
-use Rattle.exact.specs.Comb.{seqR, altR}
-use Rattle.exact.specs.Place.{peek, peek-in, byte-is, alt-is, alt-not, listR, listN, bounded, list-more, list-last, list-comma, list-other, list-bad}
+use Rattle.language.specs.Tree.{Tree, count}
+use Rattle.exact.specs.Class.{is}
+use Rattle.exact.specs.Out.{Out, Reader, fmap, ok, soft, bad}
+use Rattle.exact.specs.Place.{peek, peek-in, listR, listN, bounded, list-more, list-last, list-comma, list-other, list-bad}
 use Rattle.rooms.specs.declared.Cursor.{Cursor}
-use Rattle.rooms.specs.declared.Ans.{Ans}
-use Rattle.rooms.specs.declared.Ans.the-variants.{Ok, No}
-use Rattle.rooms.specs.Contract.{Ready, Answers}
+use Rattle.rooms.specs.Contract.{Ready}
 use Rattle.rooms.specs.Laws
-use Rattle.inline.specs.declared.Sep.{Sep}
-use Rattle.inline.specs.declared.Sep.the-variants.{More, Last, Bad}
-use Rattle.inline.specs.Lists.{listedR}
-use Rattle.inline.specs.Brackets.{opens, closes, kindOf, Member, children, memberR, enclosed, bracketR, closes-small, closes-other, opens-small, children-none, children-append}
-use Rattle.inline.specs.Written.{Written, written-none, written-append, node-span, node-filled}
-use Rattle.inline.specs.Contract.{Enclosed, onward, Fails, no-first, no-second, Read, Goes, Ends, Stops, no-member, no-part, Turned}
+use Rattle.inline.specs.Brackets.{opens, closes, Member, children, memberR, closes-small, closes-other, opens-small, children-none, children-append}
+use Rattle.inline.specs.Written.{Written, written-none, written-append}
+use Rattle.inline.specs.Contract.{Fails, no-first, no-second, Read, Goes, Ends, Stops, no-member, no-part}
 
 -- behind the bracket of a container at c, where its first child's row comes next
 abbrev pub within : Cursor → Cursor

@@ -1,28 +1,28 @@
 -- A member with what follows it: an element from its value, a pair from its key and its value.
 use mathlib.Core.Path.{_≡_, refl, sym, ap, _∙_}
-use mathlib.Core.List.{List, [], _∷_, _++_}
+use mathlib.Core.List.{List, [], _∷_}
 use mathlib.Core.Bool.{Bool, true, false}
-use Prim.Native.Nat.{ℕ, suc, _+_, _≤_, _<_}
+use Prim.Native.Nat.{ℕ, _+_, _≤_}
 use native.Mathlib.Omega.{arith}
 use lib.ListN.{length, drop}
 use borrow.Author.Needs.{needs}
-use Rattle.language.specs.Tree.{Tree, Field, field}
+use Rattle.language.specs.Tree.{Tree, field}
 use Rattle.exact.specs.Class.{clash}
-use Rattle.exact.specs.Out.{Out, Reader, bind, ok, bad}
+use Rattle.exact.specs.Out.{Out, Reader, bind, ok}
 use Rattle.exact.specs.Lang.{retR}
 use Rattle.exact.specs.Comb.{seqR}
 use Rattle.exact.specs.Place.{peek, peek-in}
 use Rattle.rooms.specs.declared.Cursor.{Cursor}
 use Rattle.rooms.specs.declared.Ans.{Ans}
 use Rattle.rooms.specs.declared.Ans.the-variants.{Ok, No}
-use Rattle.rooms.specs.Contract.{Ready, Span, Taken, Answers}
+use Rattle.rooms.specs.Contract.{Taken, Answers}
 use Rattle.rooms.specs.Laws
 use Rattle.inline.specs.declared.Sep.{Sep}
 use Rattle.inline.specs.declared.Sep.the-variants.{More, Last, Bad}
 use Rattle.inline.specs.Lists.{inlinePairR}
-use Rattle.inline.specs.Brackets.{closes, closes-small, Member, children, memberR, labelR, pair-label}
-use Rattle.inline.specs.Written.{Written, written-one, written-append}
-use Rattle.inline.specs.Contract.{onward, Fails, Passed, Parted, Read, Goes, Ends, Stops, no-member, no-part, Turned}
+use Rattle.inline.specs.Brackets.{closes, closes-small, memberR, labelR, pair-label}
+use Rattle.inline.specs.Written.{written-one, written-append}
+use Rattle.inline.specs.Contract.{onward, Parted, Read, Stops, no-member, no-part, Turned}
 use Rattle.inline.proofs.Passing.{span-on, ready-after}
 
 -- ---- an element

@@ -1,13 +1,12 @@
 -- What two bytes, the end of a member, and a key with its colon say of their readers.
 use mathlib.Core.Path.{_≡_, refl, sym, ap, _∙_}
 use mathlib.Core.List.{List, [], _∷_}
-use Prim.Native.Nat.{ℕ, suc, _+_, _≤_, _<_}
-use native.Mathlib.Numerals.{add-one}
+use Prim.Native.Nat.{ℕ, _+_, _≤_, _<_}
 use native.Mathlib.Omega.{arith}
 use lib.ListN.{length, drop}
 use borrow.Author.Needs.{needs}
 use Rattle.language.specs.Tree.{Tree}
-use Rattle.exact.specs.Out.{Out, Reader, bind, ok, bad}
+use Rattle.exact.specs.Out.{Out, bind, ok, bad}
 use Rattle.exact.specs.Lang.{retR}
 use Rattle.exact.specs.Comb.{seqR}
 use Rattle.exact.specs.Ll.{wordR}

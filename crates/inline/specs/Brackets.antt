@@ -2,7 +2,7 @@
 use mathlib.Core.Path.{_≡_, refl, sym, ap, _∙_}
 use mathlib.Core.List.{List, [], _∷_, _++_}
 use mathlib.Core.Bool.{Bool, true, false}
-use Prim.Native.Nat.{ℕ, _+_, _<_, max}
+use Prim.Native.Nat.{ℕ, _<_, max}
 use native.Mathlib.Omega.{arith}
 use Rattle.language.specs.Kind.{ARRAY, OBJECT}
 use Rattle.language.specs.Tree.{Tree, node, Field, field, forest, fields, count}

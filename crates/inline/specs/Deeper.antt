@@ -1,11 +1,11 @@
 -- MORE ALLOWANCE, MORE VALUES; and one more is enough: a reader of values refuses what begins with no byte of theirs, and where one more allowance makes a difference it goes beyond the refusal.
-use mathlib.Core.Path.{_≡_, refl}
-use mathlib.Core.List.{List, [], _∷_, _++_}
-use mathlib.Core.Bool.{Bool, true, false}
+use mathlib.Core.Path.{refl}
+use mathlib.Core.List.{[], _∷_}
+use mathlib.Core.Bool.{Bool, false}
 use Prim.Native.Nat.{ℕ, zero, suc, _<_}
 use native.Mathlib.Omega.{arith}
 use Rattle.notation.specs.Lang.{Alt}
-use Rattle.language.specs.Tree.{Tree, Field, field, arrayTree, objectTree}
+use Rattle.language.specs.Tree.{Tree, field, arrayTree, objectTree}
 use Rattle.language.specs.Inline.{Listed, InlineArray, InlinePair, InlineObject, Scalar, Value}
 use Rattle.exact.specs.Class.{is, only}
 use Rattle.exact.specs.Out.{Reader}
@@ -17,7 +17,7 @@ use Rattle.numbers.specs.Opening.{plain-shuts, shuts-inside, alt-shuts}
 use Rattle.strings.specs.Bytes.{inlineBytes-ll}
 use Rattle.strings.specs.Keys.{key-ll}
 use Rattle.strings.specs.Quoted.{string-ll}
-use Rattle.inline.specs.Lists.{scalarFirst, openings, valueFirst, valueS, listedR, inlineArrayR, inlinePairR, inlineObjectR}
+use Rattle.inline.specs.Lists.{scalarFirst, openings, valueFirst, listedR, inlineArrayR, inlinePairR, inlineObjectR}
 use Rattle.inline.specs.Values.{quotesR, scalarR, containerR, valueR, scalar-exact, container-ll, value-ll}
 
 -- MORE ALLOWANCE, MORE VALUES

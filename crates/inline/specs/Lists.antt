@@ -1,10 +1,9 @@
 -- The reader of a comma list up to a closing byte, and that it is exact, over whatever reads an element; so are those of inline arrays, pairs and objects.
 use mathlib.Core.Path.{_≡_, refl}
 use mathlib.Core.List.{List, [], _∷_, _++_}
-use mathlib.Core.Bool.{true, false}
+use mathlib.Core.Bool.{true}
 use Prim.Native.Nat.{ℕ}
 use Rattle.language.specs.Tree.{Tree, Field, field, arrayTree, objectTree}
-use Rattle.language.specs.Scalars.{digit}
 use Rattle.language.specs.Strings.{keybyte}
 use Rattle.language.specs.Inline.{Listed, InlineArray, InlinePair, InlineObject}
 use Rattle.exact.specs.Class.{Class, _to_, is, only, apart}
@@ -15,7 +14,7 @@ use Rattle.exact.specs.Ll.{Shape, Ll, retS, ret-ll, byteS, seqS, seq-ll, altS, 
 use Rattle.exact.specs.Place.{listR}
 use Rattle.numbers.specs.Plain.{plainFirst, plainS}
 use Rattle.strings.specs.Bytes.{inlineBytesS}
-use Rattle.strings.specs.Keys.{keyS, keyR, key-ll}
+use Rattle.strings.specs.Keys.{keyR, key-ll}
 use Rattle.strings.specs.Quoted.{stringS}
 use Rattle.strings.specs.Spans.{solid}
 

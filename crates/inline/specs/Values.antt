@@ -1,15 +1,14 @@
 -- The readers of scalars and of inline values, by their first bytes, and that they are exact: inside brackets, and on a line, where digits may have spaces between.
 use mathlib.Core.Path.{_≡_, refl}
-use mathlib.Core.List.{List, [], _∷_, _++_}
+use mathlib.Core.List.{List, [], _++_}
 use mathlib.Core.Bool.{Bool, true, false}
 use Prim.Native.Nat.{ℕ, zero, suc}
 use native.Mathlib.Omega.{arith}
 use Rattle.notation.specs.Lang.{Alt, one, two}
 use Rattle.language.specs.Tree.{Tree}
-use Rattle.language.specs.Scalars.{Plain}
 use Rattle.language.specs.Strings.{String, InlineBytes}
 use Rattle.language.specs.Inline.{InlineArray, InlineObject, Scalar, Value, LineValue}
-use Rattle.exact.specs.Class.{Starts, Class, is, only, clash, apart, left, starts-left, starts-right, starts-none, starts-inside, nothing}
+use Rattle.exact.specs.Class.{Starts, Class, is, only, clash, apart, starts-left, starts-right, starts-none, nothing}
 use Rattle.exact.specs.Out.{Reader}
 use Rattle.exact.specs.Lang.{Lang, Follow, bar, Exact, within-bar, weaken}
 use Rattle.exact.specs.Comb.{altR, alt-exact}

@@ -1,7 +1,7 @@
 -- Worked examples, computed by the readers: a value and a line feed, with their trees, the places of refusal, and what the allowance does.
 use mathlib.Core.Path.{_≡_, refl}
 use mathlib.Core.List.{List, [], _∷_}
-use mathlib.Core.Bool.{Bool, true, false}
+use mathlib.Core.Bool.{true}
 use Prim.Native.Nat.{ℕ}
 use Rattle.language.specs.Kind.{INTEGER, FLOAT, STRING, BYTES, KEY}
 use Rattle.language.specs.Scalars.{plain, minus}

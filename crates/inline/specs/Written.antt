@@ -1,12 +1,12 @@
 -- Trees one behind another in the rooms: what is written from one cursor up to another, put together and closed by a container's own row.
-use mathlib.Core.Path.{_≡_, refl, sym, ap, _∙_}
+use mathlib.Core.Path.{_≡_, refl, sym, _∙_}
 use mathlib.Core.List.{List, [], _∷_, _++_, append-assoc, append-nil}
-use Prim.Native.Nat.{ℕ, suc, _+_, _*_, _≤_, _<_}
+use Prim.Native.Nat.{ℕ, _+_, _*_, _≤_, _<_}
 use native.Mathlib.Nat.{add-zero}
 use native.Mathlib.Omega.{arith}
 use lib.ListN.{length, length-append}
 use lib.Seq.{sets}
-use Rattle.language.specs.Tree.{Tree, node, forest, count, width, size, sizes, textOf, textsOf, rowsOf, rowss, rowList}
+use Rattle.language.specs.Tree.{Tree, node, forest, width, size, sizes, textOf, textsOf, rowsOf, rowss, rowList}
 use Rattle.rooms.specs.declared.Cursor.{Cursor}
 use Rattle.rooms.specs.Contract.{Span, Filled}
 use Rattle.rooms.specs.Stores.{sets-append, row-behind}

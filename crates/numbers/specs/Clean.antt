@@ -3,13 +3,11 @@ use mathlib.Core.Path.{refl}
 use mathlib.Core.List.{List, [], _∷_, _++_}
 use mathlib.Core.Bool.{Bool, true, false}
 use Prim.Native.Nat.{ℕ}
-use Rattle.notation.specs.Class.{_to_, Class, only}
-use Rattle.exact.specs.Class.{sub}
-use Rattle.exact.specs.Allowed.{Clean, ret-clean, here-clean, byte-clean, word-clean, seq-clean, alt-clean, star-clean}
+use Rattle.notation.specs.Class.{_to_, only}
+use Rattle.characters.specs.Clean.{Clean, ret-clean, here-clean, byte-clean, word-clean, seq-clean, alt-clean, star-clean}
 use Rattle.language.specs.Kind.{NULL, FALSE, TRUE, INTEGER, FLOAT}
 use Rattle.language.specs.Tree.{leaf}
-use Rattle.language.specs.Characters.{Option}
-use Rattle.language.specs.Scalars.{nullWord, trueWord, falseWord, nanWord, infinityWord, Keyword, Keywords, digit, Further, Digits, One, signed, Integer, Pointed, Exponent, Float, Plain}
+use Rattle.language.specs.Scalars.{nullWord, trueWord, falseWord, nanWord, infinityWord, Keyword, Keywords, digit, Further, Digits, signed, Integer, Pointed, Exponent, Float, Plain}
 
 further-clean : (spaced : Bool) → Clean (Further spaced)
 further-clean false = byte-clean digit refl

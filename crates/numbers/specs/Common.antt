@@ -7,8 +7,8 @@ use Rattle.notation.specs.Lang.{Lang, Ret, ret, Here, Byte, Seq, _>>=_, _>>_, A
 use Rattle.language.specs.Kind.{NULL, FALSE, TRUE, INTEGER, FLOAT}
 use Rattle.language.specs.Tree.{Tree, leaf}
 use Rattle.language.specs.Characters.{Option}
-use Rattle.language.specs.Scalars.{nullWord, trueWord, falseWord, nanWord, infinityWord, Keyword, Keywords, digit, Digits, One, signed, Integer, Pointed, Exponent, Float, Plain}
-use Rattle.numbers.specs.Same.{Same, seq, given, same-trans, alt-same, Found, found, leafOf, Close, Spanned, spanned-same, spanned-alt}
+use Rattle.language.specs.Scalars.{nullWord, trueWord, falseWord, nanWord, infinityWord, Keyword, Digits, One, signed, Pointed, Exponent, Plain}
+use Rattle.numbers.specs.Same.{Same, seq, given, same-trans, alt-same, Found, found, Close, Spanned, spanned-same, spanned-alt}
 
 -- WHAT IS READ: a keyword
 abbrev pub Said : ℕ → List ℕ → List ℕ → Lang Found

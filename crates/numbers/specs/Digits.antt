@@ -1,17 +1,16 @@
 -- DIGITS, with single spaces between them where `spaced` holds: the reader, and that it is exact. Assumes nothing.
-use mathlib.Core.Path.{_≡_, refl, sym, ap, subst, _∙_}
+use mathlib.Core.Path.{_≡_, refl, ap}
 use mathlib.Core.List.{List, [], _∷_, _++_}
-use mathlib.Core.Logic.{_⊎_, inl, inr}
+use mathlib.Core.Logic.{inl, inr}
 use mathlib.Core.Bool.{Bool, true, false}
-use Prim.Native.Nat.{ℕ, suc, _+_, _≤_}
+use Prim.Native.Nat.{ℕ, suc, _+_}
 use native.Mathlib.Omega.{arith}
-use lib.ListN.{length, take}
-use Rattle.notation.specs.Lang.{Lang, Byte, byte, Seq, Star, one, two}
+use Rattle.notation.specs.Lang.{Byte, byte, Star, two}
 use Rattle.exact.specs.Class.{pick, Starts, clash, and, or, and-of, is, only}
-use Rattle.exact.specs.Out.{Out, Reader, bind, Tame, Firm, firm-bind, ok, bad}
-use Rattle.exact.specs.Lang.{bar, None, Exact, within-bar, within-same, within-none, weaken, retR, byteR, byte-exact}
+use Rattle.exact.specs.Out.{Reader, bind, Tame, Firm, firm-bind, ok, bad}
+use Rattle.exact.specs.Lang.{bar, None, Exact, within-bar, within-same, weaken, retR, byteR, byte-exact}
 use Rattle.exact.specs.Comb.{seqR, seq-exact, map-exact, altR, manyR}
-use Rattle.exact.specs.Ll.{Shape, Begun, by-first, Ll, ret-ll, byteS, byte-ll, seq-ll, alt-ll, star-ll, relax, byte₁}
+use Rattle.exact.specs.Ll.{Shape, Begun, by-first, Ll, ret-ll, byte-ll, seq-ll, alt-ll, star-ll, relax, byte₁}
 use Rattle.exact.specs.Block.{manyG, Clear, Looks, starG-exact, lead, lead-near}
 use Rattle.language.specs.Scalars.{digit, Further, Digits}
 use Rattle.numbers.specs.Looked.{Look, On, Looked}

@@ -1,12 +1,12 @@
 -- What may follow a number: a byte that is no space and no byte of a number, or two spaces. Assumes nothing.
 use mathlib.Core.Path.{_≡_, refl}
 use mathlib.Core.List.{List, [], _∷_}
-use mathlib.Core.Logic.{_⊎_, inl, inr}
+use mathlib.Core.Logic.{inl, inr}
 use mathlib.Core.Bool.{Bool, true, false}
 use Prim.Native.Nat.{ℕ}
 use Rattle.exact.specs.Class.{Starts, Class, is, only, apart, none}
 use Rattle.language.specs.Scalars.{digit}
-use Rattle.numbers.specs.Looked.{On, on-none}
+use Rattle.numbers.specs.Looked.{on-none}
 use Rattle.numbers.specs.Digits.{gap}
 use Rattle.numbers.specs.Plain.{NumberOn, numberMore}
 

@@ -7,3 +7,8 @@ pub mod Follows
 pub mod Opening
 pub mod Clean
 pub mod Vectors
+pub mod Places
+pub mod Numbers
+pub mod Texts
+pub mod Keyword
+pub mod Contract

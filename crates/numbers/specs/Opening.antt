@@ -1,19 +1,19 @@
 -- The reader of keywords and numbers goes beyond each of its first bytes, and refuses at once what begins with another. Assumes nothing.
-use mathlib.Core.Path.{_≡_, refl, ap, _∙_}
+use mathlib.Core.Path.{_≡_, refl, ap}
 use mathlib.Core.List.{List, [], _∷_, _++_}
 use mathlib.Core.Bool.{Bool, true, false}
-use Prim.Native.Nat.{ℕ, _<_}
-use Rattle.exact.specs.Class.{pick, clash, Class, is, only, sub, inside, left, right}
-use Rattle.exact.specs.Out.{Out, Reader, bind, reach, Tame, bad}
+use Prim.Native.Nat.{ℕ}
+use Rattle.exact.specs.Class.{clash, Class, is, only, sub, inside, left, right}
+use Rattle.exact.specs.Out.{Reader, bind, Tame}
 use Rattle.exact.specs.Lang.{retR, ret-exact, byteR}
 use Rattle.exact.specs.Comb.{seqR, seq-tame, altR, alt-tame}
-use Rattle.exact.specs.Ll.{hereR, here-ll, wordR, word-ll}
+use Rattle.exact.specs.Ll.{hereR, here-ll, word-ll}
 use Rattle.exact.specs.More.{tame-any, Goes, byte-goes, seq-goes, here-goes, alt-goes, Shuts}
-use Rattle.language.specs.Kind.{NULL, FALSE, TRUE, INTEGER, FLOAT}
-use Rattle.language.specs.Scalars.{trueWord, falseWord, nanWord, infinityWord, digit, signed}
+use Rattle.language.specs.Kind.{NULL, FALSE, TRUE, FLOAT}
+use Rattle.language.specs.Scalars.{nanWord, infinityWord, digit}
 use Rattle.numbers.specs.Digits.{digitsR, more-tame, digits-looked}
-use Rattle.numbers.specs.Same.{Found, found, leafOf}
-use Rattle.numbers.specs.Plain.{saidR, oneR, optionR, exponentR, fractionR, afterR, unsignedR, nanR, signedR, bodyR, plainR, plainFirst, power-looked, after-looked, unsigned-looked}
+use Rattle.numbers.specs.Same.{found, leafOf}
+use Rattle.numbers.specs.Plain.{saidR, oneR, fractionR, unsignedR, nanR, signedR, bodyR, plainR, plainFirst, power-looked, after-looked, unsigned-looked}
 
 -- SHUTS: the combinators keep it
 is-false : (c d : Class) (b : ℕ) → (is c b ≡ true → is d b ≡ true) → is d b ≡ false → is c b ≡ false

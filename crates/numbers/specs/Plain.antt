@@ -6,16 +6,16 @@ use Prim.Native.Nat.{ℕ}
 use Rattle.exact.specs.Class.{Starts, clash, _to_, Class, is, only}
 use Rattle.exact.specs.Out.{Reader}
 use Rattle.exact.specs.Lang.{bar, Exact, retR, byteR}
-use Rattle.exact.specs.Comb.{Seq, Alt, seqR, mapR, altR}
+use Rattle.exact.specs.Comb.{seqR, mapR, altR}
 use Rattle.exact.specs.Ll.{Shape, Begun, by-first, by-null, Ll, retS, ret-ll, byteS, byte-ll, byte₁, seqS, seq-ll, alt-ll, relax, hereR, here-ll, wordR, wordS, word-ll}
 use Rattle.language.specs.Kind.{NULL, FALSE, TRUE, INTEGER, FLOAT}
 use Rattle.language.specs.Tree.{Tree}
 use Rattle.language.specs.Characters.{Option}
 use Rattle.language.specs.Scalars.{trueWord, falseWord, nanWord, infinityWord, digit, One, signed, Exponent, Plain}
 use Rattle.numbers.specs.Looked.{On, Looked, of-ll, seq-looked, alt-looked, relax-looked, looked-iff, to-ll}
-use Rattle.numbers.specs.Digits.{gap, digitsR, digitsS, digits-looked}
+use Rattle.numbers.specs.Digits.{gap, digitsR, digits-looked}
 use Rattle.numbers.specs.Same.{Found, found, leafOf, Spanned}
-use Rattle.numbers.specs.Common.{Said, Fraction, Dotted, Powered, After, Unsigned, Nan, Signed, Body, plain-same}
+use Rattle.numbers.specs.Common.{Said, Fraction, Dotted, After, Unsigned, Nan, Signed, Body, plain-same}
 
 -- READERS
 abbrev pub saidR : ℕ → List ℕ → List ℕ → Reader Found

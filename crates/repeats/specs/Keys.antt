@@ -7,15 +7,39 @@ use native.Mathlib.Nat.{add-zero, mod-lt}
 use native.Mathlib.Numerals.{add-one}
 use native.Mathlib.Omega.{arith}
 use lib.ListN.{length, getD}
+use lib.Dec.{eqb}
+use borrow.Author.Tests.{eqb-true, eqb-false}
 use borrow.Author.Needs.{needs}
 use lib.Seq.{slice, slice-cons, slice-empty, length-slice}
-use Rattle.language.specs.Kind.{KEY}
 use Rattle.language.specs.Tree.{width}
 
 -- an answer that tells whether A holds
 abbrev pub Tells : Type 0 → Bool → Type 0
 Tells A true = A
 Tells A false = A → ⊥
+
+pub tells-yes : {A : Type 0} (r : Bool) → r ≡ true → Tells A r → A
+tells-yes r e t = rw e at t
+
+pub tells-no : {A : Type 0} (r : Bool) → r ≡ false → Tells A r → A → ⊥
+tells-no r e t = rw e at t
+
+pub tells-map : {A B : Type 0} → (A → B) → (B → A) → (r : Bool) → Tells A r → Tells B r
+tells-map f g true t = f t
+tells-map f g false t = λ b. t (g b)
+
+pub tells-eqb : (a b : ℕ) → Tells (a ≡ b) (eqb a b)
+tells-eqb a b = by (eqb a b) refl
+  where
+    by : (r : Bool) → eqb a b ≡ r → Tells (a ≡ b) r
+    by true e = eqb-true a b e
+    by false e = eqb-false a b e
+
+abbrev pub kindOf : List ℕ → ℕ → ℕ
+kindOf rows i = getD rows (width * i) 0
+
+abbrev pub startOf : List ℕ → ℕ → ℕ
+startOf rows i = getD rows (width * i + 1) 0
 
 abbrev pub objectOf : List ℕ → ℕ → ℕ
 objectOf rows i = getD rows (width * i + 5) 0
@@ -49,6 +73,12 @@ spread h = (h + h / 1048576) % 4096
 
 unfoldable pub markOf : List ℕ → List ℕ → ℕ → ℕ
 markOf rows text i = spread (stir (objectOf rows i) (textAt rows text i))
+
+pub mark-low : (rows text : List ℕ) (i : ℕ) → markOf rows text i < 4096
+unfolding markOf
+mark-low rows text i =
+    let h = stir (objectOf rows i) (textAt rows text i) in
+    mod-lt (h + h / 1048576) (omega arith)
 
 pub same-mark : (rows text : List ℕ) (i k : ℕ) → Same rows text i k → markOf rows text i ≡ markOf rows text k
 unfolding markOf
@@ -99,16 +129,19 @@ module _ (rows text : List ℕ) (i k n : ℕ) (x : Keyed rows text i) (y : Keyed
       h (omega (arith, sym (length-slice (fromOf rows i) (toOf rows i) text (x .fits)) ∙ (ap length (s .texts) ∙ length-slice (fromOf rows k) (toOf rows k) text (y .fits))))
 
   -- told by their texts, where the objects and the lengths are the same
-  pub same-told : (r : Bool) (m o q : ℕ) → o ≡ objectOf rows i → q ≡ objectOf rows k → o ≡ q → m ≡ toOf rows k - fromOf rows k → m ≡ n
-      → Tells (slice (fromOf rows i) (fromOf rows i + n) text ≡ slice (fromOf rows k) (fromOf rows k + n) text) r → Tells (Same rows text i k) r
-  same-told r m o q u v w g h t = by r t
+  pub same-told : (r : Bool) (m o q a b : ℕ) → o ≡ objectOf rows i → q ≡ objectOf rows k → o ≡ q → m ≡ toOf rows k - fromOf rows k → m ≡ n → a ≡ fromOf rows i → b ≡ fromOf rows k
+      → Tells (slice a (a + n) text ≡ slice b (b + n) text) r → Tells (Same rows text i k) r
+  same-told r m o q a b u v w g h f f′ t = by r t
     where
-      ends′ : fromOf rows k + n ≡ toOf rows k
+      ends′ : b + n ≡ toOf rows k
       ends′ = omega (arith, y .ordered)
 
-      by : (r : Bool) → Tells (slice (fromOf rows i) (fromOf rows i + n) text ≡ slice (fromOf rows k) (fromOf rows k + n) text) r → Tells (Same rows text i k) r
-      by true z = record { objects = cc; texts = rw (ends, ends′) at z }
-      by false z = λ s. z (rw (ends, ends′) (s .texts))
+      ends″ : a + n ≡ toOf rows i
+      ends″ = omega (arith, ends)
+
+      by : (r : Bool) → Tells (slice a (a + n) text ≡ slice b (b + n) text) r → Tells (Same rows text i k) r
+      by true z = record { objects = cc; texts = rw (ends″, ends′, f, f′) at z }
+      by false z = λ s. z (rw (ends″, ends′, f, f′) (s .texts))
 
 pub same-other : (rows text : List ℕ) (i k o q : ℕ) → o ≡ objectOf rows i → q ≡ objectOf rows k → (o ≡ q → ⊥) → Tells (Same rows text i k) false
 same-other rows text i k o q u v w s = w (let z = s .objects in cc)

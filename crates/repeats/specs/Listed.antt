@@ -2,16 +2,17 @@
 use mathlib.Core.Path.{_≡_, refl, sym, ap, subst, _∙_}
 use mathlib.Core.List.{List, [], _∷_, _++_, append-assoc, append-nil}
 use mathlib.Core.Bool.{Bool, true, false}
-use Prim.Native.Nat.{ℕ, zero, suc, _+_, _-_, _*_, _≤_, _<_}
+use Prim.Native.Nat.{ℕ, zero, suc, _+_, _*_, _<_}
 use native.Mathlib.Nat.{zero-add, add-zero, suc-add}
 use native.Mathlib.Omega.{arith}
-use lib.ListN.{length, getD, take, drop, length-append, List·getD-append}
+use lib.ListN.{length, getD, drop, List·getD-append}
 use lib.Seq.{slice, drop-drop, drop-append-seam, take-append-seam, getD-drop}
 use lib.Dec.{eqb, leb}
 use borrow.Author.Tests.{eqb-true, ne-eqb}
 use Rattle.notation.specs.Class.{pick}
 use Rattle.language.specs.Kind.{TRUE, KEY}
 use Rattle.language.specs.Tree.{Tree, leaf, node, Forest, none, more, width, size, sizes, textOf, textsOf, rowList, leafRow, rowsOf, rowss}
+use Rattle.spans.specs.Formed.{Sound, sound-leaf, sound-node, Sounds, sound-none, sound-more}
 use Rattle.rooms.specs.Forest.{length-rows}
 use Rattle.repeats.specs.Flat.{Named, named, flat, flats}
 
@@ -41,13 +42,13 @@ pub record Stands (l : List ℕ) (i : ℕ) (vs : List ℕ) : Type 0 where
   pub is : drop i l ≡ vs ++ rest
 
 module _ (l : List ℕ) (i : ℕ) (us vs : List ℕ) (h : Stands l i (us ++ vs)) where
-  stands-left : Stands l i us
+  pub stands-left : Stands l i us
   stands-left = record { rest = vs ++ h .rest; is = h .is ∙ append-assoc us vs (h .rest) }
 
-  stands-right : Stands l (i + length us) vs
+  pub stands-right : Stands l (i + length us) vs
   stands-right = record { rest = h .rest; is = sym (drop-drop (length us) i l) ∙ (ap (drop (length us)) (h .is ∙ append-assoc us vs (h .rest)) ∙ drop-append-seam us (vs ++ h .rest)) }
 
-stands-word : (l : List ℕ) (i : ℕ) (vs : List ℕ) (j : ℕ) → j < length vs → Stands l i vs → getD l (i + j) 0 ≡ getD vs j 0
+pub stands-word : (l : List ℕ) (i : ℕ) (vs : List ℕ) (j : ℕ) → j < length vs → Stands l i vs → getD l (i + j) 0 ≡ getD vs j 0
 stands-word l i vs j k h = sym (getD-drop i l j 0) ∙ (ap (λ (m : List ℕ). getD m j 0) (h .is) ∙ List·getD-append vs (h .rest) 0 j k)
 
 slice-of : (x : ℕ) (l s rest : List ℕ) → drop x l ≡ s ++ rest → slice x (x + length s) l ≡ s
@@ -56,21 +57,29 @@ slice-of (suc x) [] [] rest h = rw suc-add refl
 slice-of (suc x) [] (v ∷ s) rest h = let z : _≡_ {A = ℕ} 0 1 = cc in absurd (omega arith)
 slice-of (suc x) (y ∷ l) s rest h = rw suc-add (slice-of x l s rest h)
 
--- no container is a key
-mutual
-  pub data Sound : Tree → Type 0 where
-    sound-leaf : {k a e : ℕ} {s : List ℕ} → Sound (leaf k a e s)
-    sound-node : {k a e c : ℕ} {ts : Forest} → (k ≡ KEY → ⊥) → Sounds ts → Sound (node k a e c ts)
-
-  pub data Sounds : Forest → Type 0 where
-    sound-none : Sounds none
-    sound-more : {t : Tree} {ts : Forest} → Sound t → Sounds ts → Sounds (more t ts)
-
 module _ (rows text : List ℕ) where
   -- a row that is none of a key
   no-key : (i k : ℕ) → getD rows (width * i) 0 ≡ k → (k ≡ KEY → ⊥) → keyRow rows text i ≡ []
   unfolding keyRow
   no-key i k h n = rw (h, ne-eqb k KEY n)
+
+  -- the words of a leaf's row
+  pub leaf-kind : (r p x k a e : ℕ) (s : List ℕ) → Stands rows (width * r) (leafRow r p x k a e s) → getD rows (width * r) 0 ≡ k
+  leaf-kind r p x k a e s h = by (leb k TRUE) refl
+    where
+      by : (c : Bool) → leb k TRUE ≡ c → getD rows (width * r) 0 ≡ k
+      by true z =
+          let y : Stands rows (width * r) (rowList k a e 0 0 p (r + 1)) = rw z at h in
+          ap (λ (j : ℕ). getD rows j 0) (sym (add-zero (width * r))) ∙ stands-word rows (width * r) (rowList k a e 0 0 p (r + 1)) 0 (omega arith) y
+      by false z =
+          let y : Stands rows (width * r) (rowList k a e x (x + length s) p (r + 1)) = rw z at h in
+          ap (λ (j : ℕ). getD rows j 0) (sym (add-zero (width * r))) ∙ stands-word rows (width * r) (rowList k a e x (x + length s) p (r + 1)) 0 (omega arith) y
+
+  pub key-word : (r p x k a e : ℕ) (s : List ℕ) → k ≡ KEY → Stands rows (width * r) (leafRow r p x k a e s) → (j : ℕ) → j < 7
+      → getD rows (width * r + j) 0 ≡ getD (rowList KEY a e x (x + length s) p (r + 1)) j 0
+  key-word r p x k a e s q h j l =
+      let y : Stands rows (width * r) (rowList KEY a e x (x + length s) p (r + 1)) = subst (λ (j : ℕ). Stands rows (width * r) (leafRow r p x j a e s)) q h in
+      stands-word rows (width * r) (rowList KEY a e x (x + length s) p (r + 1)) j l y
 
   -- the row of a leaf
   leaf-row : (r p x k a e : ℕ) (s : List ℕ) → Stands rows (width * r) (leafRow r p x k a e s) → Stands text x s
@@ -78,21 +87,11 @@ module _ (rows text : List ℕ) where
   unfolding keyRow
   leaf-row r p x k a e s h t = by (eqb k KEY) refl
     where
-      kind-word : (c : Bool) → leb k TRUE ≡ c → getD rows (width * r) 0 ≡ k
-      kind-word true z =
-          let y : Stands rows (width * r) (rowList k a e 0 0 p (r + 1)) = rw z at h in
-          ap (λ (j : ℕ). getD rows j 0) (sym (add-zero (width * r))) ∙ stands-word rows (width * r) (rowList k a e 0 0 p (r + 1)) 0 (omega arith) y
-      kind-word false z =
-          let y : Stands rows (width * r) (rowList k a e x (x + length s) p (r + 1)) = rw z at h in
-          ap (λ (j : ℕ). getD rows j 0) (sym (add-zero (width * r))) ∙ stands-word rows (width * r) (rowList k a e x (x + length s) p (r + 1)) 0 (omega arith) y
-
       by : (c : Bool) → eqb k KEY ≡ c → keyRow rows text r ≡ pick c (named p a s ∷ []) []
       by true z =
-          let q : k ≡ KEY = eqb-true k KEY z in
-          let y : Stands rows (width * r) (rowList KEY a e x (x + length s) p (r + 1)) = subst (λ (j : ℕ). Stands rows (width * r) (leafRow r p x j a e s)) q h in
-          let w : (j : ℕ) → j < 7 → getD rows (width * r + j) 0 ≡ getD (rowList KEY a e x (x + length s) p (r + 1)) j 0 = λ j l. stands-word rows (width * r) (rowList KEY a e x (x + length s) p (r + 1)) j l y in
-          rw (kind-word (leb k TRUE) refl, z, w 1 (omega arith), w 3 (omega arith), w 4 (omega arith), w 5 (omega arith), slice-of x text s (t .rest) (t .is)) refl
-      by false z = rw (kind-word (leb k TRUE) refl, z) refl
+          let w = key-word r p x k a e s (eqb-true k KEY z) h in
+          rw (leaf-kind r p x k a e s h, z, w 1 (omega arith), w 3 (omega arith), w 4 (omega arith), w 5 (omega arith), slice-of x text s (t .rest) (t .is)) refl
+      by false z = rw (leaf-kind r p x k a e s h, z) refl
 
   mutual
     unfolding flat listed size rowsOf textOf

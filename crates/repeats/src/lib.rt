@@ -1,1 +1,207 @@
-// Laws of repeated keys stand in specs/.
+// Repeated keys, found in the rows of a document: the keys seen stand in chains, one for each mark of an object's row and a key's text.
+ghost use mathlib.Core.Path.{_≡_};
+ghost use Prim.Native.Nat.{ℕ, _+_, _*_, _%_, _≤_, _<_};
+ghost use lib.ListN.{length, getD};
+ghost use lib.Seq.{slice};
+ghost use Rattle.language.specs.Tree.{width};
+ghost use Rattle.language.specs.Kind.{KEY};
+ghost use Rattle.repeats.specs.Keys.{Tells, Keyed, kindOf, Same, spread, markOf};
+ghost use Rattle.repeats.specs.Chains.{Met, Walkable, Noting, Noted, Table};
+ghost use Rattle.repeats.specs.Later.{Names, Later, lesser, Turning, Turned, Starting};
+ghost use Rattle.repeats.specs.Twice.{FirstRepeat};
+use language::Kind;
+use rooms::WIDTH;
+
+// Where the first key stands that is the same as an earlier one of its object, if there is one.
+pub enum Repeat {
+    At(usize),
+    Nowhere,
+}
+
+// Whether the n bytes from a on are those from b on.
+fn same_text(text: &[u8], a: usize, b: usize, n: usize) -> bool
+    requires { ⌜ (a + n ≤ length (now text)) × (b + n ≤ length (now text)) ⌝ }
+    ensures { λ r. ⌜ Tells (slice a (a + n) (now (text .entry)) ≡ slice b (b + n) (now (text .entry))) r ⌝ }
+{
+    let mut i = 0;
+    while i < n {
+        if text[a + i] != text[b + i] {
+            return false;
+        }
+        i += 1;
+    }
+    true
+}
+
+// A word of a row, as a number of bytes or rows.
+fn word(rows: &[u32], i: usize, j: usize) -> usize
+    requires { ⌜ width * i + j < length (now rows) ⌝ }
+    ensures { λ r. ⌜ (r ≡ getD (now (rows .entry)) (width * i + j) 0) × (r < 4294967296) ⌝ }
+{
+    rows[WIDTH * i + j] as usize
+}
+
+// Whether the keys of two rows have one object and one text.
+fn same_key(rows: &[u32], text: &[u8], i: usize, k: usize) -> bool
+    requires { ⌜ Keyed (now rows) (now text) i × Keyed (now rows) (now text) k ⌝ }
+    ensures { λ r. ⌜ Tells (Same (now (rows .entry)) (now (text .entry)) i k) r ⌝ }
+{
+    if word(&*rows, i, 5) != word(&*rows, k, 5) {
+        return false;
+    }
+    let a = word(&*rows, i, 3);
+    let b = word(&*rows, k, 3);
+    let n = word(&*rows, i, 4) - a;
+    if word(&*rows, k, 4) - b != n {
+        return false;
+    }
+    same_text(&*text, a, b, n)
+}
+
+// A byte stirred into a mark.
+fn stirred(h: usize, b: u8) -> usize
+    requires { ⌜ h < 4294967296 ⌝ }
+    ensures { λ r. ⌜ r ≡ (31 * h + b) % 4294967296 ⌝ }
+{
+    (31 * h + b as usize) % 4294967296
+}
+
+// The chain that a mark belongs to.
+fn chain_of(h: usize) -> usize
+    requires { ⌜ h < 4294967296 ⌝ }
+    ensures { λ r. ⌜ r ≡ spread h ⌝ }
+{
+    (h + h / 1048576) % 4096
+}
+
+// The chain that the key of a row belongs to.
+fn mark(rows: &[u32], text: &[u8], i: usize) -> usize
+    requires { ⌜ Keyed (now rows) (now text) i ⌝ }
+    ensures { λ r. ⌜ r ≡ markOf (now (rows .entry)) (now (text .entry)) i ⌝ }
+{
+    let e = word(&*rows, i, 4);
+    let mut at = word(&*rows, i, 3);
+    let mut h = word(&*rows, i, 5);
+    while at < e {
+        h = stirred(h, text[at]);
+        at += 1;
+    }
+    chain_of(h)
+}
+
+// Whether a key in the chain from `head` is the same as that of row i. A link leads to an earlier row, so the walk ends.
+fn in_chain(rows: &[u32], text: &[u8], links: &[u32], head: usize, i: usize) -> bool
+    requires { ⌜ Walkable (now rows) (now text) (now links) head i ⌝ }
+    ensures { λ r. ⌜ Tells (Met (now (rows .entry)) (now (text .entry)) (now (links .entry)) head i) r ⌝ }
+{
+    let mut h = head;
+    while 0 < h {
+        let k = h - 1;
+        if same_key(&*rows, &*text, i, k) {
+            return true;
+        }
+        h = links[k] as usize;
+    }
+    false
+}
+
+// Whether the key of row i is the same as an earlier one; it becomes the head of its chain.
+fn note(rows: &[u32], text: &[u8], heads: &mut [u32], links: &mut [u32], i: usize) -> bool
+    requires { ⌜ Noting (now rows) (now text) (now heads) (now links) i ⌝ }
+    ensures { λ r. ⌜ Noted (now (rows .entry)) (now (text .entry)) (now (heads .exit)) (now (links .exit)) i r ⌝ }
+{
+    let m = mark(&*rows, &*text, i);
+    let head = heads[m];
+    let seen = in_chain(&*rows, &*text, &*links, head as usize, i);
+    links[i] = head;
+    heads[m] = (i + 1) as u32;
+    seen
+}
+
+// Whether a row is that of a key.
+fn is_key(rows: &[u32], i: usize) -> bool
+    requires { ⌜ width * i < length (now rows) ⌝ }
+    ensures { λ r. ⌜ Tells (kindOf (now (rows .entry)) i ≡ KEY) r ⌝ }
+{
+    let key = Kind::KEY;
+    rows[WIDTH * i] == key.0
+}
+
+// The lesser of the place found, if there is one, and p.
+fn least(best: Repeat, p: usize) -> usize
+    ensures { λ r. ⌜ r ≡ lesser best p ⌝ }
+{
+    let Repeat::At(q) = best else {
+        return p;
+    };
+    if q < p {
+        return q;
+    }
+    p
+}
+
+// The answer with one row more.
+fn turn(
+    rows: &[u32],
+    text: &[u8],
+    heads: &mut [u32],
+    links: &mut [u32],
+    i: usize,
+    best: Repeat,
+) -> Repeat
+    requires { ⌜ Turning (now rows) (now text) (now heads) (now links) i best ⌝ }
+    ensures { λ r. ⌜ Turned (now (rows .entry)) (now (text .entry)) (now (heads .exit)) (now (links .exit)) i r ⌝ }
+{
+    if is_key(&*rows, i) {
+        if note(&*rows, &*text, heads, links, i) {
+            return Repeat::At(least(best, word(&*rows, i, 1)));
+        }
+        return best;
+    }
+    best
+}
+
+// The first repeated key of n rows, over chains with no key in them. Where all keys have one mark this takes the square of their number.
+fn repeated(rows: &[u32], text: &[u8], heads: &mut [u32], links: &mut [u32], n: usize) -> Repeat
+    requires { ⌜ Starting (now rows) (now text) (now heads) (now links) n ⌝ }
+    ensures { λ r. ⌜ Names (Later (now (rows .entry)) (now (text .entry)) n) r ⌝ }
+{
+    let mut best = Repeat::Nowhere;
+    let mut i = 0;
+    while i < n {
+        best = turn(&*rows, &*text, heads, links, i, best);
+        i += 1;
+    }
+    best
+}
+
+// The same over links for 512 rows.
+fn among_few(rows: &[u32], text: &[u8], n: usize) -> Repeat
+    requires { ⌜ Table (now rows) (now text) n × (n ≤ 512) ⌝ }
+    ensures { λ r. ⌜ Names (Later (now (rows .entry)) (now (text .entry)) n) r ⌝ }
+{
+    let mut heads = [0u32; 4096];
+    let mut links = [0u32; 512];
+    repeated(&*rows, &*text, &mut heads, &mut links, n)
+}
+
+// The same over links for as many rows as a document can have.
+fn among_all(rows: &[u32], text: &[u8], n: usize) -> Repeat
+    requires { ⌜ Table (now rows) (now text) n ⌝ }
+    ensures { λ r. ⌜ Names (Later (now (rows .entry)) (now (text .entry)) n) r ⌝ }
+{
+    let mut heads = [0u32; 4096];
+    let mut links = [0u32; 32768];
+    repeated(&*rows, &*text, &mut heads, &mut links, n)
+}
+
+// The least start of a key of n rows that is the same as an earlier one of its object.
+pub fn first_repeat(rows: &[u32], text: &[u8], n: usize) -> Repeat
+    requires { ⌜ Table (now rows) (now text) n ⌝ }
+    ensures { λ r. ⌜ FirstRepeat (now (rows .entry)) (now (text .entry)) n r ⌝ }
+{
+    if n <= 512 {
+        return among_few(&*rows, &*text, n);
+    }
+    among_all(&*rows, &*text, n)
+}

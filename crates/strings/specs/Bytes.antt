@@ -3,10 +3,9 @@ use mathlib.Core.Path.{_≡_, refl, ap}
 use mathlib.Core.List.{List, [], _∷_, _++_}
 use mathlib.Core.Logic.{inl}
 use mathlib.Core.Bool.{Bool, true, false}
-use Prim.Native.Nat.{ℕ, zero, suc, _+_, _*_}
+use Prim.Native.Nat.{ℕ, suc, _+_, _*_}
 use native.Mathlib.Omega.{arith}
-use lib.ListN.{length}
-use Rattle.notation.specs.Lang.{Lang, Seq, _>>_, Alt, two, byte}
+use Rattle.notation.specs.Lang.{Lang, _>>_, Alt, two, byte}
 use Rattle.language.specs.Kind.{BYTES}
 use Rattle.language.specs.Tree.{Tree}
 use Rattle.language.specs.Characters.{Space}
@@ -133,10 +132,10 @@ look (b ∷ s) e = by (is lowhex b) refl e
     by false x y = let z = and-of (is (only 32) b) (digitNext s) y in spaced s (z .0) (z .1) e
 
 -- where they do not, a further pair is refused after at most one space
-fails : (at : ℕ) (s : List ℕ) → pairsOn s ≡ false → furtherR at s ≡ bad (at + lead 1 s)
+pub further-fails : (at : ℕ) (s : List ℕ) → pairsOn s ≡ false → furtherR at s ≡ bad (at + lead 1 s)
 unfolding furtherR pairR
-fails at [] e = ap bad (omega arith)
-fails at (b ∷ s) e = by (is lowhex b) (is (only 32) b) s e
+further-fails at [] e = ap bad (omega arith)
+further-fails at (b ∷ s) e = by (is lowhex b) (is (only 32) b) s e
   where
     second : (s : List ℕ) → digitNext s ≡ false → pairR (suc at) s ≡ bad (at + 1)
     second [] y = ap bad (omega arith)
@@ -156,7 +155,7 @@ looks =
       avoids = λ at s v at′ t x y. y;
       keeps = λ at b s v at′ t x e. clash e refl;
       look = λ s e. inl (look s e);
-      fails = fails;
+      fails = further-fails;
       near = lead-near 1;
       blank = λ at b t e. absurd (clash e refl);
     }

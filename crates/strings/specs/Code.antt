@@ -1,16 +1,16 @@
 -- The digits of `\u{..}`: a machine that counts them and keeps their number has the same words as the definition, and reads them exactly.
-use mathlib.Core.Path.{_≡_, refl, sym, ap, subst, _∙_}
+use mathlib.Core.Path.{_≡_, refl, subst}
 use mathlib.Core.List.{List, [], _∷_}
 use mathlib.Core.Logic.{_⊎_, inl, inr}
 use mathlib.Core.Bool.{Bool, true, false}
-use Prim.Native.Nat.{ℕ, zero, suc, _+_, _*_, _≤_, _<_}
+use Prim.Native.Nat.{ℕ, suc, _+_, _*_, _≤_, _<_}
 use native.Mathlib.Nat.{zero-add}
 use native.Mathlib.Omega.{arith}
 use native.Mathlib.Decide.{decLe}
 use lib.ListN.{length}
 use lib.Dec.{leb}
 use borrow.Author.Tests.{leb-true, leb-false}
-use Rattle.notation.specs.Lang.{Lang, Byte, byte, Seq, Star, nil, cons, Plus, Such, Ret, ret}
+use Rattle.notation.specs.Lang.{Lang, Byte, byte, Star, nil, cons, Ret, ret}
 use Rattle.language.specs.Strings.{hexdigit, hexval, hexNumber, scalar, Code}
 use Rattle.exact.specs.Class.{Starts, pick, and, or, clash, is, within, _to_, and-of, or-of, range-of, leb-yes, and-true, or-left, or-right}
 use Rattle.exact.specs.Out.{Reader}

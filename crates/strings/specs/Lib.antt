@@ -5,3 +5,10 @@ pub mod Keys
 pub mod Bytes
 pub mod Clean
 pub mod Vectors
+pub mod Turns
+pub mod Plain
+pub mod Rest
+pub mod Settled
+pub mod Contract
+pub mod Inside
+pub mod Hexes

@@ -3,10 +3,10 @@ use mathlib.Core.Path.{_≡_, refl}
 use mathlib.Core.List.{List, [], _∷_}
 use Prim.Native.Nat.{ℕ}
 use Rattle.language.specs.Kind.{STRING, KEY, BYTES}
-use Rattle.language.specs.Tree.{Tree, leaf}
+use Rattle.language.specs.Tree.{leaf}
 use Rattle.language.specs.Strings.{hexNumber}
 use Rattle.exact.specs.Class.{is, only}
-use Rattle.exact.specs.Out.{Out, Reader, ok, soft, bad, finish}
+use Rattle.exact.specs.Out.{Reader, soft, finish}
 use Rattle.exact.specs.Verdict.{Res, acc, stop}
 use Rattle.exact.specs.Lang.{retR, byteR, endR}
 use Rattle.exact.specs.Comb.{seqR}

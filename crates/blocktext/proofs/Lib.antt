@@ -1,0 +1,5 @@
+-- What several proofs use.
+pub mod LineLaws
+pub mod BodyLaws
+pub mod PutLaws
+pub mod StringLaws

@@ -1,0 +1,55 @@
+-- `put_body` meets its contract: with the lines that are left the text would be the body's.
+use native.Mathlib.Omega.{arith}
+use mathlib.Core.Path.{_≡_, refl, _∙_}
+use Prim.Native.Nat.{_+_, _-_}
+use lib.ListN.{length}
+use lib.Seq.{sets}
+use Rattle.language.specs.BlockText.{bodyText}
+use Rattle.blocktext.specs.Contract.{bodyLines}
+use Rattle.blocktext.proofs.PutLaws.{Putting, put-first, put-lined, put-on, put-further, put-stored, putting}
+use Rattle.blocktext.proofs.body.put_body.Statement.{statement}
+use Rattle.blocktext.proofs.body.put_body.Tie as tie
+use Rattle.blocktext.proofs.body.put_body.Reads as reads
+use Rattle.blocktext.proofs.body.put_body.Lts as lts
+use Rattle.blocktext.proofs.body.put_line.Reads as put-line-reads
+
+abbrev Inv-loop : tie.InvT-loop
+Inv-loop doc text₀ e last col least x n₀ text n = Putting doc col least last (x + length (bodyText (bodyLines doc e col))) (sets text₀ x (bodyText (bodyLines doc e col))) n text × (length text ≡ length text₀)
+
+abbrev μ-loop : tie.MeasureT-loop
+μ-loop doc text₀ e last col least x n₀ text n = last - n .at
+
+add-t9 : tie.Need-add-t9 Inv-loop μ-loop
+add-t9 c = search putting
+
+loop-holds : tie.Need-loop-holds Inv-loop μ-loop
+loop-holds c = (put-first _ _ _ _ _ _ _ ((c .before .before .pre)), refl)
+
+put-line-requires : tie.Need-put-line-requires Inv-loop μ-loop
+put-line-requires c κs = put-lined _ _ _ _ _ _ _ _ ((c .before .before .before .loop) .inv .0) ((c .before .if1) .taken)
+
+loop-less : tie.Need-loop-less Inv-loop μ-loop
+loop-less c = omega (arith, put-further _ _ _ _ _ _ _ _ ((c .before .before .before .before .before .before .loop) .inv .0) ((c .before .before .before .before .if1) .taken) _ _ ((c .before .before .put-line) .ensures))
+
+loop-again : tie.Need-loop-again Inv-loop μ-loop
+loop-again c = (put-on _ _ _ _ _ _ _ _ ((c .before .before .before .before .before .before .loop) .inv .0) ((c .before .before .before .before .if1) .taken) _ _ ((c .before .before .put-line) .ensures), (c .before .before .put-line) .kept .1 .0 ∙ (c .before .before .before .before .before .before .loop) .inv .1)
+
+same-length : tie.Need-same-length Inv-loop μ-loop
+same-length c = search putting
+
+returns : tie.Need-returns Inv-loop μ-loop
+returns c = put-stored _ _ _ _ _ _ _ _ _ ((c .before .before .loop) .inv .0) ((c .if1) .left)
+
+pub put-body-spec : {M : Type 1} → statement M
+put-body-spec =
+    tie.close
+    (tie.spec
+    Inv-loop
+    μ-loop
+    add-t9
+    loop-holds
+    put-line-requires
+    loop-less
+    loop-again
+    same-length
+    returns)

@@ -1,0 +1,256 @@
+-- Laws of digits at a place, as the tests and loops of the code say them. Assumes nothing.
+use mathlib.Core.Path.{_≡_, refl, sym, ap, _∙_}
+use mathlib.Core.List.{List, [], _∷_}
+use mathlib.Core.Bool.{Bool, true, false}
+use Prim.Native.Nat.{ℕ, zero, suc, _+_, _-_, _≤_, _<_}
+use native.Mathlib.Numerals.{add-one}
+use native.Mathlib.Omega.{arith}
+use lib.ListN.{length, getD, drop, length-drop}
+use lib.Dec.{leb}
+use lib.Seq.{drop-drop, getD-drop}
+use borrow.Author.Needs.{needs}
+use borrow.Author.Tests.{le-leb, lt-leb}
+use Rattle.exact.specs.Class.{pick, and, or, and-of, clash, is, only, none, only-no, only-yes, only-eq}
+use Rattle.exact.specs.Place.{peek, peek-in, getD-any, run, runEnd, run-none, run-more, run-over, There, there, byte-there, none-there}
+use Rattle.language.specs.Scalars.{digit}
+use Rattle.numbers.specs.declared.digits.Stretch.{Stretch}
+use Rattle.numbers.specs.Digits.{next}
+use Rattle.numbers.specs.Places.{tail, tail-digit, tail-false, tailEnd, gapAt}
+use Rattle.numbers.specs.Contract.{Ran, Grouped}
+
+-- THE CLASS
+pub digit-yes : (b : ℕ) → 48 ≤ b → b ≤ 57 → is digit b ≡ true
+digit-yes b h k = simp (le-leb 48 b h, le-leb b 57 k)
+
+pub digit-low : (b : ℕ) → b < 48 → is digit b ≡ false
+digit-low b h = simp (lt-leb 48 b h)
+
+pub digit-high : (b : ℕ) → 57 < b → is digit b ≡ false
+digit-high b h = simp (le-leb 48 b (omega arith), lt-leb b 57 h)
+
+pub digit-in : (doc : List ℕ) (at : ℕ) → is digit (peek doc at) ≡ true → at < length doc
+digit-in doc at e = go (there doc at)
+  where
+    go : There doc at → at < length doc
+    go (byte-there h) = omega (arith, ap length h, length-drop at doc)
+    go (none-there h k) = absurd (clash e (ap (is digit) k))
+
+-- as the tests of one byte say it
+module _ (doc : List ℕ) (at b : ℕ) (h : b ≡ peek doc at) where
+  pub digit-test : b ≤ 57 → leb 48 b ≡ is digit (peek doc at)
+  digit-test l = rw (← h, le-leb b 57 l) (go (leb 48 b))
+    where
+      go : (x : Bool) → x ≡ or (and x true) false
+      go true = refl
+      go false = refl
+
+  pub no-digit : 57 < b → false ≡ is digit (peek doc at)
+  no-digit l = sym (ap (is digit) (sym h) ∙ digit-high b l)
+
+  pub gap-yes : (r : Bool) → b ≡ 32 → r ≡ is digit (peek doc (at + 1)) → r ≡ gapAt doc at
+  gap-yes r e k = rw (← h, only-yes 32 b e) k
+
+  pub gap-no : (b ≡ 32 → ⊥) → false ≡ gapAt doc at
+  gap-no n = rw (← h, only-no 32 b n) refl
+
+  pub space-in : b ≡ 32 → at < length doc
+  space-in e = peek-in doc at b h (omega arith)
+
+-- A RUN
+module _ (doc : List ℕ) (e : ℕ) (l : e < length doc) where
+  pub digits-stop : is digit (getD doc e 0) ≡ false → runEnd digit doc e ≡ e
+  digits-stop h = run-none digit doc e refl (rw (getD-any doc e 0 256 l) at h)
+
+  pub digits-more : is digit (getD doc e 0) ≡ true → runEnd digit doc e ≡ runEnd digit doc (e + 1)
+  digits-more h = run-more digit doc e l (rw (getD-any doc e 0 256 l) at h)
+
+-- the loop over a run stands at e
+pub record Passing (doc : List ℕ) (at e : ℕ) : Type 0 where
+  pub from : runEnd digit doc at ≡ runEnd digit doc e
+  pub ahead : at ≤ e
+  pub inside : e ≤ length doc
+
+module _ (doc : List ℕ) (at : ℕ) where
+  pub passing-first : at ≤ length doc → Passing doc at at
+  passing-first l = record { from = refl; ahead = omega arith; inside = l }
+
+  module _ (e : ℕ) (p : Passing doc at e) where
+    pub passing-more : e < length doc → 48 ≤ getD doc e 0 → getD doc e 0 ≤ 57 → Passing doc at (e + 1)
+    passing-more l h k = record { from = p .from ∙ digits-more doc e l (digit-yes (getD doc e 0) h k); ahead = omega (arith, p .ahead); inside = omega arith }
+
+    pub ran-low : e < length doc → getD doc e 0 < 48 → Ran doc at e
+    ran-low l h = record { end = sym (p .from ∙ digits-stop doc e l (digit-low (getD doc e 0) h)); ahead = p .ahead; inside = p .inside }
+
+    pub ran-high : e < length doc → 57 < getD doc e 0 → Ran doc at e
+    ran-high l h = record { end = sym (p .from ∙ digits-stop doc e l (digit-high (getD doc e 0) h)); ahead = p .ahead; inside = p .inside }
+
+    pub ran-over : length doc ≤ e → Ran doc at e
+    ran-over h = record { end = sym (p .from ∙ run-over digit doc e h); ahead = p .ahead; inside = p .inside }
+
+pub ruleset run-laws = (passing-first, passing-more, ran-low, ran-high, ran-over, needs)
+
+-- WHAT GOES ON
+tail-run : (spaced : Bool) (s : List ℕ) → tail spaced s ≡ run digit s + tail spaced (drop (run digit s) s)
+unfolding tail run
+tail-run spaced [] = refl
+tail-run spaced (b ∷ s) = by (is digit b) refl (tail-run spaced s)
+  where
+    by : (x : Bool) → is digit b ≡ x → tail spaced s ≡ run digit s + tail spaced (drop (run digit s) s)
+        → tail spaced (b ∷ s) ≡ pick x (suc (run digit s)) 0 + tail spaced (drop (pick x (suc (run digit s)) 0) (b ∷ s))
+    by true e ih = rw e (omega arith)
+    by false e ih = omega arith
+
+run-stops : (s : List ℕ) → next (drop (run digit s) s) ≡ false
+unfolding run
+run-stops [] = refl
+run-stops (b ∷ s) = by (is digit b) refl (run-stops s)
+  where
+    by : (x : Bool) → is digit b ≡ x → next (drop (run digit s) s) ≡ false → next (drop (pick x (suc (run digit s)) 0) (b ∷ s)) ≡ false
+    by true e ih = ih
+    by false e ih = e
+
+next-peek : (doc : List ℕ) (at : ℕ) → next (drop at doc) ≡ is digit (peek doc at)
+next-peek doc at = go (there doc at)
+  where
+    go : There doc at → next (drop at doc) ≡ is digit (peek doc at)
+    go (byte-there h) = ap next h
+    go (none-there h k) = ap next h ∙ sym (ap (is digit) k)
+
+-- the run's end has no digit
+ran-stops : (doc : List ℕ) (at e : ℕ) → e ≡ runEnd digit doc at → is digit (peek doc e) ≡ false
+ran-stops doc at e h = sym (next-peek doc e) ∙ (rw (h, ← drop-drop (run digit (drop at doc)) at doc) (run-stops (drop at doc)))
+
+ran-some : (doc : List ℕ) (at e : ℕ) → e ≡ runEnd digit doc at → is digit (peek doc at) ≡ true → at < e
+ran-some doc at e h d =
+    let i = digit-in doc at d in
+    let m : runEnd digit doc at ≡ runEnd digit doc (at + 1) = run-more digit doc at i d in
+    omega arith
+
+ran-digit : (doc : List ℕ) (at e : ℕ) → e ≡ runEnd digit doc at → (e ≡ at → ⊥) → is digit (peek doc at) ≡ true
+ran-digit doc at e h k = go (is digit (peek doc at)) refl
+  where
+    go : (y : Bool) → is digit (peek doc at) ≡ y → is digit (peek doc at) ≡ true
+    go true z = z
+    go false z = absurd (k (h ∙ run-none digit doc at refl z))
+
+-- its last byte is one
+run-last : (s : List ℕ) (n : ℕ) → run digit s ≡ suc n → is digit (getD s n 256) ≡ true
+unfolding run
+run-last [] n h = absurd (omega arith)
+run-last (b ∷ s) n h = by (is digit b) refl n h (run digit s) refl (run-last s)
+  where
+    by : (x : Bool) → is digit b ≡ x → (n : ℕ) → pick x (suc (run digit s)) 0 ≡ suc n → (k : ℕ) → run digit s ≡ k
+        → ((n : ℕ) → run digit s ≡ suc n → is digit (getD s n 256) ≡ true) → is digit (getD (b ∷ s) n 256) ≡ true
+    by true e zero h k z ih = e
+    by true e (suc n) h k z ih = ih n (omega arith)
+    by false e n h k z ih = absurd (omega arith)
+
+ran-solid : (doc : List ℕ) (at e : ℕ) → e ≡ runEnd digit doc at → at < e → peek doc (e - 1) ≡ 32 → ⊥
+ran-solid doc at e h l z = go (run digit (drop at doc)) refl
+  where
+    go : (k : ℕ) → run digit (drop at doc) ≡ k → ⊥
+    go zero q = omega arith
+    go (suc n) q =
+        let i : e - 1 ≡ at + n = omega arith in
+        let d : is digit (peek doc (e - 1)) ≡ true = rw (i, ← getD-drop at doc n 256) (run-last (drop at doc) n q) in
+        none digit (only 32) (peek doc (e - 1)) refl d (only-yes 32 (peek doc (e - 1)) z)
+
+-- at its end, what goes on is the same
+tail-ran : (spaced : Bool) (doc : List ℕ) (at e : ℕ) → e ≡ runEnd digit doc at → tailEnd spaced doc at ≡ tailEnd spaced doc e
+tail-ran spaced doc at e h =
+    let n = run digit (drop at doc) in
+    let q : drop n (drop at doc) ≡ drop (at + n) doc = drop-drop n at doc in
+    rw h (omega (arith, rw q at (tail-run spaced (drop at doc))))
+
+tail-gap : (doc : List ℕ) (e : ℕ) → gapAt doc e ≡ true → tailEnd true doc e ≡ tailEnd true doc (e + 1)
+unfolding tail
+tail-gap doc e h = go (there doc e) (and-of (is (only 32) (peek doc e)) (is digit (peek doc (e + 1))) h)
+  where
+    go : There doc e → (is (only 32) (peek doc e) ≡ true) × (is digit (peek doc (e + 1)) ≡ true) → tailEnd true doc e ≡ tailEnd true doc (e + 1)
+    go (none-there q k) x = absurd (clash (x .0) (ap (is (only 32)) k))
+    go (byte-there q) x =
+        let y : next (drop (suc e) doc) ≡ true = next-peek doc (suc e) ∙ rw add-one at (x .1) in
+        let z : is digit (peek doc e) ≡ false = rw (only-eq 32 (peek doc e) (x .0)) refl in
+        rw (q, z, x .0, y, add-one) (omega arith)
+
+tail-stop : (doc : List ℕ) (e : ℕ) → is digit (peek doc e) ≡ false → gapAt doc e ≡ false → tailEnd true doc e ≡ e
+unfolding tail
+tail-stop doc e d h = go (there doc e)
+  where
+    go : There doc e → tailEnd true doc e ≡ e
+    go (none-there q k) = rw q (omega arith)
+    go (byte-there q) =
+        let y : next (drop (suc e) doc) ≡ is digit (peek doc (e + 1)) = next-peek doc (suc e) ∙ rw add-one refl in
+        rw (q, d, y, h) (omega arith)
+
+pub tail-some : (spaced : Bool) (doc : List ℕ) (at : ℕ) → is digit (peek doc at) ≡ true → at < tailEnd spaced doc at
+tail-some spaced doc at e = go (there doc at)
+  where
+    go : There doc at → at < tailEnd spaced doc at
+    go (byte-there h) = rw (h, tail-digit spaced (peek doc at) (drop (suc at) doc) e) (omega arith)
+    go (none-there h k) = absurd (clash e (ap (is digit) k))
+
+-- DIGITS WITH SPACES BETWEEN: the loop stands at e, behind a run of them
+pub record Going (doc : List ℕ) (at e : ℕ) (dense : Bool) : Type 0 where
+  pub from : tailEnd true doc at ≡ tailEnd true doc e
+  pub begun : is digit (peek doc at) ≡ true
+  pub over : is digit (peek doc e) ≡ false
+  pub ahead : at ≤ e
+  pub inside : e ≤ length doc
+  pub one-run : dense ≡ true → e ≡ runEnd digit doc at
+  pub solid : peek doc (e - 1) ≡ 32 → ⊥
+
+pub gap-inside : (doc : List ℕ) (e : ℕ) (r : Bool) → r ≡ gapAt doc e → r ≡ true → e + 1 ≤ length doc
+gap-inside doc e r g t = let h = sym g ∙ t in let x = and-of (is (only 32) (peek doc e)) (is digit (peek doc (e + 1))) h in let y = digit-in doc (e + 1) (x .1) in omega arith
+
+module _ (doc : List ℕ) (at e : ℕ) where
+  pub going-first : Ran doc at e → (e ≡ at → ⊥) → Going doc at e true
+  going-first r k =
+      record {
+        from = tail-ran true doc at e (r .end);
+        begun = ran-digit doc at e (r .end) k;
+        over = ran-stops doc at e (r .end);
+        ahead = r .ahead;
+        inside = r .inside;
+        one-run = λ _. r .end;
+        solid = ran-solid doc at e (r .end) (omega (arith, r .ahead));
+      }
+
+  pub going-more : (d : Bool) (e′ : ℕ) (b : Bool) → Going doc at e d → b ≡ gapAt doc e → b ≡ true → Ran doc (e + 1) e′ → Going doc at e′ false
+  going-more d e′ b g j t r =
+      let h = sym j ∙ t in
+      let d : is digit (peek doc (e + 1)) ≡ true = and-of (is (only 32) (peek doc e)) (is digit (peek doc (e + 1))) h .1 in
+      record {
+        from = g .from ∙ (tail-gap doc e h ∙ tail-ran true doc (e + 1) e′ (r .end));
+        begun = g .begun;
+        over = ran-stops doc (e + 1) e′ (r .end);
+        ahead = omega (arith, g .ahead, r .ahead);
+        inside = r .inside;
+        one-run = λ z. absurd (clash z refl);
+        solid = ran-solid doc (e + 1) e′ (r .end) (ran-some doc (e + 1) e′ (r .end) d);
+      }
+
+  pub going-done : (d b : Bool) → Going doc at e d → b ≡ gapAt doc e → b ≡ false → Grouped true doc at (record { end = e; dense = d })
+  going-done d b g j t =
+      let h = sym j ∙ t in
+      record { end = sym (rw (g .begun) (g .from ∙ tail-stop doc e (g .over) h)); ahead = g .ahead; inside = g .inside; dense = g .one-run; solid = λ _. g .solid }
+
+  pub group-none : Ran doc at e → e ≡ at → Grouped true doc at (record { end = e; dense = true })
+  group-none r k =
+      let z : is digit (peek doc at) ≡ false = rw (← k) (ran-stops doc at e (r .end)) in
+      record { end = rw (z, k); ahead = r .ahead; inside = r .inside; dense = λ _. r .end; solid = λ n. absurd (n k) }
+
+  group-false : Ran doc at e → Grouped false doc at (record { end = e; dense = true })
+  group-false r = record { end = r .end ∙ go (is digit (peek doc at)) refl; ahead = r .ahead; inside = r .inside; dense = λ _. r .end; solid = λ n. ran-solid doc at e (r .end) (omega (arith, r .ahead)) }
+    where
+      go : (y : Bool) → is digit (peek doc at) ≡ y → runEnd digit doc at ≡ pick y (tailEnd false doc at) at
+      go true z = ap (λ n. at + n) (sym (tail-false (drop at doc)))
+      go false z = run-none digit doc at refl z
+
+  pub group-plain : (spaced : Bool) → spaced ≡ false → Ran doc at e → Grouped spaced doc at (record { end = e; dense = true })
+  group-plain spaced h r = rw h (group-false r)
+
+pub group-spaced : (doc : List ℕ) (at : ℕ) (spaced : Bool) (g : Stretch) → spaced ≡ true → Grouped true doc at g → Grouped spaced doc at g
+group-spaced doc at spaced g h x = rw h x
+
+pub ruleset digit-laws = (no-digit, digit-test, gap-yes, gap-no, space-in, going-first, gap-inside, going-more, going-done, group-none, group-plain, group-spaced, needs)

@@ -1,0 +1,9 @@
+pub mod DigitLaws
+pub mod SqueezeLaws
+pub mod ScanLaws
+pub mod FloatLaws
+pub mod TextLaws
+pub mod IntegerLaws
+pub mod KeywordLaws
+pub mod PlainLaws
+pub mod NumberLaws

@@ -1,0 +1,74 @@
+-- Laws of slices without their spaces. Assumes nothing.
+use mathlib.Core.Path.{_≡_, refl, sym, ap, _∙_}
+use mathlib.Core.List.{List, [], _∷_, _++_}
+use mathlib.Core.Bool.{Bool, true, false}
+use Prim.Native.Nat.{ℕ, zero, suc, _+_, _≤_, _<_}
+use native.Mathlib.Numerals.{add-one}
+use native.Mathlib.Omega.{arith}
+use lib.ListN.{length, take, drop, take-append-drop}
+use lib.Seq.{slice, slice-cons, slice-empty, take-take}
+use lib.Dec.{eqb}
+use borrow.Author.Tests.{ne-eqb}
+use Rattle.exact.specs.Class.{pick}
+use Rattle.exact.specs.Place.{peek, runEnd}
+use Rattle.language.specs.Scalars.{digit}
+use Rattle.numbers.specs.declared.digits.Stretch.{Stretch}
+use Rattle.numbers.specs.Places.{squeezed, slice-at, run-dense}
+use Rattle.numbers.specs.Contract.{Grouped, Tight}
+
+-- one slice after another
+pub slice-join : (a b e : ℕ) (l : List ℕ) → a ≤ b → b ≤ e → slice a b l ++ slice b e l ≡ slice a e l
+slice-join zero b e l h k = ap (λ x. x ++ drop b (take e l)) (sym (take-take b e l k)) ∙ take-append-drop b (take e l)
+slice-join (suc a) zero e l h k = absurd (omega arith)
+slice-join (suc a) (suc b) zero l h k = absurd (omega arith)
+slice-join (suc a) (suc b) (suc e) [] h k = refl
+slice-join (suc a) (suc b) (suc e) (x ∷ l) h k = slice-join a b e l (omega arith) (omega arith)
+
+pub squeezed-append : (u v : List ℕ) → squeezed (u ++ v) ≡ squeezed u ++ squeezed v
+unfolding squeezed
+squeezed-append [] v = refl
+squeezed-append (b ∷ u) v = by (eqb b 32) (squeezed-append u v)
+  where
+    by : (x : Bool) → squeezed (u ++ v) ≡ squeezed u ++ squeezed v → pick x (squeezed (u ++ v)) (b ∷ squeezed (u ++ v)) ≡ pick x (squeezed u) (b ∷ squeezed u) ++ squeezed v
+    by true ih = ih
+    by false ih = ap (b ∷_) ih
+
+pub squeezed-le : (u : List ℕ) → length (squeezed u) ≤ length u
+unfolding squeezed
+squeezed-le [] = omega arith
+squeezed-le (b ∷ u) = by (eqb b 32) (squeezed-le u)
+  where
+    by : (x : Bool) → length (squeezed u) ≤ length u → length (pick x (squeezed u) (b ∷ squeezed u)) ≤ suc (length u)
+    by true ih = omega arith
+    by false ih = omega arith
+
+module _ (doc : List ℕ) where
+  pub squeeze-join : (a b e : ℕ) → a ≤ b → b ≤ e → squeezed (slice a b doc) ++ squeezed (slice b e doc) ≡ squeezed (slice a e doc)
+  squeeze-join a b e h k = sym (squeezed-append (slice a b doc) (slice b e doc)) ∙ ap squeezed (slice-join a b e doc h k)
+
+  pub tight-join : (a b e : ℕ) → a ≤ b → b ≤ e → Tight doc a b → Tight doc b e → Tight doc a e
+  tight-join a b e h k x y =
+      sym (squeeze-join a b e h k) ∙ (ap (λ u. u ++ squeezed (slice b e doc)) x ∙ (ap (λ u. slice a b doc ++ u) y ∙ slice-join a b e doc h k))
+
+  pub tight-none : (a : ℕ) → Tight doc a a
+  unfolding squeezed
+  tight-none a = rw (slice-empty a doc) refl
+
+  -- one byte that is no space
+  module _ (at b : ℕ) (h : b ≡ peek doc at) (n : b ≡ 32 → ⊥) (l : at < length doc) where
+    pub slice-byte : slice at (at + 1) doc ≡ b ∷ []
+    slice-byte = slice-cons at (at + 1) doc 256 (omega arith) (omega arith) ∙ rw (h, add-one, slice-empty (suc at) doc) refl
+
+    pub squeeze-byte : squeezed (slice at (at + 1) doc) ≡ b ∷ []
+    unfolding squeezed
+    squeeze-byte = ap squeezed slice-byte ∙ rw (ne-eqb b 32 n) refl
+
+    pub tight-byte : Tight doc at (at + 1)
+    tight-byte = squeeze-byte ∙ sym slice-byte
+
+  -- digits in one run
+  pub tight-run : (d e : ℕ) → e ≡ runEnd digit doc d → Tight doc d e
+  tight-run d e h = rw (h, ← slice-at d _ doc) (run-dense (drop d doc))
+
+  pub tight-group : (spaced : Bool) (d : ℕ) (g : Stretch) → Grouped spaced doc d g → g .dense ≡ true → Tight doc d (g .end)
+  tight-group spaced d g x h = tight-run d (g .end) (x .dense h)

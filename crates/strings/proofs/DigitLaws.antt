@@ -1,0 +1,201 @@
+-- Laws of hex digits, scalar values and letters behind a backslash, as the tests in code meet them.
+use mathlib.Core.Path.{_≡_, refl, _∙_}
+use mathlib.Core.List.{List}
+use mathlib.Core.Bool.{Bool, true, false}
+use Prim.Native.Nat.{ℕ, _-_, _≤_, _<_}
+use native.Mathlib.Omega.{arith}
+use native.Mathlib.Decide.{decLe}
+use lib.Dec.{leb}
+use borrow.Author.Needs.{needs}
+use borrow.Author.Tests.{le-leb, lt-leb}
+use mathlib.Core.Logic.{_⊎_, inl, inr}
+use Rattle.exact.specs.Class.{pick, clash, Class, is, within, _to_, sub, inside, and, or, or-of, range-of}
+use Rattle.exact.specs.Place.{peek}
+use Rattle.language.specs.Strings.{hexval, hexdigit, lowhex, scalar, lettered}
+use Rattle.strings.specs.Contract.{digitOf, DigitAt, lettering, Letter}
+
+-- ---- a digit at a place
+
+pub hexval-low : (b : ℕ) → is hexdigit b ≡ true → hexval b < 16
+hexval-low b e = by (or-of (within (48 to 57) b) (or (within (65 to 70) b) (or (within (97 to 102) b) false)) e)
+  where
+    lower : (within (97 to 102) b ≡ true) ⊎ (false ≡ true) → hexval b < 16
+    lower (inl x) = let h = range-of 97 102 b x in rw (lt-leb b 57 (omega arith), lt-leb b 70 (omega arith)) (omega arith)
+    lower (inr x) = absurd (clash x refl)
+
+    upper : (within (65 to 70) b ≡ true) ⊎ (or (within (97 to 102) b) false ≡ true) → hexval b < 16
+    upper (inl x) = let h = range-of 65 70 b x in rw (lt-leb b 57 (omega arith), le-leb b 70 (h .1)) (omega arith)
+    upper (inr x) = lower (or-of (within (97 to 102) b) false x)
+
+    by : (within (48 to 57) b ≡ true) ⊎ (or (within (65 to 70) b) (or (within (97 to 102) b) false) ≡ true) → hexval b < 16
+    by (inl x) = let h = range-of 48 57 b x in rw (le-leb b 57 (h .1)) (omega arith)
+    by (inr x) = upper (or-of (within (65 to 70) b) (or (within (97 to 102) b) false) x)
+
+digit-most : (c : Class) (b : ℕ) → sub c hexdigit ≡ true → digitOf c b ≤ 16
+unfolding digitOf
+digit-most c b h = by (is c b) refl
+  where
+    by : (x : Bool) → is c b ≡ x → pick x (hexval b) 16 ≤ 16
+    by true e = let l = hexval-low b (inside c hexdigit b h e) in omega arith
+    by false e = omega arith
+
+-- a byte of the class has its value, another one 16
+module _ (c : Class) (b : ℕ) where
+  data Digit : Type 0 where
+    digit : is c b ≡ true → digitOf c b ≡ hexval b → Digit
+    no-digit : is c b ≡ false → digitOf c b ≡ 16 → Digit
+
+  digit-of : Digit
+  unfolding digitOf
+  digit-of = by (is c b) refl
+    where
+      by : (x : Bool) → is c b ≡ x → Digit
+      by true e = digit e (rw e refl)
+      by false e = no-digit e (rw e refl)
+
+  pub digit-is : (d : ℕ) → d ≡ digitOf c b → (d ≡ 16 → ⊥) → (is c b ≡ true) × (d ≡ hexval b)
+  digit-is d e n = by digit-of
+    where
+      by : Digit → (is c b ≡ true) × (d ≡ hexval b)
+      by (digit h k) = (h, e ∙ k)
+      by (no-digit h k) = absurd (n (e ∙ k))
+
+  pub digit-none : sub c hexdigit ≡ true → (d : ℕ) → d ≡ digitOf c b → d ≡ 16 → is c b ≡ false
+  digit-none s d e m = by digit-of
+    where
+      by : Digit → is c b ≡ false
+      by (digit h k) = absurd (let l = hexval-low b (inside c hexdigit b s h) in omega arith)
+      by (no-digit h k) = h
+
+module _ (doc : List ℕ) (at b r : ℕ) (look : b ≡ peek doc at) where
+  pub hex-at : r ≡ digitOf hexdigit b → DigitAt hexdigit doc at r
+  hex-at h = record { is = rw (← look) h; most = rw h (digit-most hexdigit b refl) }
+
+  pub low-at : r ≡ digitOf lowhex b → DigitAt lowhex doc at r
+  low-at h = record { is = rw (← look) h; most = rw h (digit-most lowhex b refl) }
+
+-- ---- digits of either case
+
+module _ (b : ℕ) where
+  pub hex-below : b < 48 → 16 ≡ digitOf hexdigit b
+  unfolding digitOf
+  hex-below h = rw (lt-leb 48 b h, lt-leb 65 b (omega arith), lt-leb 97 b (omega arith)) refl
+
+  pub hex-decimal : 48 ≤ b → b ≤ 57 → b - 48 ≡ digitOf hexdigit b
+  unfolding digitOf
+  hex-decimal h k = rw (le-leb 48 b h, le-leb b 57 k) refl
+
+  pub hex-middle : 57 < b → b < 65 → 16 ≡ digitOf hexdigit b
+  unfolding digitOf
+  hex-middle h k = rw (le-leb 48 b (omega arith), lt-leb b 57 h, lt-leb 65 b k, lt-leb 97 b (omega arith)) refl
+
+  pub hex-upper : 65 ≤ b → b ≤ 70 → b - 55 ≡ digitOf hexdigit b
+  unfolding digitOf
+  hex-upper h k = rw (le-leb 48 b (omega arith), lt-leb b 57 (omega arith), le-leb 65 b h, le-leb b 70 k) refl
+
+  pub hex-between : 70 < b → b < 97 → 16 ≡ digitOf hexdigit b
+  unfolding digitOf
+  hex-between h k = rw (le-leb 48 b (omega arith), lt-leb b 57 (omega arith), le-leb 65 b (omega arith), lt-leb b 70 h, lt-leb 97 b k) refl
+
+  pub hex-lower : 97 ≤ b → b ≤ 102 → b - 87 ≡ digitOf hexdigit b
+  unfolding digitOf
+  hex-lower h k = rw (le-leb 48 b (omega arith), lt-leb b 57 (omega arith), le-leb 65 b (omega arith), lt-leb b 70 (omega arith), le-leb 97 b h, le-leb b 102 k) refl
+
+  pub hex-above : 102 < b → 16 ≡ digitOf hexdigit b
+  unfolding digitOf
+  hex-above h = rw (le-leb 48 b (omega arith), lt-leb b 57 (omega arith), le-leb 65 b (omega arith), lt-leb b 70 (omega arith), le-leb 97 b (omega arith), lt-leb b 102 h) refl
+
+  -- ---- lowercase digits
+
+  pub low-below : b < 48 → 16 ≡ digitOf lowhex b
+  unfolding digitOf
+  low-below h = rw (lt-leb 48 b h, lt-leb 97 b (omega arith)) refl
+
+  pub low-decimal : 48 ≤ b → b ≤ 57 → b - 48 ≡ digitOf lowhex b
+  unfolding digitOf
+  low-decimal h k = rw (le-leb 48 b h, le-leb b 57 k) refl
+
+  pub low-middle : 57 < b → b < 97 → 16 ≡ digitOf lowhex b
+  unfolding digitOf
+  low-middle h k = rw (le-leb 48 b (omega arith), lt-leb b 57 h, lt-leb 97 b k) refl
+
+  pub low-lower : 97 ≤ b → b ≤ 102 → b - 87 ≡ digitOf lowhex b
+  unfolding digitOf
+  low-lower h k = rw (le-leb 48 b (omega arith), lt-leb b 57 (omega arith), le-leb 97 b h, le-leb b 102 k, lt-leb b 70 (omega arith)) refl
+
+  pub low-above : 102 < b → 16 ≡ digitOf lowhex b
+  unfolding digitOf
+  low-above h = rw (le-leb 48 b (omega arith), lt-leb b 57 (omega arith), le-leb 97 b (omega arith), lt-leb b 102 h) refl
+
+-- ---- scalar values
+
+module _ (v : ℕ) where
+  pub scalar-low : v ≤ 55295 → true ≡ scalar v
+  scalar-low h = rw (le-leb 0 v (omega arith), le-leb v 55295 h) refl
+
+  pub scalar-gap : 55295 < v → v < 57344 → false ≡ scalar v
+  scalar-gap h k = rw (le-leb 0 v (omega arith), lt-leb v 55295 h, lt-leb 57344 v k) refl
+
+  pub scalar-high : 57344 ≤ v → leb v 1114111 ≡ scalar v
+  scalar-high h = rw (le-leb 0 v (omega arith), lt-leb v 55295 (omega arith), le-leb 57344 v h) (both (leb v 1114111))
+    where
+      both : (x : Bool) → x ≡ or x false
+      both true = refl
+      both false = refl
+
+pub ruleset digits = (hex-below, hex-decimal, hex-middle, hex-upper, hex-between, hex-lower, hex-above, hex-at, needs)
+
+pub ruleset lows = (low-below, low-decimal, low-middle, low-lower, low-above, low-at, needs)
+
+pub ruleset scalars = (scalar-low, scalar-gap, scalar-high, needs)
+
+-- ---- letters
+
+pub other : (a b : ℕ) → (b ≡ a → ⊥) → and (leb a b) (leb b a) ≡ false
+other a b n = by (decLe a b)
+  where
+    by : Dec (a ≤ b) → and (leb a b) (leb b a) ≡ false
+    by (yes h) = rw (le-leb a b h, lt-leb b a (omega (arith, n))) refl
+    by (no h) = rw (lt-leb a b (omega arith)) refl
+
+module _ (b : ℕ) where
+  pub letter-quote : b ≡ 34 → Letter b 34
+  unfolding lettering
+  letter-quote e = record { is = rw e refl; most = omega arith }
+
+  pub letter-slash : b ≡ 47 → Letter b 47
+  unfolding lettering
+  letter-slash e = record { is = rw e refl; most = omega arith }
+
+  pub letter-back : b ≡ 92 → Letter b 92
+  unfolding lettering
+  letter-back e = record { is = rw e refl; most = omega arith }
+
+  pub letter-b : b ≡ 98 → Letter b 8
+  unfolding lettering
+  letter-b e = record { is = rw e refl; most = omega arith }
+
+  pub letter-f : b ≡ 102 → Letter b 12
+  unfolding lettering
+  letter-f e = record { is = rw e refl; most = omega arith }
+
+  pub letter-n : b ≡ 110 → Letter b 10
+  unfolding lettering
+  letter-n e = record { is = rw e refl; most = omega arith }
+
+  pub letter-r : b ≡ 114 → Letter b 13
+  unfolding lettering
+  letter-r e = record { is = rw e refl; most = omega arith }
+
+  pub letter-t : b ≡ 116 → Letter b 9
+  unfolding lettering
+  letter-t e = record { is = rw e refl; most = omega arith }
+
+  pub letter-none : (b ≡ 34 → ⊥) → (b ≡ 47 → ⊥) → (b ≡ 92 → ⊥) → (b ≡ 98 → ⊥) → (b ≡ 102 → ⊥) → (b ≡ 110 → ⊥) → (b ≡ 114 → ⊥) → (b ≡ 116 → ⊥) → Letter b 256
+  unfolding lettering
+  letter-none h₁ h₂ h₃ h₄ h₅ h₆ h₇ h₈ = record { is = rw none refl; most = omega arith }
+    where
+      none : is lettered b ≡ false
+      none = rw (other 34 b h₁, other 92 b h₃, other 47 b h₂, other 98 b h₄, other 102 b h₅, other 110 b h₆, other 114 b h₇, other 116 b h₈) refl
+
+pub ruleset letters = (letter-quote, letter-slash, letter-back, letter-b, letter-f, letter-n, letter-r, letter-t, letter-none, needs)

@@ -1,0 +1,105 @@
+-- A text and its row: laws for the returns of strings, keys and inline bytes.
+use mathlib.Core.Path.{_≡_, refl, sym, ap, _∙_}
+use mathlib.Core.List.{List}
+use Prim.Native.Nat.{ℕ, _+_, _*_, _<_}
+use native.Mathlib.Omega.{arith}
+use lib.ListN.{length, drop}
+use lib.Seq.{sets}
+use borrow.Author.Needs.{needs}
+use Rattle.exact.specs.Class.{is}
+use Rattle.exact.specs.Out.{Out, bind, Reader}
+use Rattle.exact.specs.Lang.{retR}
+use Rattle.exact.specs.Place.{peek, alt-is, alt-not, byte-not}
+use Rattle.language.specs.Kind.{TRUE, STRING}
+use Rattle.language.specs.Tree.{leaf, width, rowList}
+use Rattle.rooms.specs.declared.Cursor.{Cursor}
+use Rattle.rooms.specs.declared.Words.{Words}
+use Rattle.rooms.specs.declared.Ans.{Ans}
+use Rattle.rooms.specs.declared.Ans.the-variants.{Ok, No}
+use Rattle.rooms.specs.Contract.{Ready, Answers}
+use Rattle.rooms.specs.Laws.{refused, took, leaf-text}
+use Rattle.strings.specs.Spans.{spannedR}
+use Rattle.strings.specs.Quoted.{betweenR, doubleR, singleR, quotedR, stringR}
+use Rattle.strings.specs.Inside.{Quote, double, single, textR, Close, Leafed}
+use Rattle.strings.specs.Contract.{Texts}
+use Rattle.strings.proofs.TextLaws.{text-refused, text-taken, text-refusal}
+
+-- ---- either quote
+
+pub is-double : Quote 34
+is-double = double
+
+pub is-single : Quote 39
+is-single = single
+
+pub byte-at : (doc : List ℕ) (at a b : ℕ) → b ≡ peek doc at → b ≡ a → a ≡ peek doc at
+byte-at doc at a b look e = sym e ∙ look
+
+module _ (doc : List ℕ) (c : Cursor) (b : ℕ) (look : b ≡ peek doc (c .at)) where
+  abbrev Quotes : Ans → List ℕ → List ℕ → Type 0
+  Quotes a T T' = Texts doc c (quotedR (c .at) (drop (c .at) doc)) a T T'
+
+  pub via-double-quote : (a : Ans) (T T' : List ℕ) → b ≡ 34 → Texts doc c (textR 34 (c .at) (drop (c .at) doc)) a T T' → Quotes a T T'
+  unfolding quotedR
+  via-double-quote a T T' e h = rw (alt-is doc (c .at) 34 b (omega arith) look doubleR singleR e) h
+
+  pub via-single-quote : (a : Ans) (T T' : List ℕ) → b ≡ 39 → Texts doc c (textR 39 (c .at) (drop (c .at) doc)) a T T' → Quotes a T T'
+  unfolding quotedR
+  via-single-quote a T T' e h = rw (alt-not doc (c .at) 34 b (omega arith) look doubleR singleR (λ z. omega arith)) h
+
+  pub no-quote : (T : List ℕ) → (b ≡ 34 → ⊥) → (b ≡ 39 → ⊥) → Quotes (No (c .at)) T T
+  unfolding quotedR betweenR
+  no-quote T n m =
+      text-refused doc c _ T T (c .at) (alt-not doc (c .at) 34 b (omega arith) look doubleR singleR n ∙ rw (byte-not doc (c .at) 39 b (omega arith) look m) refl)
+
+pub ruleset quotes = (is-double, is-single, byte-at, via-double-quote, via-single-quote, no-quote, needs)
+
+-- ---- a row
+
+pub leafed : (c n : Cursor) (p k : ℕ) (w : Words) (R R' : List ℕ) → w ≡ record { kind = k; first = c .at; after = n .at; from = c .text; to = n .text; parent = p; next = c .row + 1 }
+    → R' ≡ sets R (width * c .row) (rowList (w .kind) (w .first) (w .after) (w .from) (w .to) (w .parent) (w .next))
+    → Leafed c n p k (record { at = n .at; row = c .row + 1; text = n .text }) R R'
+leafed c n p k w R R' e h =
+    record { cursor = refl; table = h ∙ ap (λ (v : Words). sets R (width * c .row) (rowList (v .kind) (v .first) (v .after) (v .from) (v .to) (v .parent) (v .next))) e }
+
+pub ruleset leaves = (leafed, needs)
+
+-- ---- a text with its span and its row
+
+pub text-close : (doc : List ℕ) (c n : Cursor) (o : Out (List ℕ)) (a : Ans) (T T' : List ℕ) → Ready doc c → a ≡ Ok n → Texts doc c o a T T' → Close c n
+text-close doc c n o a T T' ready e h =
+    let t = text-taken doc c o T T' a n e h in
+    record {
+      from = omega (arith, ready .small, ready .inside);
+      to-at = omega (arith, ready .small, t .spelt .inside);
+      row = omega (arith, ready .small, ready .inside, ready .fewRows);
+      text = omega (arith, ready .small, ready .inside, ready .fewText);
+      to-text = omega (arith, ready .small, t .spelt .inside, t .spelt .end, t .spelt .few, ready .fewText);
+    }
+
+module _ (k : ℕ) (r : Reader (List ℕ)) (doc : List ℕ) (c : Cursor) (p : ℕ) (a : Ans) (T T' : List ℕ) (h : Texts doc c (r (c .at) (drop (c .at) doc)) a T T') where
+  pub spanned-bad : (R R' : List ℕ) (q : ℕ) → a ≡ No q → Answers doc c p (spannedR k r (c .at) (drop (c .at) doc)) (No q) R R' T T'
+  unfolding spannedR
+  spanned-bad R R' q e = refused doc c p _ R R' T T' q (ap (λ o. bind o (λ s e. retR (leaf k (c .at) e s) e)) (text-refusal doc c _ T T' a q e h))
+
+  pub spanned-read : (R R' : List ℕ) (n m : Cursor) → TRUE < k → a ≡ Ok n → Leafed c n p k m R R' → Answers doc c p (spannedR k r (c .at) (drop (c .at) doc)) (Ok m) R R' T T'
+  unfolding spannedR
+  spanned-read R R' n m l e f =
+      let t = text-taken doc c _ T T' a n e h in
+      let g : m ≡ record { at = n .at; row = c .row + 1; text = c .text + length (t .value) } = f .cursor ∙ ap (λ x. record { at = n .at; row = c .row + 1; text = x }) (t .spelt .end) in
+      took doc c p _ R R' T T' m
+      (rw g
+      (leaf-text doc c p _ k (n .at) 0 (t .spelt .ahead) (t .spelt .inside) R R' T T' (t .value)
+      (ap (λ o. bind o (λ s e. retR (leaf k (c .at) e s) e)) (t .is))
+      l (t .spelt .few) (rw (t .spelt .end) at (f .table)) (t .spelt .room)))
+
+module _ (doc : List ℕ) (c : Cursor) (p : ℕ) (a : Ans) (T T' : List ℕ) (h : Texts doc c (quotedR (c .at) (drop (c .at) doc)) a T T') where
+  pub string-not : (R R' : List ℕ) (q : ℕ) → a ≡ No q → Answers doc c p (stringR (c .at) (drop (c .at) doc)) (No q) R R' T T'
+  unfolding stringR
+  string-not R R' q e = spanned-bad STRING quotedR doc c p a T T' h R R' q e
+
+  pub string-taken : (R R' : List ℕ) (n m : Cursor) → a ≡ Ok n → Leafed c n p STRING m R R' → Answers doc c p (stringR (c .at) (drop (c .at) doc)) (Ok m) R R' T T'
+  unfolding stringR
+  string-taken R R' n m e f = spanned-read STRING quotedR doc c p a T T' h R R' n m (omega arith) e f
+
+pub ruleset values = (text-close, string-not, string-taken, needs)

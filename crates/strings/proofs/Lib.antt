@@ -1,0 +1,12 @@
+pub mod DigitLaws
+pub mod PlainLaws
+pub mod CodeLaws
+pub mod TextLaws
+pub mod EscapeLaws
+pub mod SpecialLaws
+pub mod StringLaws
+pub mod LeafLaws
+pub mod KeyLaws
+pub mod HexLaws
+pub mod PairsLaws
+pub mod AngledLaws

@@ -1,0 +1,132 @@
+-- The loop over hex pairs, and `<..>` around them: laws for each turn and each return.
+use mathlib.Core.Path.{_≡_, refl, sym, ap, _∙_}
+use mathlib.Core.List.{List, [], _∷_, _++_}
+use Prim.Native.Nat.{ℕ, zero, suc, _-_, _<_}
+use native.Mathlib.Omega.{arith}
+use lib.ListN.{length, drop, length-append}
+use borrow.Author.Needs.{needs}
+use Rattle.exact.specs.Class.{is}
+use Rattle.exact.specs.Out.{Out, ok, soft, bad, raise, bind, fmap, Reader}
+use Rattle.exact.specs.Lang.{retR}
+use Rattle.exact.specs.Block.{manyG, lead}
+use Rattle.exact.specs.Lines.{reached}
+use Rattle.rooms.specs.declared.Cursor.{Cursor}
+use Rattle.rooms.specs.declared.Ans.{Ans}
+use Rattle.rooms.specs.declared.Ans.the-variants.{Ok, No}
+use Rattle.rooms.specs.declared.Far.the-variants.{Upto, Not}
+use Rattle.rooms.specs.Contract.{Ready}
+use Rattle.strings.specs.declared.hex.Next.{Next}
+use Rattle.strings.specs.declared.hex.Next.the-variants.{Begins, Stops}
+use Rattle.strings.specs.Bytes.{pairR, furtherR, further-ll, pairsR, pairsOn}
+use Rattle.strings.specs.Turns.{manyG-turn, manyG-stop}
+use Rattle.strings.specs.Settled.{ret-fmap}
+use Rattle.strings.specs.Contract.{Texted, Texts}
+use Rattle.strings.specs.Inside.{Within}
+use Rattle.strings.specs.Hexes.{pairTextR, Further, Stopped, Furthers, PairsAt}
+use Rattle.strings.proofs.TextLaws.{room-join, text-taken, text-refusal}
+use Rattle.strings.proofs.StringLaws.{within-none, extend}
+
+-- ---- answers of one byte
+
+unlist : (o : Out ℕ) (w : List ℕ) (a : ℕ) (t : List ℕ) → fmap (_∷ []) o ≡ ok w a t → (v : ℕ) × (w ≡ v ∷ []) × (o ≡ ok v a t)
+unlist (ok v a' t') w a t e = (v, cc, cc)
+unlist (soft p v a' t') w a t e = let z : _≡_ {A = ℕ} 0 1 = cc in absurd (omega arith)
+unlist (bad p) w a t e = let z : _≡_ {A = ℕ} 0 1 = cc in absurd (omega arith)
+
+unbad : (o : Out ℕ) (q : ℕ) → fmap (_∷ []) o ≡ bad q → o ≡ bad q
+unbad (ok v a t) q e = let z : _≡_ {A = ℕ} 0 1 = cc in absurd (omega arith)
+unbad (soft p v a t) q e = let z : _≡_ {A = ℕ} 0 1 = cc in absurd (omega arith)
+unbad (bad p) q e = cc
+
+abbrev manyP : Reader (List ℕ)
+manyP = manyG pairsOn (lead 1) furtherR
+
+pairs-as : (at : ℕ) (s : List ℕ) → pairsR at s ≡ bind (pairR at s) (λ v a t. fmap (v ∷_) (manyP a t))
+unfolding pairsR
+pairs-as at s = by (pairR at s)
+  where
+    by : (o : Out ℕ) → bind o (λ p a t. bind (manyP a t) (λ ps. retR (p ∷ ps))) ≡ bind o (λ v a t. fmap (v ∷_) (manyP a t))
+    by (ok v a t) = ret-fmap v (manyP a t)
+    by (soft p v a t) = ap (raise p) (ret-fmap v (manyP a t))
+    by (bad p) = refl
+
+pub reached-far : {X : Type 0} (far : ℕ) (v : X) (a : ℕ) (t : List ℕ) → 0 < far → soft far v a t ≡ reached far v a t
+reached-far zero v a t l = absurd (omega arith)
+reached-far (suc p) v a t l = refl
+
+-- ---- a turn
+
+pub pairs-first : (doc : List ℕ) (c : Cursor) (T : List ℕ) → Ready doc c → Within pairsR doc c c T T
+pairs-first doc c T ready = within-none pairsR doc c T ready
+
+module _ (doc : List ℕ) (s n : Cursor) (T₀ T : List ℕ) (w : Within pairsR doc s n T₀ T) (a : Ans) (T₁ : List ℕ) (h : Texts doc n (pairTextR (n .at) (drop (n .at) doc)) a T T₁) where
+  pub pairs-not : (q : ℕ) → a ≡ No q → PairsAt doc s (Not q) T₀ T₁
+  unfolding PairsAt
+  pairs-not q e =
+      let b = unbad (pairR (n .at) (drop (n .at) doc)) q (text-refusal doc n _ T T₁ a q e h) in
+      w .is ∙ ap (fmap (w .done ++_)) (pairs-as (n .at) (drop (n .at) doc) ∙ ap (λ o. bind o (λ v a t. fmap (v ∷_) (manyP a t))) b)
+
+  module _ (m : Cursor) (e : a ≡ Ok m) where
+    text : Texted doc n (pairTextR (n .at) (drop (n .at) doc)) m 0 T T₁
+    text = text-taken doc n _ T T₁ a m e h
+
+    got : (v : ℕ) × (text .value ≡ v ∷ []) × (pairR (n .at) (drop (n .at) doc) ≡ ok v (m .at) (drop (m .at) doc))
+    got = unlist (pairR (n .at) (drop (n .at) doc)) (text .value) (m .at) (drop (m .at) doc) (text .is)
+
+    pairs-by : pairsR (n .at) (drop (n .at) doc) ≡ fmap (got .0 ∷_) (manyP (m .at) (drop (m .at) doc))
+    pairs-by = pairs-as (n .at) (drop (n .at) doc) ∙ ap (λ o. bind o (λ v a t. fmap (v ∷_) (manyP a t))) (got .2)
+
+    pub pair-small : m .at < 99999
+    pair-small = let i = text .spelt .inside in omega (arith, w .ready .small)
+
+    module _ (f : Next) (k : Furthers doc (m .at) f) where
+      module _ (p : ℕ) (b : f ≡ Begins p) where
+        further : Further doc (m .at) p
+        unfolding Furthers
+        further = rw b at k
+
+        many-on : manyP (m .at) (drop (m .at) doc) ≡ pairsR p (drop p doc)
+        many-on =
+            manyG-turn (further-ll .exact .moves) pairsOn (lead 1) refl (m .at) (drop (m .at) doc) (further .on)
+            ∙ (ap (λ o. bind o (λ v a t. fmap (v ∷_) (manyP a t))) (further .is) ∙ sym (pairs-as p (drop p doc)))
+
+        pub pairs-turn : Within pairsR doc s (record { at = p; row = m .row; text = m .text }) T₀ T₁
+        pairs-turn =
+            let x = text .spelt .few in
+            let y = further .from in
+            let z = further .inside in
+            extend pairsR doc s n T₀ T w (record { at = p; row = m .row; text = m .text }) (text .value) T₁
+            (pairs-by ∙ (ap (fmap (got .0 ∷_)) many-on ∙ ap (λ u. fmap (u ++_) (pairsR p (drop p doc))) (sym (got .1))))
+            (omega arith) (text .spelt .row) (text .spelt .end) (omega arith) (text .spelt .room)
+
+        pub pairs-less : length doc - p < length doc - n .at
+        pairs-less = let x = text .spelt .ahead in let y = further .from in let z = further .inside in omega arith
+
+      pub pairs-upto : (far : ℕ) → f ≡ Stops far → PairsAt doc s (Upto m far) T₀ T₁
+      unfolding PairsAt Furthers
+      pairs-upto far b =
+          let g : Stopped doc (m .at) far = rw b at k in
+          let x = text .spelt in
+          let l = length-append (w .done) (text .value) in
+          record {
+            texted =
+                record {
+                  value = w .done ++ text .value;
+                  is =
+                      w .is
+                      ∙ (ap (fmap (w .done ++_)) (pairs-by ∙ ap (fmap (got .0 ∷_)) (manyG-stop pairsOn (lead 1) furtherR (m .at) (drop (m .at) doc) (g .off)))
+                      ∙ (rw (← g .is, ← got .1) refl ∙ reached-far far (w .done ++ text .value) (m .at) (drop (m .at) doc) (omega (arith, g .is, x .ahead))));
+                  spelt =
+                      record {
+                        ahead = omega (arith, x .ahead, w .few);
+                        inside = x .inside;
+                        row = x .row ∙ w .row;
+                        end = omega (arith, x .end, w .end);
+                        few = omega (arith, x .few, w .few);
+                        room = room-join T₀ T T₁ (s .text) (n .text) (w .done) (text .value) (w .room) (w .end) (x .room);
+                      };
+                };
+            far-is = g .is;
+          }
+
+pub ruleset pairing-on = (pairs-first, pairs-not, pair-small, pairs-turn, pairs-less, pairs-upto, needs)

@@ -1,0 +1,101 @@
+-- What stands in a string where no plain byte and no quote does: laws for each return.
+use mathlib.Core.Path.{_≡_, refl, sym, ap, _∙_}
+use mathlib.Core.List.{List, [], _∷_}
+use mathlib.Core.Bool.{false}
+use Prim.Native.Nat.{ℕ, suc, _+_, _-_, _≤_, _<_}
+use native.Mathlib.Omega.{arith}
+use lib.ListN.{length, drop}
+use lib.Seq.{sets, slice, slice-cons, length-slice}
+use borrow.Author.Needs.{needs}
+use borrow.Author.Tests.{le-leb, lt-leb}
+use Rattle.exact.specs.Class.{is}
+use Rattle.exact.specs.Place.{peek, alt-is, alt-not}
+use Rattle.language.specs.Characters.{utf8}
+use Rattle.characters.specs.Char.{charR}
+use Rattle.characters.specs.Reads.{Stands, ReadAt}
+use Rattle.characters.specs.declared.Reading.{Reading}
+use Rattle.characters.specs.declared.Read.{Read}
+use Rattle.characters.specs.declared.Read.the-variants.{Scalar, Not}
+use Rattle.rooms.specs.declared.Cursor.{Cursor}
+use Rattle.rooms.specs.declared.Ans.{Ans}
+use Rattle.rooms.specs.declared.Ans.the-variants.{Ok, No}
+use Rattle.rooms.specs.Contract.{Ready}
+use Rattle.strings.specs.Quoted.{escapeR, singleEscapeR}
+use Rattle.strings.specs.Inside.{Quote, double, single, plainOf, escapesR, specialR, Special}
+use Rattle.strings.specs.Contract.{Texts}
+use Rattle.strings.proofs.TextLaws.{text-refused, spelling}
+
+-- ---- a character of several bytes
+
+module _ (doc : List ℕ) (at : ℕ) (r : Read) (v : ℕ) (n : Reading) (is-scalar : r ≡ Scalar v n) (read : ReadAt doc at r) where
+  stands : Stands doc at v (n .at)
+  unfolding ReadAt
+  stands = rw is-scalar at read
+
+  pub scalar-from : at ≤ n .at
+  scalar-from = let h = stands .ahead in omega arith
+
+  pub scalar-inside : n .at ≤ length doc
+  scalar-inside = stands .inside
+
+  pub scalar-small : (x : ℕ) → length doc ≤ 32768 → x ≤ at → x + n .at < 100000
+  scalar-small x l m = let h = stands .ahead in let k = stands .inside in omega arith
+
+module _ (q : ℕ) (doc : List ℕ) (c : Cursor) (ready : Ready doc c) (spot : Special q doc (c .at)) (other : peek doc (c .at) ≡ 92 → ⊥) where
+  abbrev Piece : Ans → List ℕ → List ℕ → Type 0
+  Piece a T T' = Texts doc c (specialR q (c .at) (drop (c .at) doc)) a T T'
+
+  as-char : specialR q (c .at) (drop (c .at) doc) ≡ charR (plainOf q) (c .at) (drop (c .at) doc)
+  as-char = alt-not doc (c .at) 92 (peek doc (c .at)) (omega arith) refl (escapesR q) (charR (plainOf q)) other
+
+  module _ (r : Read) (read : ReadAt doc (c .at) r) where
+    pub wide-not : (p : ℕ) (T : List ℕ) → r ≡ Not p → Piece (No p) T T
+    unfolding ReadAt
+    wide-not p T e = let h = rw e at read in text-refused doc c _ T T p (as-char ∙ h (plainOf q))
+
+    module _ (v : ℕ) (n : Reading) (is-scalar : r ≡ Scalar v n) where
+      here : Stands doc (c .at) v (n .at)
+      unfolding ReadAt
+      here = rw is-scalar at read
+
+      first-byte : v < 128 → peek doc (c .at) ≡ v
+      first-byte l =
+          let p : slice (c .at) (n .at) doc ≡ peek doc (c .at) ∷ slice (suc (c .at)) (n .at) doc = slice-cons (c .at) (n .at) doc 256 (here .ahead) (here .inside) in
+          let u : utf8 v ≡ v ∷ [] = rw (le-leb v 127 (omega arith)) refl in
+          let w = here .bytes in
+          cc
+
+      pub wide-low : (T : List ℕ) → v < 128 → Piece (No (c .at)) T T
+      wide-low T l =
+          let e : is (plainOf q) v ≡ false = rw (← first-byte l) (spot .dark) in
+          text-refused doc c _ T T (c .at) (as-char ∙ (here .taken (plainOf q) ∙ rw (le-leb v 127 (omega arith), e) refl))
+
+      pub wide-read : (T T' : List ℕ) → 128 ≤ v → T' ≡ sets T (c .text) (slice (c .at) (n .at) doc)
+          → Piece (Ok (record { at = n .at; row = c .row; text = c .text + (n .at - c .at) })) T T'
+      wide-read T T' l t =
+          let s : length (slice (c .at) (n .at) doc) ≡ n .at - c .at = length-slice (c .at) (n .at) doc (here .inside) in
+          let w = ap length (here .bytes) in
+          spelling doc c _ T T' (utf8 v) (n .at) (c .text + (n .at - c .at))
+          (as-char ∙ (here .taken (plainOf q) ∙ rw (lt-leb v 127 (omega arith), here .allowed (omega arith)) refl))
+          (here .ahead) (here .inside) (omega arith) (omega (arith, here .ahead)) (rw (← here .bytes) t)
+
+-- ---- an escape
+
+single-quote : {q : ℕ} → Quote q → (q ≡ 34 → ⊥) → q ≡ 39
+single-quote double n = absurd (n refl)
+single-quote single n = refl
+
+module _ (q : ℕ) (doc : List ℕ) (c : Cursor) (b : ℕ) (look : b ≡ peek doc (c .at)) (a : Ans) (T T' : List ℕ) where
+  pub back-at : b ≡ 92 → 92 ≡ peek doc (c .at)
+  back-at e = sym e ∙ look
+
+  pub not-back : (b ≡ 92 → ⊥) → peek doc (c .at) ≡ 92 → ⊥
+  not-back n e = n (look ∙ e)
+
+  pub via-double : b ≡ 92 → q ≡ 34 → Texts doc c (escapeR (c .at) (drop (c .at) doc)) a T T' → Texts doc c (specialR q (c .at) (drop (c .at) doc)) a T T'
+  via-double e k h = rw (alt-is doc (c .at) 92 b (omega arith) look (escapesR q) (charR (plainOf q)) e, k) h
+
+  pub via-single : b ≡ 92 → Quote q → (q ≡ 34 → ⊥) → Texts doc c (singleEscapeR (c .at) (drop (c .at) doc)) a T T' → Texts doc c (specialR q (c .at) (drop (c .at) doc)) a T T'
+  via-single e k n h = rw (alt-is doc (c .at) 92 b (omega arith) look (escapesR q) (charR (plainOf q)) e, single-quote k n) h
+
+pub ruleset specials = (scalar-from, scalar-inside, scalar-small, wide-not, wide-low, wide-read, back-at, not-back, via-double, via-single, needs)

@@ -1,0 +1,96 @@
+-- What a function that reads a text has to show at a return, from what the tests and the calls on the way say: each law's conclusion is the contract.
+use mathlib.Core.Path.{_≡_, refl, sym, _∙_}
+use mathlib.Core.List.{List, [], _∷_, _++_}
+use Prim.Native.Nat.{ℕ, suc, _+_, _/_, _%_, _≤_, _<_}
+use native.Mathlib.Numerals.{add-one}
+use native.Mathlib.Omega.{arith}
+use lib.ListN.{length, drop, set}
+use lib.Seq.{sets}
+use borrow.Author.Needs.{needs}
+use borrow.Author.Tests.{le-leb, lt-leb}
+use Rattle.exact.specs.Class.{is}
+use Rattle.exact.specs.Out.{Out, ok, bad}
+use Rattle.rooms.specs.declared.Cursor.{Cursor}
+use Rattle.rooms.specs.declared.Ans.{Ans}
+use Rattle.rooms.specs.declared.Ans.the-variants.{Ok, No}
+use Rattle.rooms.specs.Stores.{sets-append}
+use Rattle.strings.specs.Contract.{Texted, Texts, Stored}
+
+-- ---- stores of a few bytes
+
+module _ (T A B C D : List ℕ) (x a b c d : ℕ) where
+  pub one-byte : A ≡ set T x a → A ≡ sets T x (a ∷ [])
+  one-byte h = h
+
+  pub two-bytes : A ≡ set T x a → B ≡ set A (x + 1) b → B ≡ sets T x (a ∷ b ∷ [])
+  two-bytes h k = rw (k, h, add-one) refl
+
+  pub three-bytes : A ≡ set T x a → B ≡ set A (x + 1) b → C ≡ set B (x + 2) c → C ≡ sets T x (a ∷ b ∷ c ∷ [])
+  three-bytes h k l = let p : x + 1 ≡ suc x = omega arith in let q : x + 2 ≡ suc (suc x) = omega arith in rw (l, k, h, p, q) refl
+
+  pub four-bytes : A ≡ set T x a → B ≡ set A (x + 1) b → C ≡ set B (x + 2) c → D ≡ set C (x + 3) d → D ≡ sets T x (a ∷ b ∷ c ∷ d ∷ [])
+  four-bytes h k l m =
+      let p : x + 1 ≡ suc x = omega arith in
+      let q : x + 2 ≡ suc (suc x) = omega arith in
+      let r : x + 3 ≡ suc (suc (suc x)) = omega arith in
+      rw (m, l, k, h, p, q, r) refl
+
+-- one text behind another
+pub room-join : (T₀ T T' : List ℕ) (x j : ℕ) (u v : List ℕ) → T ≡ sets T₀ x u → j ≡ x + length u → T' ≡ sets T j v → T' ≡ sets T₀ x (u ++ v)
+room-join T₀ T T' x j u v h e t = t ∙ rw (h, e) (sym (sets-append T₀ x u v))
+
+-- ---- a scalar value
+
+module _ (T A B C D : List ℕ) (x v : ℕ) where
+  pub scalar-one : v ≤ 127 → A ≡ set T x v → Stored T A x v (x + 1)
+  scalar-one l h = let z = le-leb v 127 l in record { end = rw z refl; room = rw z h }
+
+  pub scalar-two : 127 < v → v ≤ 2047 → A ≡ set T x (192 + v / 64) → B ≡ set A (x + 1) (128 + v % 64) → Stored T B x v (x + 2)
+  scalar-two l m h k =
+      let y = lt-leb v 127 l in
+      let z = le-leb v 2047 m in
+      record { end = rw (y, z) refl; room = rw (y, z) (two-bytes T A B B B x (192 + v / 64) (128 + v % 64) 0 0 h k) }
+
+  pub scalar-three : 2047 < v → v ≤ 65535 → A ≡ set T x (224 + v / 4096) → B ≡ set A (x + 1) (128 + v / 64 % 64) → C ≡ set B (x + 2) (128 + v % 64) → Stored T C x v (x + 3)
+  scalar-three l m h k n =
+      let w = lt-leb v 127 (omega arith) in
+      let y = lt-leb v 2047 l in
+      let z = le-leb v 65535 m in
+      record { end = rw (w, y, z) refl; room = rw (w, y, z) (three-bytes T A B C C x (224 + v / 4096) (128 + v / 64 % 64) (128 + v % 64) 0 h k n) }
+
+  pub scalar-four : 65535 < v → A ≡ set T x (240 + v / 262144) → B ≡ set A (x + 1) (128 + v / 4096 % 64) → C ≡ set B (x + 2) (128 + v / 64 % 64)
+      → D ≡ set C (x + 3) (128 + v % 64) → Stored T D x v (x + 4)
+  scalar-four l h k n m =
+      let w = lt-leb v 127 (omega arith) in
+      let y = lt-leb v 2047 (omega arith) in
+      let z = lt-leb v 65535 l in
+      record {
+        end = rw (w, y, z) refl;
+        room = rw (w, y, z) (four-bytes T A B C D x (240 + v / 262144) (128 + v / 4096 % 64) (128 + v / 64 % 64) (128 + v % 64) h k n m);
+      }
+
+pub ruleset stores = (scalar-one, scalar-two, scalar-three, scalar-four, needs)
+
+-- ---- answers, made and taken apart
+
+module _ (doc : List ℕ) (c : Cursor) (o : Out (List ℕ)) (T T' : List ℕ) where
+  pub text-refused : (q : ℕ) → o ≡ bad q → Texts doc c o (No q) T T'
+  unfolding Texts
+  text-refused q h = h
+
+  pub text-took : (n : Cursor) → Texted doc c o n 0 T T' → Texts doc c o (Ok n) T T'
+  unfolding Texts
+  text-took n h = h
+
+  pub text-taken : (a : Ans) (n : Cursor) → a ≡ Ok n → Texts doc c o a T T' → Texted doc c o n 0 T T'
+  unfolding Texts
+  text-taken a n e h = rw e at h
+
+  pub text-refusal : (a : Ans) (q : ℕ) → a ≡ No q → Texts doc c o a T T' → o ≡ bad q
+  unfolding Texts
+  text-refusal a q e h = rw e at h
+
+  pub spelling : (v : List ℕ) (e x : ℕ) → o ≡ ok v e (drop e doc) → c .at < e → e ≤ length doc → x ≡ c .text + length v → c .at + length v ≤ e → T' ≡ sets T (c .text) v
+      → Texts doc c o (Ok (record { at = e; row = c .row; text = x })) T T'
+  unfolding Texts
+  spelling v e x h a i y f t = record { value = v; is = h; spelt = record { ahead = a; inside = i; row = refl; end = y; few = f; room = t } }

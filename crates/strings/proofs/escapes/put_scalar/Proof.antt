@@ -1,0 +1,138 @@
+-- `put_scalar` meets its contract.
+use Rattle.strings.proofs.TextLaws.{stores}
+use borrow.Author.Needs.{needs}
+use Rattle.strings.proofs.escapes.put_scalar.Statement.{statement}
+use Rattle.strings.proofs.escapes.put_scalar.Tie as tie
+
+cast-put-byte : tie.Need-cast-put-byte
+cast-put-byte c = search needs
+
+put-byte-requires : tie.Need-put-byte-requires
+put-byte-requires c κs = search needs
+
+add-result : tie.Need-add-result
+add-result c = search needs
+
+same-length : tie.Need-same-length
+same-length c = search needs
+
+returns : tie.Need-returns
+returns c = search stores
+
+add-put-byte : tie.Need-add-put-byte
+add-put-byte c = search needs
+
+cast-put-byte-2 : tie.Need-cast-put-byte-2
+cast-put-byte-2 c = search needs
+
+put-byte-requires-2 : tie.Need-put-byte-requires-2
+put-byte-requires-2 c κs = search needs
+
+add-put-byte-2 : tie.Need-add-put-byte-2
+add-put-byte-2 c = search needs
+
+add-put-byte-3 : tie.Need-add-put-byte-3
+add-put-byte-3 c = search needs
+
+cast-put-byte-3 : tie.Need-cast-put-byte-3
+cast-put-byte-3 c = search needs
+
+put-byte-requires-3 : tie.Need-put-byte-requires-3
+put-byte-requires-3 c κs = search needs
+
+add-result-2 : tie.Need-add-result-2
+add-result-2 c = search needs
+
+same-length-2 : tie.Need-same-length-2
+same-length-2 c = search needs
+
+returns-2 : tie.Need-returns-2
+returns-2 c = search stores
+
+add-put-byte-4 : tie.Need-add-put-byte-4
+add-put-byte-4 c = search needs
+
+cast-put-byte-4 : tie.Need-cast-put-byte-4
+cast-put-byte-4 c = search needs
+
+put-byte-requires-4 : tie.Need-put-byte-requires-4
+put-byte-requires-4 c κs = search needs
+
+add-put-byte-5 : tie.Need-add-put-byte-5
+add-put-byte-5 c = search needs
+
+add-put-byte-6 : tie.Need-add-put-byte-6
+add-put-byte-6 c = search needs
+
+cast-put-byte-5 : tie.Need-cast-put-byte-5
+cast-put-byte-5 c = search needs
+
+put-byte-requires-5 : tie.Need-put-byte-requires-5
+put-byte-requires-5 c κs = search needs
+
+add-put-byte-7 : tie.Need-add-put-byte-7
+add-put-byte-7 c = search needs
+
+add-put-byte-8 : tie.Need-add-put-byte-8
+add-put-byte-8 c = search needs
+
+cast-put-byte-6 : tie.Need-cast-put-byte-6
+cast-put-byte-6 c = search needs
+
+put-byte-requires-6 : tie.Need-put-byte-requires-6
+put-byte-requires-6 c κs = search needs
+
+add-result-3 : tie.Need-add-result-3
+add-result-3 c = search needs
+
+same-length-3 : tie.Need-same-length-3
+same-length-3 c = search needs
+
+returns-3 : tie.Need-returns-3
+returns-3 c = search stores
+
+put-four-requires : tie.Need-put-four-requires
+put-four-requires c κs = search needs
+
+same-length-4 : tie.Need-same-length-4
+same-length-4 c = search needs
+
+returns-4 : tie.Need-returns-4
+returns-4 c = search needs
+
+pub put-scalar-spec : {M : Type 1} → statement M
+put-scalar-spec =
+    tie.close
+    (tie.spec
+    cast-put-byte
+    put-byte-requires
+    add-result
+    same-length
+    returns
+    add-put-byte
+    cast-put-byte-2
+    put-byte-requires-2
+    add-put-byte-2
+    add-put-byte-3
+    cast-put-byte-3
+    put-byte-requires-3
+    add-result-2
+    same-length-2
+    returns-2
+    add-put-byte-4
+    cast-put-byte-4
+    put-byte-requires-4
+    add-put-byte-5
+    add-put-byte-6
+    cast-put-byte-5
+    put-byte-requires-5
+    add-put-byte-7
+    add-put-byte-8
+    cast-put-byte-6
+    put-byte-requires-6
+    add-result-3
+    same-length-3
+    returns-3
+    put-four-requires
+    same-length-4
+    returns-4)

@@ -1,0 +1,78 @@
+-- Inside a string: what the functions that read one promise, over the quote that it stands in.
+use mathlib.Core.Path.{_≡_}
+use mathlib.Core.List.{List, [], _∷_, _++_}
+use mathlib.Core.Bool.{false}
+use Prim.Native.Nat.{ℕ, _+_, _-_, _*_, _≤_, _<_}
+use lib.ListN.{length, drop}
+use lib.Seq.{sets, slice}
+use lib.Dec.{eqb}
+use Rattle.exact.specs.Class.{pick, Class, is, _to_}
+use Rattle.exact.specs.Out.{Reader, fmap}
+use Rattle.exact.specs.Place.{peek, runEnd}
+use Rattle.language.specs.Tree.{width, rowList}
+use Rattle.rooms.specs.declared.Cursor.{Cursor}
+use Rattle.rooms.specs.Contract.{Ready}
+use Rattle.strings.specs.Quoted.{escapeR, singleEscapeR, pieceR, betweenR}
+use Rattle.strings.specs.Rest.{restR}
+
+-- the two quotes, their plain bytes and their escapes
+pub data Quote : ℕ → Type 0 where
+  double : Quote 34
+  single : Quote 39
+
+abbrev pub plainOf : ℕ → Class
+plainOf q = (32 to (q - 1)) ∷ ((q + 1) to 91) ∷ (93 to 126) ∷ []
+
+abbrev pub escapesR : ℕ → Reader (List ℕ)
+escapesR q = pick (eqb q 34) escapeR singleEscapeR
+
+-- a string, what is left of one, and a piece
+abbrev pub textR : ℕ → Reader (List ℕ)
+textR q = betweenR q (escapesR q) (plainOf q)
+
+abbrev pub leftR : ℕ → Reader (List ℕ)
+leftR q = restR q (escapesR q) (plainOf q)
+
+abbrev pub specialR : ℕ → Reader (List ℕ)
+specialR q = pieceR (escapesR q) (plainOf q)
+
+-- the bytes of a class from `at` on end at e
+pub record RunTo (c : Class) (doc : List ℕ) (at e : ℕ) : Type 0 where
+  pub is : e ≡ runEnd c doc at
+  pub from : at ≤ e
+  pub inside : e ≤ length doc
+
+-- they are copied, and n stands behind them
+pub record Copied (k : Class) (doc : List ℕ) (c n : Cursor) (text text' : List ℕ) : Type 0 where
+  pub run : RunTo k doc (c .at) (n .at)
+  pub row : n .row ≡ c .row
+  pub end : n .text ≡ c .text + (n .at - c .at)
+  pub room : text' ≡ sets text (c .text) (slice (c .at) (n .at) doc)
+
+-- neither a plain byte nor the quote stands at a place
+pub record Special (q : ℕ) (doc : List ℕ) (at : ℕ) : Type 0 where
+  pub dark : is (plainOf q) (peek doc at) ≡ false
+  pub other : peek doc at ≡ q → ⊥
+
+-- of what r reads from s on, what stands before n is read and stored
+pub record Within (r : Reader (List ℕ)) (doc : List ℕ) (s n : Cursor) (text text' : List ℕ) : Type 0 where
+  pub done : List ℕ
+  pub is : r (s .at) (drop (s .at) doc) ≡ fmap (done ++_) (r (n .at) (drop (n .at) doc))
+  pub ready : Ready doc n
+  pub row : n .row ≡ s .row
+  pub end : n .text ≡ s .text + length done
+  pub few : s .at + length done ≤ n .at
+  pub room : text' ≡ sets text (s .text) done
+
+-- two cursors within the limits of a row
+pub record Close (c n : Cursor) : Type 0 where
+  pub from : c .at < 99999
+  pub to-at : n .at < 99999
+  pub row : c .row < 99999
+  pub text : c .text < 99999
+  pub to-text : n .text < 99999
+
+-- the row of a text that was read from c up to n, and the cursor behind it
+pub record Leafed (c n : Cursor) (parent kind : ℕ) (r : Cursor) (rows rows' : List ℕ) : Type 0 where
+  pub cursor : r ≡ record { at = n .at; row = c .row + 1; text = n .text }
+  pub table : rows' ≡ sets rows (width * c .row) (rowList kind (c .at) (n .at) (c .text) (n .text) parent (c .row + 1))

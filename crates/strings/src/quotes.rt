@@ -1,0 +1,175 @@
+// Quoted strings: plain bytes are passed over and copied in runs, escapes are decoded one at a time.
+ghost use mathlib.Core.Path.{_≡_};
+ghost use Prim.Native.Nat.{ℕ, _+_, _≤_, _<_};
+ghost use lib.ListN.{length, drop};
+ghost use Rattle.exact.specs.Place.{peek};
+ghost use Rattle.rooms.specs.Contract.{Ready, Answers};
+ghost use Rattle.strings.specs.Contract.{Texts};
+ghost use Rattle.strings.specs.Inside.{Quote, plainOf, textR, specialR, RunTo, Copied, Special, Close, Leafed};
+ghost use Rattle.strings.specs.Quoted.{quotedR, stringR};
+use super::escapes::escape;
+use super::escapes::single_escape;
+use characters::Read;
+use characters::Reading;
+use language::Kind;
+use rooms::Ans;
+use rooms::Cursor;
+use rooms::copy;
+use rooms::put_row;
+use rooms::row_of;
+
+// The place behind the plain bytes that stand at `at`: characters below 128 that are neither the quote nor a backslash.
+pub fn plain_end(doc: &[u8], at: usize, quote: u8) -> usize
+    requires { ⌜ (at ≤ length (now doc)) × Quote quote ⌝ }
+    ensures { λ r. ⌜ RunTo (plainOf quote) (now (doc .entry)) at r ⌝ }
+{
+    let mut e = at;
+    while e < doc.len() {
+        let b = doc[e];
+        if b < 32 {
+            return e;
+        }
+        if 126 < b {
+            return e;
+        }
+        if b == quote {
+            return e;
+        }
+        if b == 92 {
+            return e;
+        }
+        e += 1;
+    }
+    e
+}
+
+// The plain bytes at the cursor, copied.
+fn plain(doc: &[u8], text: &mut [u8], c: Cursor, quote: u8) -> Cursor
+    requires { ⌜ Ready (now doc) c × Quote quote ⌝ }
+    ensures { λ r. ⌜ Copied (plainOf quote) (now (doc .entry)) c r (now (text .entry)) (now (text .exit)) ⌝ }
+{
+    let at = c.at;
+    let e = plain_end(&*doc, at, quote);
+    copy(&*doc, at, e, text, c.text);
+    Cursor {
+        at: e,
+        row: c.row,
+        text: c.text + (e - at),
+    }
+}
+
+// A character of several bytes at the cursor, copied.
+fn wide(doc: &[u8], text: &mut [u8], c: Cursor, quote: u8) -> Ans
+    requires { ⌜ Ready (now doc) c × Quote quote ⌝ }
+    requires { ⌜ Special quote (now doc) (c .at) × (peek (now doc) (c .at) ≡ 92 → ⊥) ⌝ }
+    ensures { λ r. ⌜ Texts (now (doc .entry)) c (specialR quote (c .at) (drop (c .at) (now (doc .entry)))) r (now (text .entry)) (now (text .exit)) ⌝ }
+{
+    let at = c.at;
+    let r = Reading { at };
+    match r.scalar(&*doc) {
+        Read::Not(p) => Ans::No(p),
+        Read::Scalar(v, n) => {
+            if v < 128 {
+                return Ans::No(at);
+            }
+            let e = n.at;
+            copy(&*doc, at, e, text, c.text);
+            Ans::Ok(Cursor {
+                at: e,
+                row: c.row,
+                text: c.text + (e - at),
+            })
+        }
+    }
+}
+
+// What stands at the cursor where no plain byte and no quote does: an escape, a character of several bytes, or nothing of a string.
+fn special(doc: &[u8], text: &mut [u8], c: Cursor, quote: u8) -> Ans
+    requires { ⌜ Ready (now doc) c × Quote quote ⌝ }
+    requires { ⌜ Special quote (now doc) (c .at) ⌝ }
+    ensures { λ r. ⌜ Texts (now (doc .entry)) c (specialR quote (c .at) (drop (c .at) (now (doc .entry)))) r (now (text .entry)) (now (text .exit)) ⌝ }
+{
+    if c.look(&*doc) != 92 {
+        return wide(&*doc, text, c, quote);
+    }
+    if quote == 34 {
+        return escape(&*doc, text, c);
+    }
+    single_escape(&*doc, text, c)
+}
+
+// A string between two of these quotes, the first of which stands at the cursor.
+fn between(doc: &[u8], text: &mut [u8], c: Cursor, quote: u8) -> Ans
+    requires { ⌜ Ready (now doc) c × Quote quote ⌝ }
+    requires { ⌜ quote ≡ peek (now doc) (c .at) ⌝ }
+    ensures { λ r. ⌜ Texts (now (doc .entry)) c (textR quote (c .at) (drop (c .at) (now (doc .entry)))) r (now (text .entry)) (now (text .exit)) ⌝ }
+{
+    let mut n = Cursor {
+        at: c.at + 1,
+        row: c.row,
+        text: c.text,
+    };
+    loop {
+        let e = plain(&*doc, text, n, quote);
+        if e.look(&*doc) == quote as u32 {
+            return Ans::Ok(Cursor {
+                at: e.at + 1,
+                row: e.row,
+                text: e.text,
+            });
+        }
+        let got = special(&*doc, text, e, quote);
+        match got {
+            Ans::No(p) => {
+                return Ans::No(p);
+            }
+            Ans::Ok(m) => {
+                n = m;
+            }
+        }
+    }
+}
+
+// A string in either quotes.
+pub fn quoted(doc: &[u8], text: &mut [u8], c: Cursor) -> Ans
+    requires { ⌜ Ready (now doc) c ⌝ }
+    ensures { λ r. ⌜ Texts (now (doc .entry)) c (quotedR (c .at) (drop (c .at) (now (doc .entry)))) r (now (text .entry)) (now (text .exit)) ⌝ }
+{
+    let b = c.look(&*doc);
+    if b == 34 {
+        return between(&*doc, text, c, 34);
+    }
+    if b == 39 {
+        return between(&*doc, text, c, 39);
+    }
+    Ans::No(c.at)
+}
+
+// The row of a text that was read from the cursor c up to n.
+pub fn put_leaf(rows: &mut [u32], c: Cursor, n: Cursor, parent: u32, kind: Kind) -> Cursor
+    requires { ⌜ Close c n ⌝ }
+    ensures { λ r. ⌜ Leafed c n parent (kind .0) r (now (rows .entry)) (now (rows .exit)) ⌝ }
+{
+    let row = c.row;
+    put_row(
+        rows,
+        row,
+        row_of(kind, c.at, n.at, c.text, n.text, parent, row + 1),
+    );
+    Cursor {
+        at: n.at,
+        row: row + 1,
+        text: n.text,
+    }
+}
+
+// A string value.
+pub fn string(doc: &[u8], rows: &mut [u32], text: &mut [u8], c: Cursor, parent: u32) -> Ans
+    requires { ⌜ Ready (now doc) c ⌝ }
+    ensures { λ r. ⌜ Answers (now (doc .entry)) c parent (stringR (c .at) (drop (c .at) (now (doc .entry)))) r (now (rows .entry)) (now (rows .exit)) (now (text .entry)) (now (text .exit)) ⌝ }
+{
+    match quoted(&*doc, text, c) {
+        Ans::No(p) => Ans::No(p),
+        Ans::Ok(n) => Ans::Ok(put_leaf(rows, c, n, parent, Kind::STRING)),
+    }
+}
