@@ -22,3 +22,6 @@ pub mod Placed
 pub mod Contract
 pub mod LineLooks
 pub mod Leaves
+pub mod Parts
+pub mod HexLooks
+pub mod NextLine

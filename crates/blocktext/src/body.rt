@@ -5,14 +5,14 @@ ghost use lib.ListN.{length};
 ghost use Rattle.language.specs.Answered.{limit};
 ghost use Rattle.language.specs.BlockText.{bodyText};
 ghost use Rattle.blocktext.specs.Contract.{Sees, BodyAt, bodyLines, Known, Stored, Lined, LinePut};
+use super::lines::byte_at;
+use super::lines::line_feed;
+use super::lines::text_line;
 use characters::Skip;
 use characters::spaces_end;
 use rooms::Cursor;
 use rooms::copy;
 use rooms::put_byte;
-use super::lines::byte_at;
-use super::lines::line_feed;
-use super::lines::text_line;
 
 // What stands at a line: nothing but an LF; a text and the place of its LF; no line of the body, and how far one would begin; or a line that is refused.
 pub enum Seen {
@@ -118,7 +118,15 @@ fn put_line(doc: &[u8], text: &mut [u8], n: Cursor, col: usize, least: usize) ->
 }
 
 // The text of the body below the LF at e, whose last text ends at last, from x on: the place behind it.
-pub fn put_body(doc: &[u8], text: &mut [u8], e: usize, last: usize, col: usize, least: usize, x: usize) -> usize
+pub fn put_body(
+    doc: &[u8],
+    text: &mut [u8],
+    e: usize,
+    last: usize,
+    col: usize,
+    least: usize,
+    x: usize,
+) -> usize
     requires { ⌜ Known (now doc) e col last least x ⌝ }
     ensures { λ r. ⌜ Stored x r (bodyText (bodyLines (now (doc .entry)) e col)) (now (text .entry)) (now (text .exit)) ⌝ }
 {

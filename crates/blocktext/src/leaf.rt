@@ -23,11 +23,7 @@ pub fn put_leaf(
     ensures { λ r. ⌜ Rowed c parent (kind .0) at x far e r (now (rows .entry)) (now (rows .exit)) ⌝ }
 {
     let row = c.row;
-    put_row(
-        rows,
-        row,
-        row_of(kind, c.at, e, c.text, x, parent, row + 1),
-    );
+    put_row(rows, row, row_of(kind, c.at, e, c.text, x, parent, row + 1));
     Block::Done(
         Cursor {
             at,

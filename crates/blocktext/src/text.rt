@@ -9,18 +9,18 @@ ghost use Rattle.blocktext.specs.TextLines.{bodyR};
 ghost use Rattle.blocktext.specs.BlockStrings.{openStringR, propertyStringR};
 ghost use Rattle.blocktext.specs.Contract.{Asked, Led};
 ghost use Rattle.blocktext.specs.Leaves.{Begun, Furthers};
-use characters::Skip;
-use language::Kind;
-use rooms::Block;
-use rooms::Cursor;
-use rooms::copy;
-use rooms::put_byte;
 use super::body::Extent;
 use super::body::body;
 use super::body::put_body;
 use super::leaf::put_leaf;
 use super::lines::byte_at;
 use super::lines::text_line;
+use characters::Skip;
+use language::Kind;
+use rooms::Block;
+use rooms::Cursor;
+use rooms::copy;
+use rooms::put_byte;
 
 // The body below the LF at e, of a string whose text so far ends at x.
 fn below(
@@ -49,7 +49,14 @@ fn below(
 }
 
 // An open block string whose leader has a text, behind a space.
-fn led_string(doc: &[u8], rows: &mut [u32], text: &mut [u8], c: Cursor, parent: u32, col: usize) -> Block
+fn led_string(
+    doc: &[u8],
+    rows: &mut [u32],
+    text: &mut [u8],
+    c: Cursor,
+    parent: u32,
+    col: usize,
+) -> Block
     requires { ⌜ Led (now doc) c col ⌝ }
     ensures { λ r. ⌜ Blocks (now (doc .entry)) c parent (openStringR col (c .at) (drop (c .at) (now (doc .entry)))) r (now (rows .entry)) (now (rows .exit)) (now (text .entry)) (now (text .exit)) ⌝ }
 {
@@ -70,7 +77,14 @@ fn led_string(doc: &[u8], rows: &mut [u32], text: &mut [u8], c: Cursor, parent: 
 }
 
 // An open block string, whose grave stands at the cursor.
-pub fn open_string(doc: &[u8], rows: &mut [u32], text: &mut [u8], c: Cursor, parent: u32, col: usize) -> Block
+pub fn open_string(
+    doc: &[u8],
+    rows: &mut [u32],
+    text: &mut [u8],
+    c: Cursor,
+    parent: u32,
+    col: usize,
+) -> Block
     requires { ⌜ Asked (now doc) c 96 col ⌝ }
     ensures { λ r. ⌜ Blocks (now (doc .entry)) c parent (openStringR col (c .at) (drop (c .at) (now (doc .entry)))) r (now (rows .entry)) (now (rows .exit)) (now (text .entry)) (now (text .exit)) ⌝ }
 {
@@ -88,7 +102,14 @@ pub fn open_string(doc: &[u8], rows: &mut [u32], text: &mut [u8], c: Cursor, par
 }
 
 // A property's block string, whose grave stands at the cursor.
-pub fn property_string(doc: &[u8], rows: &mut [u32], text: &mut [u8], c: Cursor, parent: u32, col: usize) -> Block
+pub fn property_string(
+    doc: &[u8],
+    rows: &mut [u32],
+    text: &mut [u8],
+    c: Cursor,
+    parent: u32,
+    col: usize,
+) -> Block
     requires { ⌜ Asked (now doc) c 96 col ⌝ }
     ensures { λ r. ⌜ Blocks (now (doc .entry)) c parent (propertyStringR col (c .at) (drop (c .at) (now (doc .entry)))) r (now (rows .entry)) (now (rows .exit)) (now (text .entry)) (now (text .exit)) ⌝ }
 {

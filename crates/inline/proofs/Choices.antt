@@ -1,5 +1,5 @@
 -- Which reader the first byte chooses: of a scalar, of a value inside brackets, and of a value on a line.
-use mathlib.Core.Path.{_≡_, refl, sym, ap, subst, _∙_}
+use mathlib.Core.Path.{_≡_, refl, sym, ap, _∙_}
 use mathlib.Core.List.{List, [], _∷_, _++_}
 use mathlib.Core.Logic.{_⊎_, inl, inr}
 use mathlib.Core.Bool.{Bool, true, false}
@@ -9,9 +9,8 @@ use lib.ListN.{drop}
 use borrow.Author.Needs.{needs}
 use Rattle.language.specs.Tree.{Tree}
 use Rattle.exact.specs.Class.{pick, or, clash, Class, _to_, within, is, only, only-no, none, left, is-neither}
-use Rattle.exact.specs.Out.{Out, Reader, Firm, soft, bad}
+use Rattle.exact.specs.Out.{Out, Reader, bad}
 use Rattle.exact.specs.Comb.{altR}
-use Rattle.exact.specs.Lines.{reached}
 use Rattle.exact.specs.More.{Shuts, ll-shuts}
 use Rattle.exact.specs.Place.{peek, There, there, byte-there, none-there, alt-peek}
 use Rattle.rooms.specs.declared.Cursor.{Cursor}
@@ -19,9 +18,9 @@ use Rattle.rooms.specs.declared.Ans.{Ans}
 use Rattle.rooms.specs.declared.Ans.the-variants.{Ok, No}
 use Rattle.rooms.specs.declared.Far.{Far}
 use Rattle.rooms.specs.declared.Far.the-variants.{Upto, Not}
-use Rattle.rooms.specs.Contract.{Taken, Answers, Reaches}
+use Rattle.rooms.specs.Contract.{Answers, Reaches}
 use Rattle.rooms.specs.Laws
-use Rattle.numbers.specs.Plain.{plainFirst, plainR, plain-ll}
+use Rattle.numbers.specs.Plain.{plainFirst, plainR}
 use Rattle.numbers.specs.Opening.{plain-shuts}
 use Rattle.strings.specs.Bytes.{inlineBytesR}
 use Rattle.strings.specs.Quoted.{stringS, stringR}
@@ -80,25 +79,6 @@ first-reads doc at c d r q n x y e = alt-peek doc at c n r q ∙ go (is c (peek 
 -- where the byte is none of the first's, the second reads it
 second-reads : {X : Type 0} (doc : List ℕ) (at : ℕ) (c : Class) (r q : Reader X) → is c 256 ≡ false → is c (peek doc at) ≡ false → altR (is c) r q at (drop at doc) ≡ q at (drop at doc)
 second-reads doc at c r q n e = alt-peek doc at c n r q ∙ rw e refl
-
--- ---- inside brackets a number is never soft
-
-firm-far : {X : Type 0} (v : X) (a : ℕ) (t : List ℕ) (far : ℕ) {o : Out X} → Firm o → o ≡ reached far v a t → far ≡ 0
-firm-far v a t zero x e = refl
-firm-far {X} v a t (suc far) x e = absurd (not-soft (subst Firm e x))
-  where
-    not-soft : Firm {X = X} (soft (suc far) v a t) → ⊥
-    not-soft y = elim y [ ]
-
-module _ (doc : List ℕ) (c : Cursor) (p : ℕ) (f : Far) (R R' T T' : List ℕ) (w : Reaches doc c p (plainR false (c .at) (drop (c .at) doc)) f R R' T T') where
-  pub number-read : (n : Cursor) (far : ℕ) → f ≡ Upto n far → Answers doc c p (plainR false (c .at) (drop (c .at) doc)) (Ok n) R R' T T'
-  number-read n far e =
-      let k = Laws.reached-taken doc c p _ R R' T T' f n far e w in
-      let z = firm-far (k .tree) (n .at) (drop (n .at) doc) far (plain-ll .firm (c .at) (drop (c .at) doc)) (k .is) in
-      Laws.took doc c p _ R R' T T' n (subst (λ i. Taken doc c p (plainR false (c .at) (drop (c .at) doc)) n i R R' T T') z k)
-
-  pub number-not : (q : ℕ) → f ≡ Not q → Answers doc c p (plainR false (c .at) (drop (c .at) doc)) (No q) R R' T T'
-  number-not q e = Laws.refused doc c p _ R R' T T' q (Laws.reached-refusal doc c p _ R R' T T' f q e w)
 
 -- ---- THE CHOICES, as `search` takes them, by the byte b at the cursor
 
@@ -240,6 +220,6 @@ module _ (doc : List ℕ) (c : Cursor) (p k : ℕ) (R R' T T' : List ℕ) (b : �
     pub line-not : (q : ℕ) → a ≡ No q → Reaches doc c p (valueR true k (c .at) (drop (c .at) doc)) (Not q) R R' T T'
     line-not q z = Laws.not-reached doc c p _ R R' T T' q (Laws.refusal doc c p _ R R' T T' a q z alike)
 
-pub ruleset choices = (via-double, via-single, via-bytes, via-plain, number-read, number-not, via-deep, via-scalar, via-array, via-object, needs)
+pub ruleset choices = (via-double, via-single, via-bytes, via-plain, via-deep, via-scalar, via-array, via-object, needs)
 
 pub ruleset lining = (line-plain, line-read, line-not, needs)

@@ -7,10 +7,10 @@ use Rattle.notation.specs.Class.{only}
 use Rattle.notation.specs.Lang.{Lang}
 use Rattle.language.specs.Tree.{Tree, field, arrayTree, objectTree}
 use Rattle.language.specs.Characters.{ascii}
-use Rattle.language.specs.Scalars.{Plain}
 use Rattle.language.specs.Inline.{Listed, InlineArray, InlinePair, InlineObject, Scalar, Value}
 use Rattle.exact.specs.Class.{sub}
 use Rattle.characters.specs.Clean.{Clean, ret-clean, here-clean, byte-clean, word-clean, seq-clean, alt-clean, star-clean}
+use Rattle.numbers.specs.Clean.{plain-clean}
 use Rattle.strings.specs.Clean.{string-clean, key-clean, inlineBytes-clean}
 
 listed-clean : {X : Type 0} {A : Lang X} (close : ℕ) → sub (only close) ascii ≡ true → Clean A → Clean (Listed close A)
@@ -33,11 +33,9 @@ inlineObject-clean c =
     seq-clean (byte-clean (only 123) refl) λ _.
     seq-clean (listed-clean 125 refl (inlinePair-clean c)) λ fs. seq-clean here-clean λ e. ret-clean (objectTree a e fs)
 
--- over the law of keywords and numbers
-module _ (plain-clean : (spaced : Bool) → Clean (Plain spaced)) where
-  pub scalar-clean : (spaced : Bool) → Clean (Scalar spaced)
-  scalar-clean spaced = alt-clean (plain-clean spaced) (alt-clean string-clean inlineBytes-clean)
+pub scalar-clean : (spaced : Bool) → Clean (Scalar spaced)
+scalar-clean spaced = alt-clean (plain-clean spaced) (alt-clean string-clean inlineBytes-clean)
 
-  pub value-clean : (spaced : Bool) (k : ℕ) → Clean (Value spaced k)
-  value-clean spaced zero = scalar-clean spaced
-  value-clean spaced (suc k) = alt-clean (scalar-clean spaced) (alt-clean (inlineArray-clean (value-clean false k)) (inlineObject-clean (value-clean false k)))
+pub value-clean : (spaced : Bool) (k : ℕ) → Clean (Value spaced k)
+value-clean spaced zero = scalar-clean spaced
+value-clean spaced (suc k) = alt-clean (scalar-clean spaced) (alt-clean (inlineArray-clean (value-clean false k)) (inlineObject-clean (value-clean false k)))

@@ -4,23 +4,48 @@ ghost use mathlib.Core.Bool.{true, false};
 ghost use Prim.Native.Nat.{ℕ, _+_, _*_, _≤_, _<_};
 ghost use lib.ListN.{length, drop};
 ghost use lib.Seq.{sets};
+ghost use Rattle.exact.specs.Place.{peek};
 ghost use Rattle.language.specs.Tree.{width, rowList};
-ghost use Rattle.rooms.specs.Contract.{Ready};
+ghost use Rattle.rooms.specs.Contract.{Ready, Answers, Reaches};
 ghost use Rattle.exact.specs.Class.{is};
-ghost use Rattle.inline.specs.Values.{marks};
-ghost use Rattle.inline.specs.Brackets.{closes, kindOf};
-ghost use Rattle.inline.specs.Contract.{Enclosed, Passed, Parted};
+ghost use Rattle.inline.specs.Values.{marks, scalarR, valueR};
+ghost use Rattle.inline.specs.Brackets.{opens, closes, kindOf, labelR, memberR, bracketR};
+ghost use Rattle.inline.specs.Contract.{Enclosed, Passed, Parted, Turned};
 use language::Kind;
+use numbers::plain;
+use numbers::plain_inside;
 use rooms::Ans;
 use rooms::Cursor;
+use rooms::Far;
 use rooms::put_row;
 use rooms::row_of;
+use strings::inline_bytes;
+use strings::key;
+use strings::string;
 
 // What follows an element or a pair: another, the end of the list, or neither.
 pub enum Sep {
     More(Cursor),
     Last(Cursor),
     Bad(usize),
+}
+
+// A scalar inside brackets, by its first byte.
+fn scalar(doc: &[u8], rows: &mut [u32], text: &mut [u8], c: Cursor, parent: u32) -> Ans
+    requires { ⌜ Ready (now doc) c ⌝ }
+    ensures { λ r. ⌜ Answers (now (doc .entry)) c parent (scalarR false (c .at) (drop (c .at) (now (doc .entry)))) r (now (rows .entry)) (now (rows .exit)) (now (text .entry)) (now (text .exit)) ⌝ }
+{
+    let b = c.look(&*doc);
+    if b == 34 {
+        return string(&*doc, rows, text, c, parent);
+    }
+    if b == 39 {
+        return string(&*doc, rows, text, c, parent);
+    }
+    if b == 60 {
+        return inline_bytes(&*doc, rows, text, c, parent);
+    }
+    plain_inside(&*doc, rows, text, c, parent)
 }
 
 // The cursor some bytes on.
@@ -49,6 +74,17 @@ pub fn pass(doc: &[u8], c: Cursor, first: u32, second: u32) -> Ans
         return Ans::No(at + 1);
     }
     Ans::Ok(ahead(c, 2))
+}
+
+// A pair's key, and the colon and the space behind it.
+fn label(doc: &[u8], rows: &mut [u32], text: &mut [u8], c: Cursor, parent: u32) -> Ans
+    requires { ⌜ Ready (now doc) c ⌝ }
+    ensures { λ r. ⌜ Answers (now (doc .entry)) c parent (labelR (c .at) (drop (c .at) (now (doc .entry)))) r (now (rows .entry)) (now (rows .exit)) (now (text .entry)) (now (text .exit)) ⌝ }
+{
+    match key(&*doc, rows, text, c, parent) {
+        Ans::No(p) => Ans::No(p),
+        Ans::Ok(n) => pass(&*doc, n, 58, 32),
+    }
 }
 
 // What follows an element or a pair that ends at the cursor.
@@ -87,6 +123,119 @@ fn enclose(rows: &mut [u32], c: Cursor, n: Cursor, parent: u32, count: usize, ob
     put_row(rows, c.row, w);
 }
 
+// The cycle. A value inside brackets, with an allowance of containers one inside another.
+pub fn value(
+    doc: &[u8],
+    rows: &mut [u32],
+    text: &mut [u8],
+    c: Cursor,
+    parent: u32,
+    allow: usize,
+) -> Ans
+    requires { ⌜ Ready (now doc) c ⌝ }
+    ensures { λ r. ⌜ Answers (now (doc .entry)) c parent (valueR false allow (c .at) (drop (c .at) (now (doc .entry)))) r (now (rows .entry)) (now (rows .exit)) (now (text .entry)) (now (text .exit)) ⌝ }
+{
+    if allow == 0 {
+        return scalar(&*doc, rows, text, c, parent);
+    }
+    let b = c.look(&*doc);
+    if b == 91 {
+        return container(&*doc, rows, text, c, parent, allow - 1, false);
+    }
+    if b == 123 {
+        return container(&*doc, rows, text, c, parent, allow - 1, true);
+    }
+    scalar(&*doc, rows, text, c, parent)
+}
+
+// A container, whose bracket stands at the cursor.
+fn container(
+    doc: &[u8],
+    rows: &mut [u32],
+    text: &mut [u8],
+    c: Cursor,
+    parent: u32,
+    allow: usize,
+    object: bool,
+) -> Ans
+    requires { ⌜ Ready (now doc) c ⌝ }
+    requires { ⌜ peek (now doc) (c .at) ≡ opens object ⌝ }
+    ensures { λ r. ⌜ Answers (now (doc .entry)) c parent (bracketR object (valueR false allow) (c .at) (drop (c .at) (now (doc .entry)))) r (now (rows .entry)) (now (rows .exit)) (now (text .entry)) (now (text .exit)) ⌝ }
+{
+    let row = c.row;
+    let mut cur = Cursor {
+        at: c.at + 1,
+        row: row + 1,
+        text: c.text,
+    };
+    if cur.look(&*doc) == closing(object) {
+        let n = ahead(cur, 1);
+        enclose(rows, c, n, parent, 0, object);
+        return Ans::Ok(n);
+    }
+    let mut count: usize = 0;
+    loop {
+        match member(&*doc, rows, text, cur, row as u32, allow, object) {
+            Sep::Bad(p) => {
+                return Ans::No(p);
+            }
+            Sep::Last(n) => {
+                enclose(rows, c, n, parent, count + 1, object);
+                return Ans::Ok(n);
+            }
+            Sep::More(n) => {
+                cur = n;
+                count += 1;
+            }
+        }
+    }
+}
+
+// An element or a pair, and what follows it.
+fn member(
+    doc: &[u8],
+    rows: &mut [u32],
+    text: &mut [u8],
+    c: Cursor,
+    parent: u32,
+    allow: usize,
+    object: bool,
+) -> Sep
+    requires { ⌜ Ready (now doc) c ⌝ }
+    ensures { λ r. ⌜ Turned object (closes object) (now (doc .entry)) c parent (memberR object (valueR false allow)) r (now (rows .entry)) (now (rows .exit)) (now (text .entry)) (now (text .exit)) ⌝ }
+{
+    if object {
+        match label(&*doc, rows, text, c, parent) {
+            Ans::No(p) => {
+                return Sep::Bad(p);
+            }
+            Ans::Ok(n) => {
+                return element(&*doc, rows, text, n, parent, allow, object);
+            }
+        }
+    }
+    element(&*doc, rows, text, c, parent, allow, object)
+}
+
+// A value, and what follows it.
+fn element(
+    doc: &[u8],
+    rows: &mut [u32],
+    text: &mut [u8],
+    c: Cursor,
+    parent: u32,
+    allow: usize,
+    object: bool,
+) -> Sep
+    requires { ⌜ Ready (now doc) c ⌝ }
+    ensures { λ r. ⌜ Turned false (closes object) (now (doc .entry)) c parent (valueR false allow) r (now (rows .entry)) (now (rows .exit)) (now (text .entry)) (now (text .exit)) ⌝ }
+{
+    match value(&*doc, rows, text, c, parent, allow) {
+        Ans::No(p) => Sep::Bad(p),
+        Ans::Ok(n) => after(&*doc, n, closing(object)),
+    }
+}
+
 // Whether a value that begins with the byte is no keyword and no number.
 fn marked(b: u32) -> bool
     ensures { λ r. ⌜ r ≡ is marks b ⌝ }
@@ -95,4 +244,26 @@ fn marked(b: u32) -> bool
         34 | 39 | 60 | 91 | 123 => true,
         _ => false,
     }
+}
+
+// A value on a line, where digits may have single spaces between.
+pub fn line_value(
+    doc: &[u8],
+    rows: &mut [u32],
+    text: &mut [u8],
+    c: Cursor,
+    parent: u32,
+    allow: usize,
+) -> Far
+    requires { ⌜ Ready (now doc) c ⌝ }
+    ensures { λ r. ⌜ Reaches (now (doc .entry)) c parent (valueR true allow (c .at) (drop (c .at) (now (doc .entry)))) r (now (rows .entry)) (now (rows .exit)) (now (text .entry)) (now (text .exit)) ⌝ }
+{
+    let b = c.look(&*doc);
+    if marked(b) {
+        return match value(&*doc, rows, text, c, parent, allow) {
+            Ans::Ok(n) => Far::Upto(n, 0),
+            Ans::No(p) => Far::Not(p),
+        };
+    }
+    plain(&*doc, rows, text, c, parent, true)
 }

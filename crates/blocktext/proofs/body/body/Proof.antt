@@ -5,10 +5,6 @@ use Rattle.blocktext.proofs.BodyLaws.{Bodying, bodying, body-inner, tex
 use native.Mathlib.Omega.{arith}
 use Rattle.blocktext.proofs.body.body.Statement.{statement}
 use Rattle.blocktext.proofs.body.body.Tie as tie
-use Rattle.blocktext.proofs.body.body.Reads as reads
-use Rattle.blocktext.proofs.body.body.Lts as lts
-use Rattle.blocktext.proofs.body.body_line.Reads as body-line-reads
-use Rattle.blocktext.proofs.body.lesser.Reads as lesser-reads
 
 abbrev Inv-loop : tie.InvT-loop
 Inv-loop doc e col a₀ last₀ least₀ a last least = Bodying doc e col a last least

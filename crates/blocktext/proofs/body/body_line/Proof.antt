@@ -5,11 +5,6 @@ use Rattle.blocktext.proofs.LineLaws.{spaced-of}
 use Rattle.blocktext.proofs.BodyLaws.{see-empty, see-over, see-text, see-bad}
 use Rattle.blocktext.proofs.body.body_line.Statement.{statement}
 use Rattle.blocktext.proofs.body.body_line.Tie as tie
-use Rattle.blocktext.proofs.body.body_line.Reads as reads
-use Rattle.blocktext.proofs.body.body_line.Lts as lts
-use Rattle.blocktext.proofs.lines.byte_at.Reads as byte-at-reads
-use Rattle.blocktext.proofs.lines.text_line.Reads as text-line-reads
-use Rattle.characters.proofs.spaces_end.Reads as spaces-end-reads
 
 byte-at-requires : tie.Need-byte-at-requires
 byte-at-requires c κs = search needs

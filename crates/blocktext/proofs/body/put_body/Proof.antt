@@ -9,9 +9,6 @@ use Rattle.blocktext.specs.Contract.{bodyLines}
 use Rattle.blocktext.proofs.PutLaws.{Putting, put-first, put-lined, put-on, put-further, put-stored, putting}
 use Rattle.blocktext.proofs.body.put_body.Statement.{statement}
 use Rattle.blocktext.proofs.body.put_body.Tie as tie
-use Rattle.blocktext.proofs.body.put_body.Reads as reads
-use Rattle.blocktext.proofs.body.put_body.Lts as lts
-use Rattle.blocktext.proofs.body.put_line.Reads as put-line-reads
 
 abbrev Inv-loop : tie.InvT-loop
 Inv-loop doc text₀ e last col least x n₀ text n = Putting doc col least last (x + length (bodyText (bodyLines doc e col))) (sets text₀ x (bodyText (bodyLines doc e col))) n text × (length text ≡ length text₀)

@@ -5,12 +5,6 @@ use mathlib.Core.Path.{refl}
 use Rattle.blocktext.proofs.PutLaws.{put-blank, put-fits, put-inside, put-text}
 use Rattle.blocktext.proofs.body.put_line.Statement.{statement}
 use Rattle.blocktext.proofs.body.put_line.Tie as tie
-use Rattle.blocktext.proofs.body.put_line.Reads as reads
-use Rattle.blocktext.proofs.body.put_line.Lts as lts
-use Rattle.blocktext.proofs.lines.byte_at.Reads as byte-at-reads
-use Rattle.blocktext.proofs.lines.line_feed.Reads as line-feed-reads
-use Rattle.rooms.proofs.copy.Reads as copy-reads
-use Rattle.rooms.proofs.put_byte.Reads as put-byte-reads
 
 byte-at-requires : tie.Need-byte-at-requires
 byte-at-requires c κs = search needs

@@ -3,10 +3,6 @@ use borrow.Author.Needs.{needs}
 use mathlib.Core.Path.{refl}
 use Rattle.blocktext.proofs.leaf.put_leaf.Statement.{statement}
 use Rattle.blocktext.proofs.leaf.put_leaf.Tie as tie
-use Rattle.blocktext.proofs.leaf.put_leaf.Reads as reads
-use Rattle.blocktext.proofs.leaf.put_leaf.Lts as lts
-use Rattle.rooms.proofs.put_row.Reads as put-row-reads
-use Rattle.rooms.proofs.row_of.Reads as row-of-reads
 
 add-row-of : tie.Need-add-row-of
 add-row-of c = search needs

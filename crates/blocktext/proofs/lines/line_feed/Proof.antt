@@ -5,8 +5,6 @@ use Rattle.blocktext.specs.Contract.{Dried}
 use Rattle.blocktext.proofs.LineLaws.{feeding}
 use Rattle.blocktext.proofs.lines.line_feed.Statement.{statement}
 use Rattle.blocktext.proofs.lines.line_feed.Tie as tie
-use Rattle.blocktext.proofs.lines.line_feed.Reads as reads
-use Rattle.blocktext.proofs.lines.line_feed.Lts as lts
 
 abbrev Inv-loop : tie.InvT-loop
 Inv-loop doc at e₀ e = Dried doc at e

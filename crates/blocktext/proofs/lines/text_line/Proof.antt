@@ -2,10 +2,6 @@
 use Rattle.blocktext.proofs.LineLaws.{texting, text-open, text-closed}
 use Rattle.blocktext.proofs.lines.text_line.Statement.{statement}
 use Rattle.blocktext.proofs.lines.text_line.Tie as tie
-use Rattle.blocktext.proofs.lines.text_line.Reads as reads
-use Rattle.blocktext.proofs.lines.text_line.Lts as lts
-use Rattle.blocktext.proofs.lines.byte_at.Reads as byte-at-reads
-use Rattle.characters.proofs.pieces.Reads as pieces-reads
 
 pieces-requires : tie.Need-pieces-requires
 pieces-requires c κs = search texting

@@ -4,11 +4,6 @@ use native.Mathlib.Omega.{arith}
 use Rattle.blocktext.proofs.StringLaws.{below-bad, below-known, below-small, below-went}
 use Rattle.blocktext.proofs.text.below.Statement.{statement}
 use Rattle.blocktext.proofs.text.below.Tie as tie
-use Rattle.blocktext.proofs.text.below.Reads as reads
-use Rattle.blocktext.proofs.text.below.Lts as lts
-use Rattle.blocktext.proofs.body.body.Reads as body-reads
-use Rattle.blocktext.proofs.body.put_body.Reads as put-body-reads
-use Rattle.blocktext.proofs.leaf.put_leaf.Reads as put-leaf-reads
 
 body-requires : tie.Need-body-requires
 body-requires c κs = search needs

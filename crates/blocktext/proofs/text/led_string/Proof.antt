@@ -4,12 +4,6 @@ use native.Mathlib.Omega.{arith}
 use Rattle.blocktext.proofs.StringLaws.{led-bad, led-ahead, led-inside, led-begun, led-block}
 use Rattle.blocktext.proofs.text.led_string.Statement.{statement}
 use Rattle.blocktext.proofs.text.led_string.Tie as tie
-use Rattle.blocktext.proofs.text.led_string.Reads as reads
-use Rattle.blocktext.proofs.text.led_string.Lts as lts
-use Rattle.blocktext.proofs.lines.text_line.Reads as text-line-reads
-use Rattle.blocktext.proofs.text.below.Reads as below-reads
-use Rattle.rooms.proofs.copy.Reads as copy-reads
-use Rattle.rooms.proofs.put_byte.Reads as put-byte-reads
 
 add-text-line : tie.Need-add-text-line
 add-text-line c = search needs

@@ -4,12 +4,6 @@ use native.Mathlib.Omega.{arith}
 use Rattle.blocktext.proofs.StringLaws.{open-led, string-begun, open-bad, open-block}
 use Rattle.blocktext.proofs.text.open_string.Statement.{statement}
 use Rattle.blocktext.proofs.text.open_string.Tie as tie
-use Rattle.blocktext.proofs.text.open_string.Reads as reads
-use Rattle.blocktext.proofs.text.open_string.Lts as lts
-use Rattle.blocktext.proofs.lines.byte_at.Reads as byte-at-reads
-use Rattle.blocktext.proofs.text.below.Reads as below-reads
-use Rattle.blocktext.proofs.text.led_string.Reads as led-string-reads
-use Rattle.rooms.proofs.put_byte.Reads as put-byte-reads
 
 add-byte-at : tie.Need-add-byte-at
 add-byte-at c = search needs

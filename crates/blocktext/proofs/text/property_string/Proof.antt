@@ -4,10 +4,6 @@ use native.Mathlib.Omega.{arith}
 use Rattle.blocktext.proofs.StringLaws.{string-begun, property-bad, property-block}
 use Rattle.blocktext.proofs.text.property_string.Statement.{statement}
 use Rattle.blocktext.proofs.text.property_string.Tie as tie
-use Rattle.blocktext.proofs.text.property_string.Reads as reads
-use Rattle.blocktext.proofs.text.property_string.Lts as lts
-use Rattle.blocktext.proofs.lines.byte_at.Reads as byte-at-reads
-use Rattle.blocktext.proofs.text.below.Reads as below-reads
 
 add-e : tie.Need-add-e
 add-e c = search needs

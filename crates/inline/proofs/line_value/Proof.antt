@@ -1,0 +1,69 @@
+-- `line_value` meets its contract: a keyword or a number by its own reader, all else as inside brackets.
+use Rattle.inline.proofs.Choices.{lining}
+use Rattle.inline.proofs.line_value.Statement.{statement}
+use Rattle.inline.proofs.line_value.Tie as tie
+
+look-requires : tie.Need-look-requires
+look-requires c κs = search lining
+
+marked-requires : tie.Need-marked-requires
+marked-requires c κs = search lining
+
+value-requires : tie.Need-value-requires
+value-requires c κs = search lining
+
+enum-known-n : tie.Need-enum-known-n
+enum-known-n c = search lining
+
+enum-known-p : tie.Need-enum-known-p
+enum-known-p c = search lining
+
+same-length : tie.Need-same-length
+same-length c = search lining
+
+same-length-2 : tie.Need-same-length-2
+same-length-2 c = search lining
+
+returns : tie.Need-returns
+returns c = search lining
+
+same-length-3 : tie.Need-same-length-3
+same-length-3 c = search lining
+
+same-length-4 : tie.Need-same-length-4
+same-length-4 c = search lining
+
+returns-2 : tie.Need-returns-2
+returns-2 c = search lining
+
+plain-requires : tie.Need-plain-requires
+plain-requires c κs = search lining
+
+same-length-5 : tie.Need-same-length-5
+same-length-5 c = search lining
+
+same-length-6 : tie.Need-same-length-6
+same-length-6 c = search lining
+
+returns-3 : tie.Need-returns-3
+returns-3 c = search lining
+
+pub line-value-spec : {M : Type 1} → statement M
+line-value-spec =
+    tie.close
+    (tie.spec
+    look-requires
+    marked-requires
+    value-requires
+    enum-known-n
+    enum-known-p
+    same-length
+    same-length-2
+    returns
+    same-length-3
+    same-length-4
+    returns-2
+    plain-requires
+    same-length-5
+    same-length-6
+    returns-3)

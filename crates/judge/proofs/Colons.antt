@@ -1,0 +1,233 @@
+-- What stands behind a key and its colon, and a property as a whole: what the calls on the way say of their readers. Assumes nothing.
+use mathlib.Core.Path.{_≡_, refl, sym, ap, _∙_}
+use mathlib.Core.List.{List, [], _∷_}
+use mathlib.Core.Bool.{Bool, true, false}
+use Prim.Native.Nat.{ℕ, suc, _+_, _≤_}
+use native.Mathlib.Numerals.{add-one}
+use native.Mathlib.Omega.{arith}
+use lib.ListN.{length, drop}
+use borrow.Author.Needs.{needs}
+use Rattle.language.specs.Tree.{Tree, field, sizes}
+use Rattle.exact.specs.Class.{clash, is, only}
+use Rattle.exact.specs.Out.{Out, Reader, Firm, bind, fmap, bad, f-ok, f-bad}
+use Rattle.exact.specs.Lang.{retR, byteR}
+use Rattle.exact.specs.Comb.{seqR, mapR, altR}
+use Rattle.exact.specs.Place.{peek, peek-in, peek-cons, byte-is, byte-not, alt-is, alt-not}
+use Rattle.rooms.specs.declared.Cursor.{Cursor}
+use Rattle.rooms.specs.declared.Ans.{Ans}
+use Rattle.rooms.specs.declared.Ans.the-variants.{Ok, No}
+use Rattle.rooms.specs.declared.Block.{Block}
+use Rattle.rooms.specs.declared.Block.the-variants.{Done, Bad}
+use Rattle.rooms.specs.Contract.{Ready, Taken, Answers, Blocks}
+use Rattle.rooms.specs.Laws
+use Rattle.characters.specs.declared.Skip.{Skip}
+use Rattle.characters.specs.declared.Skip.the-variants
+use Rattle.characters.specs.Reads.{Ends, Skips}
+use Rattle.characters.specs.Comments.{commentR, lineCommentR, comment-ll}
+use Rattle.strings.specs.Keys.{keyR}
+use Rattle.inline.specs.Written.{Written, written-one, written-append}
+use Rattle.blocks.specs.Rest.{restR, belowR}
+use Rattle.blocks.specs.Property.{onR, propertyR}
+use Rattle.blocks.specs.Nested.{nestedR}
+use Rattle.judge.specs.Members.{memberR}
+use Rattle.judge.specs.Contract.{feedR, endsR, Gap, one-space, no-space, two-spaces, Stands, Members}
+use Rattle.judge.proofs.Outs.{map-fmap, fmap-reached}
+use Rattle.judge.proofs.Spans.{key-begins}
+
+-- ---- the readers, by the spaces behind the colon
+
+module _ (v n : Reader Tree) (doc : List ℕ) (at : ℕ) where
+  rest-on : 32 ≡ peek doc at → (peek doc (at + 1) ≡ 32 → ⊥) → restR v n at (drop at doc) ≡ v (at + 1) (drop (at + 1) doc)
+  unfolding restR
+  rest-on e f =
+      alt-is doc at 32 32 (omega arith) e _ _ refl
+      ∙ (ap (λ (o : Out ℕ). bind o (λ _. altR (is (only 32)) (seqR (byteR (is (only 32))) λ _. seqR commentR λ _. belowR n) v)) (byte-is doc at 32 32 (omega arith) e refl)
+      ∙ alt-not doc (at + 1) 32 (peek doc (at + 1)) (omega arith) refl _ _ f)
+
+  rest-none : (peek doc at ≡ 32 → ⊥) → restR v n at (drop at doc) ≡ bind (endsR false at (drop at doc)) (λ _. n)
+  unfolding restR endsR feedR
+  rest-none f =
+      alt-not doc at 32 (peek doc at) (omega arith) refl _ _ f
+      ∙ sym (ap (λ (o : Out (List ℕ)). bind (bind o (λ _. byteR (is (only 10)))) (λ _. n)) (alt-not doc at 32 (peek doc at) (omega arith) refl lineCommentR (retR []) f))
+
+  behind-comment : {o : Out (List ℕ)} → Firm o → bind o (λ _. belowR n) ≡ bind (bind o (λ _. byteR (is (only 10)))) (λ _. n)
+  behind-comment f-ok = refl
+  behind-comment f-bad = refl
+
+  rest-two : 32 ≡ peek doc at → 32 ≡ peek doc (at + 1) → restR v n at (drop at doc) ≡ bind (endsR false at (drop at doc)) (λ _. n)
+  unfolding restR endsR feedR
+  rest-two e f =
+      let p : drop at doc ≡ 32 ∷ drop (suc at) doc = peek-cons doc at 32 e (omega arith) in
+      let q : drop (suc at) doc ≡ 32 ∷ drop (suc (suc at)) doc = peek-cons doc (suc at) 32 (rw add-one at f) (omega arith) in
+      rw (p, q) (behind-comment (comment-ll .firm (suc (suc at)) (drop (suc (suc at)) doc)))
+
+  rest-below : Gap doc at false → restR v n at (drop at doc) ≡ bind (endsR false at (drop at doc)) (λ _. n)
+  rest-below (no-space f) = rest-none f
+  rest-below (two-spaces e f) = rest-two e f
+
+-- ---- a cursor that stands further on
+
+pub ready-at : (doc : List ℕ) (c d : Cursor) (a : ℕ) → Ready doc c → c .at ≤ a → a ≤ length doc → d ≡ record { at = a; row = c .row; text = c .text } → Ready doc d
+ready-at doc c d a r h l e =
+    rw e (record { small = r .small; inside = l; fewRows = omega (arith, r .fewRows); fewText = omega (arith, r .fewText) })
+
+-- the answer of a block that begins further on, at d
+pub block-from : (doc : List ℕ) (c d : Cursor) (p a : ℕ) (o o′ : Out Tree) (b : Block) (R R' T T' : List ℕ) → o ≡ o′ → c .at ≤ a → d ≡ record { at = a; row = c .row; text = c .text }
+    → Blocks doc d p o′ b R R' T T' → Blocks doc c p o b R R' T T'
+unfolding Blocks
+block-from doc c d p a o o′ (Bad q) R R' T T' h l e w = h ∙ w
+block-from doc c d p a o o′ (Done n far z) R R' T T' h l e w =
+    let k = w .taken in
+    let s = k .span in
+    let x : d .at ≡ a = ap (λ (m : Cursor). m .at) e in
+    let y : d .row ≡ c .row = ap (λ (m : Cursor). m .row) e in
+    let v : d .text ≡ c .text = ap (λ (m : Cursor). m .text) e in
+    record {
+      taken =
+          record {
+            tree = k .tree;
+            is = h ∙ k .is;
+            span =
+                record {
+                  ahead = omega (arith, s .ahead);
+                  inside = s .inside;
+                  row = omega (arith, s .row);
+                  text = omega (arith, s .text);
+                  fewRows = omega (arith, s .fewRows);
+                  fewText = omega (arith, s .fewText);
+                };
+            filled = record { table = rw (y, v) at (k .filled .table); room = rw v at (k .filled .room) };
+          };
+      ends = w .ends;
+      inner = w .inner;
+    }
+
+-- ---- what stands behind a colon
+
+module _ (doc : List ℕ) (c : Cursor) (x : Bool) (g : Gap doc (c .at) x) where
+  gap-one : x ≡ true → (32 ≡ peek doc (c .at)) × (peek doc (c .at + 1) ≡ 32 → ⊥)
+  gap-one e = go x g e
+    where
+      go : (x : Bool) → Gap doc (c .at) x → x ≡ true → (32 ≡ peek doc (c .at)) × (peek doc (c .at + 1) ≡ 32 → ⊥)
+      go _ (one-space h k) e = (h, k)
+      go _ (no-space k) e = absurd (clash e refl)
+      go _ (two-spaces h k) e = absurd (clash e refl)
+
+  pub spaced-ready : (d : Cursor) → x ≡ true → Ready doc c → d ≡ record { at = c .at + 1; row = c .row; text = c .text } → Ready doc d
+  spaced-ready d e r h = let i = peek-in doc (c .at) 32 (gap-one e .0) (omega arith) in ready-at doc c d (c .at + 1) r (omega arith) (omega arith) h
+
+  module _ (p k n : ℕ) (R R' T T' : List ℕ) where
+    abbrev Behind : Block → Type 0
+    Behind b = Blocks doc c p (restR (onR k n) (nestedR k (suc (suc n))) (c .at) (drop (c .at) doc)) b R R' T T'
+
+    pub behind-on : (d : Cursor) (b : Block) → x ≡ true → d ≡ record { at = c .at + 1; row = c .row; text = c .text } → Blocks doc d p (onR k n (d .at) (drop (d .at) doc)) b R R' T T' → Behind b
+    behind-on d b e h w =
+        let u = gap-one e in
+        let z : d .at ≡ c .at + 1 = ap (λ (m : Cursor). m .at) h in
+        block-from doc c d p (c .at + 1) _ _ b R R' T T' (rest-on (onR k n) (nestedR k (suc (suc n))) doc (c .at) (u .0) (u .1) ∙ ap (λ (i : ℕ). onR k n i (drop i doc)) (sym z)) (omega arith) h w
+
+    below-is : x ≡ false → restR (onR k n) (nestedR k (suc (suc n))) (c .at) (drop (c .at) doc) ≡ bind (endsR false (c .at) (drop (c .at) doc)) (λ _. nestedR k (suc (suc n)))
+    below-is e = rest-below (onR k n) (nestedR k (suc (suc n))) doc (c .at) (rw e at g)
+
+    module _ (s : Skip) (e : x ≡ false) (h : Skips doc (c .at) (endsR false (c .at) (drop (c .at) doc)) s) where
+      pub behind-bad : (q : ℕ) → s ≡ the-variants.Bad q → Behind (Bad q)
+      unfolding Skips
+      behind-bad q z =
+          let y : endsR false (c .at) (drop (c .at) doc) ≡ bad q = rw z at h in
+          Laws.not-block doc c p _ R R' T T' q (below-is e ∙ ap (λ (o : Out ℕ). bind o (λ _. nestedR k (suc (suc n)))) y)
+
+      pub behind-nested : (a j : ℕ) (d : Cursor) (b : Block) → s ≡ the-variants.End a → d ≡ record { at = a; row = c .row; text = c .text } → j ≡ n + 2
+          → Blocks doc d p (nestedR k j (d .at) (drop (d .at) doc)) b R R' T T' → Behind b
+      unfolding Skips
+      behind-nested a j d b z y i w =
+          let v : Ends doc (c .at) (endsR false (c .at) (drop (c .at) doc)) a = rw z at h in
+          let u : d .at ≡ a = ap (λ (m : Cursor). m .at) y in
+          let t : j ≡ suc (suc n) = omega arith in
+          block-from doc c d p a _ _ b R R' T T'
+          (below-is e ∙ (ap (λ (o : Out ℕ). bind o (λ _. nestedR k (suc (suc n)))) (v .is) ∙ rw (u, t) refl))
+          (v .behind)
+          y
+          w
+
+pub ended-ready : (doc : List ℕ) (c d : Cursor) (o : Out ℕ) (s : Skip) (a : ℕ) → Ready doc c → Skips doc (c .at) o s → s ≡ the-variants.End a
+    → d ≡ record { at = a; row = c .row; text = c .text } → Ready doc d
+unfolding Skips
+ended-ready doc c d o s a r h z e = let k : Ends doc (c .at) o a = rw z at h in ready-at doc c d a r (k .behind) (k .inside) e
+
+-- ---- a property
+
+module _ (doc : List ℕ) (c : Cursor) (p : ℕ) (a : Ans) (R R' T T' : List ℕ) (w : Answers doc c p (keyR (c .at) (drop (c .at) doc)) a R R' T T') where
+  pub key-inside : (m : Cursor) → a ≡ Ok m → m .at ≤ length doc
+  key-inside m e = Laws.taken doc c p _ R R' T T' a m e w .span .inside
+
+  module _ (k n : ℕ) where
+    pub property-none : (q : ℕ) → a ≡ No q → Members true doc c p (memberR true k n (c .at) (drop (c .at) doc)) (Bad q) R R' T T'
+    unfolding Members memberR propertyR
+    property-none q e = ap (λ (o : Out Tree). bind o (λ ky. seqR (byteR (is (only 58))) λ _. mapR (field ky) (restR (onR k n) (nestedR k (suc (suc n)))))) (Laws.refusal doc c p _ R R' T T' a q e w)
+
+  module _ (m : Cursor) (b : ℕ) (e : a ≡ Ok m) (h : b ≡ peek doc (m .at)) where
+    got : Taken doc c p (keyR (c .at) (drop (c .at) doc)) m 0 R R' T T'
+    got = Laws.taken doc c p _ R R' T T' a m e w
+
+    module _ (k n : ℕ) where
+      pub property-cut : (b ≡ 58 → ⊥) → Members true doc c p (memberR true k n (c .at) (drop (c .at) doc)) (Bad (m .at)) R R' T T'
+      unfolding Members memberR propertyR
+      property-cut z =
+          ap (λ (o : Out Tree). bind o (λ ky. seqR (byteR (is (only 58))) λ _. mapR (field ky) (restR (onR k n) (nestedR k (suc (suc n)))))) (got .is)
+          ∙ ap (λ (o : Out ℕ). bind o (λ _. mapR (field (got .tree)) (restR (onR k n) (nestedR k (suc (suc n)))))) (byte-not doc (m .at) 58 b (omega arith) h z)
+
+    module _ (d : Cursor) (z : b ≡ 58) (y : d ≡ record { at = m .at + 1; row = m .row; text = m .text }) where
+      colon-in : m .at + 1 ≤ length doc
+      colon-in = let i = peek-in doc (m .at) b h (omega arith) in omega arith
+
+      pub property-ready : Stands doc c → Ready doc d
+      property-ready r =
+          let s = got .span in
+          rw y
+          (record { small = r .small; inside = colon-in; fewRows = omega (arith, r .fewRows, s .row, s .fewRows); fewText = omega (arith, r .fewText, s .text, s .fewText) })
+
+      module _ (k n : ℕ) (R'' T'' : List ℕ) where
+        property-is : memberR true k n (c .at) (drop (c .at) doc) ≡ fmap (field (got .tree)) (restR (onR k n) (nestedR k (suc (suc n))) (d .at) (drop (d .at) doc))
+        unfolding memberR propertyR
+        property-is =
+            let u : d .at ≡ m .at + 1 = ap (λ (x : Cursor). x .at) y in
+            ap (λ (o : Out Tree). bind o (λ ky. seqR (byteR (is (only 58))) λ _. mapR (field ky) (restR (onR k n) (nestedR k (suc (suc n)))))) (got .is)
+            ∙ (ap (λ (o : Out ℕ). bind o (λ _. mapR (field (got .tree)) (restR (onR k n) (nestedR k (suc (suc n)))))) (byte-is doc (m .at) 58 b (omega arith) h z)
+            ∙ rw u (map-fmap (field (got .tree)) (restR (onR k n) (nestedR k (suc (suc n))) (m .at + 1) (drop (m .at + 1) doc))))
+
+        pub property-got : (r : Block) → Blocks doc d p (restR (onR k n) (nestedR k (suc (suc n))) (d .at) (drop (d .at) doc)) r R' R'' T' T''
+            → Members true doc c p (memberR true k n (c .at) (drop (c .at) doc)) r R R'' T T''
+        unfolding Members Blocks sizes
+        property-got (Bad q) x = property-is ∙ ap (fmap (field (got .tree))) x
+        property-got (Done o far f) x =
+            let s = got .span in
+            let v = x .taken in
+            let u : d .at ≡ m .at + 1 = ap (λ (x : Cursor). x .at) y in
+            let i : d .row ≡ m .row = ap (λ (x : Cursor). x .row) y in
+            let j : d .text ≡ m .text = ap (λ (x : Cursor). x .text) y in
+            let w₁ = written-one doc c m p (got .tree) R R' T T' s (got .filled) in
+            let w₂ = written-one doc d o p (v .tree) R' R'' T' T'' (v .span) (v .filled) in
+            let w₀ : Written doc c d p (got .tree ∷ []) R R' T T' =
+            record {
+              onward = omega (arith, w₁ .onward);
+              inside = omega (arith, colon-in);
+              row = omega (arith, w₁ .row);
+              text = omega (arith, w₁ .text);
+              fewRows = omega (arith, w₁ .fewRows);
+              fewText = omega (arith, w₁ .fewText);
+              table = w₁ .table;
+              room = w₁ .room;
+            } in
+            record {
+              member = field (got .tree) (v .tree);
+              is = property-is ∙ (ap (fmap (field (got .tree))) (v .is) ∙ fmap-reached (field (got .tree)) far (v .tree) (o .at) (drop (o .at) doc));
+              begins = key-begins (c .at) (drop (c .at) doc) (got .tree) (m .at) (drop (m .at) doc) (got .is);
+              ends = x .ends;
+              inner = x .inner;
+              spare = omega (arith, s .fewRows, v .span .fewRows);
+              written = written-append doc c d o p (got .tree ∷ []) (v .tree ∷ []) R R' R'' T T' T'' w₀ w₂;
+            }
+
+pub ruleset behind-colon = (spaced-ready, behind-on, behind-bad, behind-nested, ended-ready, needs)
+
+pub ruleset property-laws = (property-none, property-cut, property-ready, property-got, needs)

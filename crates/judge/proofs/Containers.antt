@@ -1,0 +1,341 @@
+-- What members, blocks, nested bullets, items and nested content have to show at their returns and calls, from what the tests and the calls on the way say. Assumes nothing.
+use mathlib.Core.Path.{_≡_, refl, sym, ap, _∙_}
+use mathlib.Core.List.{List, [], _∷_}
+use mathlib.Core.Bool.{Bool, true, false}
+use Prim.Native.Nat.{ℕ, zero, suc, _+_, _-_, _*_, _≤_, _<_, max}
+use native.Mathlib.Omega.{arith}
+use lib.ListN.{length, drop}
+use lib.Seq.{sets, drop-drop}
+use lib.Dec.{eqb}
+use borrow.Author.Needs.{needs}
+use Rattle.exact.specs.Class.{pick}
+use Rattle.language.specs.Tree.{Tree, entry, sizes, width, rowList}
+use Rattle.exact.specs.Out.{Out, Reader, bind, fmap, bad}
+use Rattle.exact.specs.Comb.{mapR}
+use Rattle.exact.specs.Place.{common, common-in, word-all, word-part}
+use Rattle.exact.specs.Block.{lead}
+use Rattle.exact.specs.Lines.{spaces, indented-ok, indented-bad}
+use Rattle.rooms.specs.declared.Cursor.{Cursor}
+use Rattle.rooms.specs.declared.Block.{Block}
+use Rattle.rooms.specs.declared.Block.the-variants.{Done, Bad}
+use Rattle.rooms.specs.Contract.{Ready, Blocks}
+use Rattle.rooms.specs.Indent.{spaces-lead}
+use Rattle.rooms.specs.Laws
+use Rattle.inline.specs.Written.{written-one}
+use Rattle.strings.specs.Keys.{keyR}
+use Rattle.blocks.specs.Or.{merge}
+use Rattle.blocks.specs.KeyLook.{keyed, dashed}
+use Rattle.blocks.specs.Array.{dashedR, bulletR}
+use Rattle.blocks.specs.Openers.{openerR, nestedLineR}
+use Rattle.blocks.specs.Nested.{nestedHereR, nestedR, itemR}
+use Rattle.blocks.specs.Straight.{nested-array, nested-object, nested-line, item-array, item-object, item-line}
+use Rattle.judge.specs.declared.Start.{Start}
+use Rattle.judge.specs.declared.Start.the-variants.{Dash, Key, Line}
+use Rattle.judge.specs.declared.Next.{Next}
+use Rattle.judge.specs.declared.Next.the-variants.{More, Over}
+use Rattle.judge.specs.Members.{Member, kindOf, memberR, blockR, array-block, object-block}
+use Rattle.judge.specs.Contract.{Stands, endR, Neither, Looked, later, Enclosed, Again, Ended, Follows, Read, Members}
+use Rattle.judge.proofs.Outs.{map-fmap, fmap-reached}
+use Rattle.judge.proofs.Lining.{later-block}
+use Rattle.judge.proofs.Colons.{ready-at, block-from}
+use Rattle.judge.proofs.Blocks
+
+-- ---- answers of members, taken apart
+
+module _ (o : Bool) (doc : List ℕ) (c : Cursor) (p : ℕ) (out : Out (Member o)) (a : Block) (R R' T T' : List ℕ) (w : Members o doc c p out a R R' T T') where
+  pub member-read : (n : Cursor) (far e : ℕ) → a ≡ Done n far e → Read o doc c p out n far e R R' T T'
+  unfolding Members
+  member-read n far e z = rw z at w
+
+  pub member-refused : (q : ℕ) → a ≡ Bad q → out ≡ bad q
+  unfolding Members
+  member-refused q z = rw z at w
+
+-- ---- a member
+
+common-most : (ws s : List ℕ) → common ws s ≤ length ws
+unfolding common
+common-most [] s = omega arith
+common-most (w ∷ ws) [] = omega arith
+common-most (w ∷ ws) (b ∷ s) = by (eqb b w) (common-most ws s)
+  where
+    by : (x : Bool) → common ws s ≤ length ws → pick x (suc (common ws s)) 0 ≤ suc (length ws)
+    by true h = omega arith
+    by false h = omega arith
+
+module _ (doc : List ℕ) (c : Cursor) (p k n : ℕ) (o : Bool) (R R' T T' : List ℕ) where
+  pub member-property : (b : Block) → o ≡ true → Members true doc c p (memberR true k n (c .at) (drop (c .at) doc)) b R R' T T'
+      → Members o doc c p (memberR o k n (c .at) (drop (c .at) doc)) b R R' T T'
+  member-property b e w = rw e w
+
+  module _ (i : ℕ) (e : o ≡ false) (h : i ≡ common (45 ∷ 32 ∷ []) (drop (c .at) doc)) where
+    pub member-cut : i < 2 → Members o doc c p (memberR o k n (c .at) (drop (c .at) doc)) (Bad (c .at + i)) R R' T T'
+    unfolding Members memberR dashedR
+    member-cut l =
+        rw e
+        (ap (λ (u : Out ℕ). bind u (λ _. mapR (entry (c .at)) (itemR k (suc (suc n))))) (word-part (45 ∷ 32 ∷ []) (c .at) (drop (c .at) doc) (λ z. omega arith))
+        ∙ ap (λ (j : ℕ). bad (c .at + j)) (sym h))
+
+    module _ (m : Cursor) (l : 2 ≤ i) (f : m ≡ record { at = c .at + 2; row = c .row; text = c .text }) where
+      common-two : common (45 ∷ 32 ∷ []) (drop (c .at) doc) ≡ 2
+      common-two = let b : common (45 ∷ 32 ∷ []) (drop (c .at) doc) ≤ 2 = common-most (45 ∷ 32 ∷ []) (drop (c .at) doc) in omega arith
+
+      pub member-ready : Stands doc c → Ready doc m
+      member-ready r = let y = common-in (45 ∷ 32 ∷ []) doc (c .at) i h (r .inside) in rw f (record { small = r .small; inside = omega arith; fewRows = omega (arith, r .fewRows); fewText = omega (arith, r .fewText) })
+
+      member-is : memberR false k n (c .at) (drop (c .at) doc) ≡ fmap (entry (c .at)) (itemR k (suc (suc n)) (m .at) (drop (m .at) doc))
+      unfolding memberR dashedR
+      member-is =
+          let u : m .at ≡ c .at + 2 = ap (λ (x : Cursor). x .at) f in
+          ap (λ (u : Out ℕ). bind u (λ _. mapR (entry (c .at)) (itemR k (suc (suc n))))) (word-all (45 ∷ 32 ∷ []) (c .at) (drop (c .at) doc) common-two)
+          ∙ rw (drop-drop 2 (c .at) doc, u) (map-fmap (entry (c .at)) (itemR k (suc (suc n)) (c .at + 2) (drop (c .at + 2) doc)))
+
+      pub member-item : (j : ℕ) (b : Block) → j ≡ n + 2 → Blocks doc m p (itemR k j (m .at) (drop (m .at) doc)) b R R' T T'
+          → Members o doc c p (memberR o k n (c .at) (drop (c .at) doc)) b R R' T T'
+      unfolding Members Blocks sizes
+      member-item j b z w = let t : j ≡ suc (suc n) = omega arith in rw e (go b (rw t at w))
+        where
+          go : (b : Block) → Blocks doc m p (itemR k (suc (suc n)) (m .at) (drop (m .at) doc)) b R R' T T' → Members false doc c p (memberR false k n (c .at) (drop (c .at) doc)) b R R' T T'
+          go (Bad q) w = member-is ∙ ap (fmap (entry (c .at))) w
+          go (Done x far z) w =
+              let v = w .taken in
+              let s = v .span in
+              let u : m .at ≡ c .at + 2 = ap (λ (x : Cursor). x .at) f in
+              let y : m .row ≡ c .row = ap (λ (x : Cursor). x .row) f in
+              let i : m .text ≡ c .text = ap (λ (x : Cursor). x .text) f in
+              let g = written-one doc m x p (v .tree) R R' T T' s (v .filled) in
+              record {
+                member = entry (c .at) (v .tree);
+                is = member-is ∙ (ap (fmap (entry (c .at))) (v .is) ∙ fmap-reached (entry (c .at)) far (v .tree) (x .at) (drop (x .at) doc));
+                begins = refl;
+                ends = w .ends;
+                inner = w .inner;
+                spare = omega (arith, s .fewRows);
+                written =
+                    record {
+                      onward = omega (arith, g .onward);
+                      inside = g .inside;
+                      row = omega (arith, g .row);
+                      text = omega (arith, g .text);
+                      fewRows = omega (arith, g .fewRows);
+                      fewText = omega (arith, g .fewText);
+                      table = rw (y, i) at (g .table);
+                      room = rw i at (g .room);
+                    };
+              }
+
+-- ---- a block
+
+abbrev Within : Cursor → Cursor
+Within c = record { at = c .at; row = c .row + 1; text = c .text }
+
+module _ (o : Bool) (k n : ℕ) (doc : List ℕ) (c : Cursor) (R₀ T₀ : List ℕ) where
+  pub block-start : Ready doc c → Blocks.Loop o k n doc c R₀ T₀ R₀ T₀ (Within c) 0 0
+  block-start d = Blocks.loop-start o k n doc c R₀ T₀ d
+
+  module _ (R T : List ℕ) (cur : Cursor) (far cnt : ℕ) (l : Blocks.Loop o k n doc c R₀ T₀ R T cur far cnt) where
+    pub block-ready : Stands doc cur
+    block-ready = l .ready
+
+    module _ (a : Block) (R' T' : List ℕ) (w : Members o doc cur (c .row) (memberR o k n (cur .at) (drop (cur .at) doc)) a R R' T T') where
+      pub block-refused : (p q g : ℕ) → a ≡ Bad q → g ≡ max far q → Blocks doc c p (blockR o k n (c .at) (drop (c .at) doc)) (Bad g) R₀ R' T₀ T'
+      block-refused p q g e h =
+          rw h (Blocks.block-bad o k n doc c R₀ T₀ R T R' T' cur far cnt p q l (member-refused o doc cur (c .row) _ a R R' T T' w q e))
+
+      module _ (m : Cursor) (f e : ℕ) (z : a ≡ Done m f e) where
+        got : Read o doc cur (c .row) (memberR o k n (cur .at) (drop (cur .at) doc)) m f e R R' T T'
+        got = member-read o doc cur (c .row) _ a R R' T T' w m f e z
+
+        pub block-inside : m .at ≤ length doc
+        block-inside = got .written .inside
+
+        pub block-count : cnt < 100000
+        block-count = let s = got .spare in let i = got .written .inside in let r = l .from .small in omega (arith, l .few)
+
+        pub block-encloses : (i : ℕ) → i ≡ cnt + 1 → Enclosed c e i (m .row)
+        block-encloses i h =
+            let s = got .spare in
+            let v = got .written in
+            let r = l .from in
+            let y = l .ready in
+            record {
+              first-fits = omega (arith, r .small, r .inside);
+              after-fits = omega (arith, r .small, got .inner, v .inside);
+              count-fits = omega (arith, l .few, r .small, v .inside);
+              row-fits = omega (arith, r .fewRows, r .small, r .inside);
+              next-fits = omega (arith, r .small, v .inside, v .row, v .fewRows, y .fewRows);
+            }
+
+        module _ (x : Next) (fl : Follows o doc (m .at) n x) where
+          pub block-done : (p q g h i : ℕ) (R'' : List ℕ) → x ≡ Over q → g ≡ max far f → h ≡ max g q → i ≡ cnt + 1
+              → R'' ≡ sets R' (width * c .row) (rowList (kindOf o) (c .at) e 0 i p (m .row))
+              → Blocks doc c p (blockR o k n (c .at) (drop (c .at) doc)) (Done m h e) R₀ R'' T₀ T'
+          unfolding Follows
+          block-done p q g h i R'' y u v j s =
+              let d : Ended o doc (m .at) n q = rw y at fl in
+              rw (v, u) (Blocks.block-last o k n doc c R₀ T₀ R T R' T' cur m far cnt f e l got p q R'' d (rw j at s))
+
+          pub block-again : (b g : ℕ) (d : Cursor) → x ≡ More b → g ≡ max far f → d ≡ record { at = b; row = m .row; text = m .text }
+              → Blocks.Loop o k n doc c R₀ T₀ R' T' d g (cnt + 1)
+          unfolding Follows
+          block-again b g d y u v = let q : Again o doc (m .at) n b = rw y at fl in rw (u, v) (Blocks.loop-more o k n doc c R₀ T₀ R T R' T' cur m far cnt f e l got b q)
+
+          pub block-falls : (b : ℕ) (d : Cursor) → x ≡ More b → d ≡ record { at = b; row = m .row; text = m .text } → length doc - d .at < length doc - cur .at
+          unfolding Follows
+          block-falls b d y v = let q : Again o doc (m .at) n b = rw y at fl in rw v (Blocks.loop-falls o k n doc c R₀ T₀ R T R' T' cur m far cnt f e l got b q)
+
+-- ---- a nested bullet
+
+module _ (k n : ℕ) (doc : List ℕ) (c : Cursor) (p : ℕ) (R R' T T' : List ℕ) (a : Block) (w : Members false doc (Within c) (c .row) (memberR false k n (c .at) (drop (c .at) doc)) a R R' T T') where
+  pub bullet-refused : (q : ℕ) → a ≡ Bad q → Blocks doc c p (bulletR (itemR k (suc (suc n))) (c .at) (drop (c .at) doc)) (Bad q) R R' T T'
+  bullet-refused q e = Blocks.bullet-bad k n doc c p R T R' T' q (member-refused false doc (Within c) (c .row) _ a R R' T T' w q e)
+
+  module _ (m : Cursor) (f e : ℕ) (z : a ≡ Done m f e) where
+    pub bullet-encloses : Ready doc c → Enclosed c e 1 (m .row)
+    bullet-encloses r =
+        let g = member-read false doc (Within c) (c .row) _ a R R' T T' w m f e z in
+        let s = g .spare in
+        let v = g .written in
+        record {
+          first-fits = omega (arith, r .small, r .inside);
+          after-fits = omega (arith, r .small, g .inner, v .inside);
+          count-fits = omega arith;
+          row-fits = omega (arith, r .fewRows, r .small, r .inside);
+          next-fits = omega (arith, r .small, r .fewRows, v .inside, v .row, v .fewRows);
+        }
+
+    pub bullet-done : (R'' : List ℕ) → R'' ≡ sets R' (width * c .row) (rowList (kindOf false) (c .at) e 0 1 p (m .row))
+        → Blocks doc c p (bulletR (itemR k (suc (suc n))) (c .at) (drop (c .at) doc)) (Done m f e) R R'' T T'
+    bullet-done R'' s = Blocks.bullet-last k n doc c p R T R' T' R'' m f e (member-read false doc (Within c) (c .row) _ a R R' T T' w m f e z) s
+
+pub bullet-ready : (doc : List ℕ) (c : Cursor) → Ready doc c → Stands doc (Within c)
+bullet-ready doc c r = record { small = r .small; inside = r .inside; fewRows = omega (arith, r .fewRows); fewText = r .fewText }
+
+-- ---- by a look
+
+pub looked-dash : (doc : List ℕ) (at : ℕ) (s : Start) → Looked doc at s → s ≡ Dash → dashed (drop at doc) ≡ true
+unfolding Looked
+looked-dash doc at s h e = rw e at h
+
+pub looked-key : (doc : List ℕ) (at : ℕ) (s : Start) → Looked doc at s → s ≡ Key → keyed (keyR at (drop at doc)) ≡ true
+unfolding Looked
+looked-key doc at s h e = rw e at h
+
+pub looked-line : (doc : List ℕ) (at : ℕ) (s : Start) (q : ℕ) → Looked doc at s → s ≡ Line q → Neither at (drop at doc) q
+unfolding Looked
+looked-line doc at s q h e = rw e at h
+
+-- ---- an item
+
+module _ (doc : List ℕ) (c : Cursor) (p n : ℕ) (b : Block) (R R' T T' : List ℕ) where
+  abbrev At : Reader Tree → Type 0
+  At r = Blocks doc c p (r (c .at) (drop (c .at) doc)) b R R' T T'
+
+  pub item-none : (k : ℕ) → k ≡ 0 → At (openerR (endR false) k n) → At (itemR k n)
+  unfolding itemR
+  item-none k e w = rw e (rw e at w)
+
+  module _ (k : ℕ) (z : k ≡ 0 → ⊥) (s : Start) (h : Looked doc (c .at) s) where
+    pub item-dash : s ≡ Dash → At (bulletR (itemR (k - 1) (suc (suc n)))) → At (itemR k n)
+    item-dash e w = go k z w
+      where
+        go : (k : ℕ) → (k ≡ 0 → ⊥) → At (bulletR (itemR (k - 1) (suc (suc n)))) → At (itemR k n)
+        go zero z w = absurd (z refl)
+        go (suc k) z w = let y : suc k - 1 ≡ k = omega arith in rw (item-array k n (c .at) (drop (c .at) doc) (looked-dash doc (c .at) s h e)) (rw y at w)
+
+    pub item-key : s ≡ Key → At (blockR true (k - 1) n) → At (itemR k n)
+    item-key e w = go k z w
+      where
+        go : (k : ℕ) → (k ≡ 0 → ⊥) → At (blockR true (k - 1) n) → At (itemR k n)
+        go zero z w = absurd (z refl)
+        go (suc k) z w =
+            let y : suc k - 1 ≡ k = omega arith in
+            rw (item-object k n (c .at) (drop (c .at) doc) (looked-key doc (c .at) s h e), object-block k n) (rw y at w)
+
+    pub item-other : (q : ℕ) (l : Block) → s ≡ Line q → b ≡ later l q → Blocks doc c p (openerR (endR false) k n (c .at) (drop (c .at) doc)) l R R' T T' → At (itemR k n)
+    item-other q l e f w = go k z w
+      where
+        go : (k : ℕ) → (k ≡ 0 → ⊥) → Blocks doc c p (openerR (endR false) k n (c .at) (drop (c .at) doc)) l R R' T T' → At (itemR k n)
+        go zero z w = absurd (z refl)
+        go (suc k) z w =
+            let g = looked-line doc (c .at) s q h e in
+            rw (f, item-line k n (c .at) (drop (c .at) doc) (g .no-dash) (g .no-key), ← g .stops) (later-block doc c p _ l q R R' T T' w)
+
+-- ---- nested content
+
+module _ (doc : List ℕ) (c : Cursor) (p n i : ℕ) (R R' T T' : List ℕ) (h : i ≡ lead n (drop (c .at) doc)) where
+  pub nested-cut : (k : ℕ) → i < n → Blocks doc c p (nestedR k n (c .at) (drop (c .at) doc)) (Bad (c .at + i)) R R' T T'
+  nested-cut k l =
+      let s = spaces-lead n (drop (c .at) doc) in
+      Laws.not-block doc c p _ R R' T T' (c .at + i) (indented-bad n (nestedHereR k n) (c .at) (drop (c .at) doc) (omega arith) ∙ ap (λ (j : ℕ). bad (c .at + j)) (s ∙ sym h))
+
+  module _ (m : Cursor) (l : n ≤ i) (u : i ≤ n) (f : m ≡ record { at = c .at + i; row = c .row; text = c .text }) where
+    pub nested-ready : Ready doc c → c .at + i ≤ length doc → Ready doc m
+    nested-ready r k = ready-at doc c m (c .at + i) r (omega arith) k f
+
+    nested-at : (k : ℕ) → nestedR k n (c .at) (drop (c .at) doc) ≡ nestedHereR k n (m .at) (drop (m .at) doc)
+    nested-at k =
+        let e : i ≡ n = omega arith in
+        let s : spaces n (drop (c .at) doc) ≡ n = spaces-lead n (drop (c .at) doc) ∙ (sym h ∙ e) in
+        let v : m .at ≡ c .at + n = ap (λ (x : Cursor). x .at) f ∙ ap (c .at +_) e in
+        indented-ok n (nestedHereR k n) (c .at) (drop (c .at) doc) s ∙ rw (drop-drop n (c .at) doc, v) refl
+
+    module _ (k : ℕ) (b : Block) where
+      abbrev In : Type 0
+      In = Blocks doc c p (nestedR k n (c .at) (drop (c .at) doc)) b R R' T T'
+
+      from : (o : Out Tree) → nestedHereR k n (m .at) (drop (m .at) doc) ≡ o → Blocks doc m p o b R R' T T' → In
+      from o e w = block-from doc c m p (c .at + i) _ o b R R' T T' (nested-at k ∙ e) (omega arith) f w
+
+      pub nested-none : k ≡ 0 → Blocks doc m p (nestedLineR n (m .at) (drop (m .at) doc)) b R R' T T' → In
+      unfolding nestedHereR
+      nested-none e w = from _ (rw e refl) w
+
+      module _ (z : k ≡ 0 → ⊥) (s : Start) (g : Looked doc (m .at) s) where
+        dash-is : s ≡ Dash → nestedHereR k n (m .at) (drop (m .at) doc) ≡ blockR false (k - 1) n (m .at) (drop (m .at) doc)
+        dash-is e = go k z
+          where
+            go : (k : ℕ) → (k ≡ 0 → ⊥) → nestedHereR k n (m .at) (drop (m .at) doc) ≡ blockR false (k - 1) n (m .at) (drop (m .at) doc)
+            go zero z = absurd (z refl)
+            go (suc k) z =
+                let y : k ≡ suc k - 1 = omega arith in
+                nested-array k n (m .at) (drop (m .at) doc) (looked-dash doc (m .at) s g e)
+                ∙ (ap (λ (r : Reader Tree). r (m .at) (drop (m .at) doc)) (array-block k n) ∙ ap (λ (j : ℕ). blockR false j n (m .at) (drop (m .at) doc)) y)
+
+        key-is : s ≡ Key → nestedHereR k n (m .at) (drop (m .at) doc) ≡ blockR true (k - 1) n (m .at) (drop (m .at) doc)
+        key-is e = go k z
+          where
+            go : (k : ℕ) → (k ≡ 0 → ⊥) → nestedHereR k n (m .at) (drop (m .at) doc) ≡ blockR true (k - 1) n (m .at) (drop (m .at) doc)
+            go zero z = absurd (z refl)
+            go (suc k) z =
+                let y : k ≡ suc k - 1 = omega arith in
+                nested-object k n (m .at) (drop (m .at) doc) (looked-key doc (m .at) s g e)
+                ∙ (ap (λ (r : Reader Tree). r (m .at) (drop (m .at) doc)) (object-block k n) ∙ ap (λ (j : ℕ). blockR true j n (m .at) (drop (m .at) doc)) y)
+
+        line-is : (q : ℕ) → s ≡ Line q → nestedHereR k n (m .at) (drop (m .at) doc) ≡ merge (nestedLineR n (m .at) (drop (m .at) doc)) (bad q)
+        line-is q e = go k z
+          where
+            go : (k : ℕ) → (k ≡ 0 → ⊥) → nestedHereR k n (m .at) (drop (m .at) doc) ≡ merge (nestedLineR n (m .at) (drop (m .at) doc)) (bad q)
+            go zero z = absurd (z refl)
+            go (suc k) z =
+                let v = looked-line doc (m .at) s q g e in
+                nested-line k n (m .at) (drop (m .at) doc) (v .no-dash) (v .no-key) ∙ ap (λ (j : ℕ). merge (nestedLineR n (m .at) (drop (m .at) doc)) (bad j)) (sym (v .stops))
+
+        pub nested-dash : s ≡ Dash → Blocks doc m p (blockR false (k - 1) n (m .at) (drop (m .at) doc)) b R R' T T' → In
+        nested-dash e w = from _ (dash-is e) w
+
+        pub nested-key : s ≡ Key → Blocks doc m p (blockR true (k - 1) n (m .at) (drop (m .at) doc)) b R R' T T' → In
+        nested-key e w = from _ (key-is e) w
+
+        pub nested-other : (q : ℕ) (y : Block) → s ≡ Line q → b ≡ later y q → Blocks doc m p (nestedLineR n (m .at) (drop (m .at) doc)) y R R' T T' → In
+        nested-other q y e v w = from _ (line-is q e) (rw v (later-block doc m p _ y q R R' T T' w))
+
+pub ruleset member-laws = (member-property, member-cut, member-ready, member-item, needs)
+
+pub ruleset block-laws = (block-start, block-ready, block-refused, block-inside, block-count, block-encloses, block-done, block-again, block-falls, needs)
+
+pub ruleset bullet-laws = (bullet-ready, bullet-refused, bullet-encloses, bullet-done, needs)
+
+pub ruleset item-laws = (item-none, item-dash, item-key, item-other, needs)
+
+pub ruleset nested-laws = (nested-cut, nested-ready, nested-none, nested-dash, nested-key, nested-other, needs)

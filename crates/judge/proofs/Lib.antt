@@ -1,0 +1,10 @@
+-- What several proofs use.
+pub mod Outs
+pub mod Spans
+pub mod Turns
+pub mod Blocks
+pub mod Looking
+pub mod Lining
+pub mod Colons
+pub mod Containers
+pub mod Documents

@@ -1,0 +1,154 @@
+// Looks at what stands at a place, before anything is written.
+ghost use mathlib.Core.Path.{_≡_};
+ghost use Prim.Native.Nat.{_≤_};
+ghost use lib.ListN.{length, drop};
+ghost use Rattle.exact.specs.Class.{is};
+ghost use Rattle.exact.specs.Place.{peek};
+ghost use Rattle.rooms.specs.Contract.{Ready};
+ghost use Rattle.characters.specs.Reads.{Skips};
+ghost use Rattle.strings.specs.Keys.{keyS};
+ghost use Rattle.judge.specs.Members.{firsts};
+ghost use Rattle.blocks.specs.KeyLook.{dashed};
+ghost use Rattle.judge.specs.Contract.{feedR, endsR, Gap, Looked, Follows};
+use super::Next;
+use super::Start;
+use characters::Skip;
+use characters::optional_comment;
+use rooms::Ans;
+use rooms::Cursor;
+use rooms::indent;
+use strings::is_key;
+use strings::key;
+
+// The byte at a place, 256 at the end.
+pub fn byte_at(doc: &[u8], at: usize) -> u32
+    ensures { λ r. ⌜ r ≡ peek (now (doc .entry)) at ⌝ }
+{
+    let c = Cursor {
+        at,
+        row: 0,
+        text: 0,
+    };
+    c.look(&*doc)
+}
+
+// The cursor at another place.
+pub fn moved(c: Cursor, at: usize) -> Cursor
+    ensures { λ r. ⌜ r ≡ record { at = at; row = c .row; text = c .text } ⌝ }
+{
+    Cursor {
+        at,
+        row: c.row,
+        text: c.text,
+    }
+}
+
+// Whether one space stands at `at`, and no second one.
+pub fn one_space(doc: &[u8], at: usize) -> bool
+    requires { ⌜ at ≤ length (now doc) ⌝ }
+    ensures { λ r. ⌜ Gap (now (doc .entry)) at r ⌝ }
+{
+    if byte_at(&*doc, at) != 32 {
+        return false;
+    }
+    if byte_at(&*doc, at + 1) == 32 {
+        return false;
+    }
+    true
+}
+
+// LF at the root, elsewhere an optional line comment and LF.
+pub fn line_end(doc: &[u8], at: usize, root: bool) -> Skip
+    requires { ⌜ at ≤ length (now doc) ⌝ }
+    ensures { λ r. ⌜ Skips (now (doc .entry)) at (endsR root at (drop at (now (doc .entry)))) r ⌝ }
+{
+    if root {
+        return feed(&*doc, at);
+    }
+    match optional_comment(&*doc, at) {
+        Skip::Bad(p) => Skip::Bad(p),
+        Skip::End(e) => feed(&*doc, e),
+    }
+}
+
+// LF.
+pub fn feed(doc: &[u8], at: usize) -> Skip
+    requires { ⌜ at ≤ length (now doc) ⌝ }
+    ensures { λ r. ⌜ Skips (now (doc .entry)) at (feedR at (drop at (now (doc .entry)))) r ⌝ }
+{
+    if byte_at(&*doc, at) == 10 {
+        return Skip::End(at + 1);
+    }
+    Skip::Bad(at)
+}
+
+// Whether a key begins with the byte.
+fn begins_key(b: u32) -> bool
+    ensures { λ r. ⌜ r ≡ is (keyS .first) b ⌝ }
+{
+    if b == 34 {
+        return true;
+    }
+    if b == 39 {
+        return true;
+    }
+    is_key(b)
+}
+
+// Whether a member of a block begins with the byte.
+fn begins(b: u32, object: bool) -> bool
+    ensures { λ r. ⌜ r ≡ is (firsts object) b ⌝ }
+{
+    if object {
+        return begins_key(b);
+    }
+    b == 45
+}
+
+// The line at `at`, behind a member of a block at col.
+pub fn further(doc: &[u8], at: usize, col: usize, object: bool) -> Next
+    requires { ⌜ at ≤ length (now doc) ⌝ }
+    ensures { λ r. ⌜ Follows object (now (doc .entry)) at col r ⌝ }
+{
+    let i = indent(&*doc, at, col);
+    if i < col {
+        return Next::Over(at + i);
+    }
+    if begins(byte_at(&*doc, at + i), object) {
+        return Next::More(at + i);
+    }
+    Next::Over(at + i)
+}
+
+// How a block begins at the cursor: a key is read into rooms of no use.
+pub fn starts(doc: &[u8], c: Cursor) -> Start
+    requires { ⌜ Ready (now doc) c ⌝ }
+    ensures { λ r. ⌜ Looked (now (doc .entry)) (c .at) r ⌝ }
+{
+    let at = c.at;
+    if dash(&*doc, at) {
+        return Start::Dash;
+    }
+    let mut rows = [0u32; 1];
+    let mut text = [0u8; 1];
+    match key(&*doc, &mut rows, &mut text, c, 0) {
+        Ans::No(p) => Start::Line(p),
+        Ans::Ok(n) => {
+            if n.look(&*doc) == 58 {
+                return Start::Key;
+            }
+            Start::Line(n.at)
+        }
+    }
+}
+
+// Whether a dash and a space stand at `at`.
+fn dash(doc: &[u8], at: usize) -> bool
+    requires { ⌜ at ≤ length (now doc) ⌝ }
+    ensures { λ r. ⌜ r ≡ dashed (drop at (now (doc .entry))) ⌝ }
+{
+    if byte_at(&*doc, at) != 45 {
+        return false;
+    }
+    byte_at(&*doc, at + 1) == 32
+}

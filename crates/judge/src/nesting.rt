@@ -1,0 +1,241 @@
+// Blocks: arrays and objects by lines, what is nested in a property, and items. A container inside another takes one of the allowance.
+ghost use Prim.Native.Nat.{suc, _+_, _*_, _≤_};
+ghost use lib.ListN.{drop};
+ghost use Rattle.rooms.specs.Contract.{Ready, Blocks};
+ghost use mathlib.Core.Bool.{true};
+ghost use Rattle.blocks.specs.Property.{onR};
+ghost use Rattle.blocks.specs.Rest.{restR};
+ghost use Rattle.blocks.specs.Array.{bulletR};
+ghost use Rattle.blocks.specs.Nested.{nestedR, itemR};
+ghost use Rattle.judge.specs.Members.{memberR, blockR};
+ghost use Rattle.judge.specs.Contract.{Stands, Members};
+use super::Next;
+use super::Start;
+use super::lines::enclose;
+use super::lines::kept;
+use super::lines::key_row;
+use super::lines::nested_line;
+use super::lines::on_line;
+use super::lines::opener;
+use super::look::further;
+use super::look::line_end;
+use super::look::moved;
+use super::look::one_space;
+use super::look::starts;
+use characters::Skip;
+use rooms::Ans;
+use rooms::Block;
+use rooms::Cursor;
+use rooms::greater;
+use rooms::indent;
+use rooms::same;
+
+// What stands behind the colon of a property at col.
+fn behind(
+    doc: &[u8],
+    rows: &mut [u32],
+    text: &mut [u8],
+    c: Cursor,
+    parent: u32,
+    col: usize,
+    allow: usize,
+) -> Block
+    requires { ⌜ Ready (now doc) c ⌝ }
+    requires { ⌜ col + 2 * allow ≤ 98 ⌝ }
+    ensures { λ r. ⌜ Blocks (now (doc .entry)) c parent (restR (onR allow col) (nestedR allow (suc (suc col))) (c .at) (drop (c .at) (now (doc .entry)))) r (now (rows .entry)) (now (rows .exit)) (now (text .entry)) (now (text .exit)) ⌝ }
+{
+    let at = c.at;
+    if one_space(&*doc, at) {
+        return on_line(&*doc, rows, text, moved(c, at + 1), parent, col, allow);
+    }
+    match line_end(&*doc, at, false) {
+        Skip::Bad(p) => Block::Bad(p),
+        Skip::End(a) => nested(&*doc, rows, text, moved(c, a), parent, col + 2, allow),
+    }
+}
+
+// A property at col: its key, a colon, and what stands behind it.
+fn property(
+    doc: &[u8],
+    rows: &mut [u32],
+    text: &mut [u8],
+    c: Cursor,
+    parent: u32,
+    col: usize,
+    allow: usize,
+) -> Block
+    requires { ⌜ Stands (now doc) c ⌝ }
+    requires { ⌜ col + 2 * allow ≤ 98 ⌝ }
+    ensures { λ r. ⌜ Members true (now (doc .entry)) c parent (memberR true allow col (c .at) (drop (c .at) (now (doc .entry)))) r (now (rows .entry)) (now (rows .exit)) (now (text .entry)) (now (text .exit)) ⌝ }
+{
+    match key_row(&*doc, rows, text, c, parent) {
+        Ans::No(p) => Block::Bad(p),
+        Ans::Ok(n) => {
+            let at = n.at;
+            if n.look(&*doc) != 58 {
+                return Block::Bad(at);
+            }
+            behind(&*doc, rows, text, moved(n, at + 1), parent, col, allow)
+        }
+    }
+}
+
+// A member of a block at col: a property, or a dash, a space and an item.
+fn member(
+    doc: &[u8],
+    rows: &mut [u32],
+    text: &mut [u8],
+    c: Cursor,
+    parent: u32,
+    col: usize,
+    allow: usize,
+    object: bool,
+) -> Block
+    requires { ⌜ Stands (now doc) c ⌝ }
+    requires { ⌜ col + 2 * allow ≤ 98 ⌝ }
+    ensures { λ r. ⌜ Members object (now (doc .entry)) c parent (memberR object allow col (c .at) (drop (c .at) (now (doc .entry)))) r (now (rows .entry)) (now (rows .exit)) (now (text .entry)) (now (text .exit)) ⌝ }
+{
+    if object {
+        return property(&*doc, rows, text, c, parent, col, allow);
+    }
+    let at = c.at;
+    let i = same(&*doc, at, b"- ");
+    if i < 2 {
+        return Block::Bad(at + i);
+    }
+    item(&*doc, rows, text, moved(c, at + 2), parent, col + 2, allow)
+}
+
+// A block at col whose first member begins at the cursor.
+pub fn block(
+    doc: &[u8],
+    rows: &mut [u32],
+    text: &mut [u8],
+    c: Cursor,
+    parent: u32,
+    col: usize,
+    allow: usize,
+    object: bool,
+) -> Block
+    requires { ⌜ Ready (now doc) c ⌝ }
+    requires { ⌜ col + 2 * allow ≤ 98 ⌝ }
+    ensures { λ r. ⌜ Blocks (now (doc .entry)) c parent (blockR object allow col (c .at) (drop (c .at) (now (doc .entry)))) r (now (rows .entry)) (now (rows .exit)) (now (text .entry)) (now (text .exit)) ⌝ }
+{
+    let row = c.row;
+    let mut cur = Cursor {
+        at: c.at,
+        row: row + 1,
+        text: c.text,
+    };
+    let mut far: usize = 0;
+    let mut count: usize = 0;
+    loop {
+        match member(&*doc, rows, text, cur, row as u32, col, allow, object) {
+            Block::Bad(p) => {
+                return Block::Bad(greater(far, p));
+            }
+            Block::Done(n, f, e) => {
+                far = greater(far, f);
+                count += 1;
+                match further(&*doc, n.at, col, object) {
+                    Next::Over(p) => {
+                        enclose(rows, c, e, parent, count, n.row, object);
+                        return Block::Done(n, greater(far, p), e);
+                    }
+                    Next::More(a) => {
+                        cur = moved(n, a);
+                    }
+                }
+            }
+        }
+    }
+}
+
+// A nested bullet: an array of one item, whose dash stands at the cursor.
+fn bullet(
+    doc: &[u8],
+    rows: &mut [u32],
+    text: &mut [u8],
+    c: Cursor,
+    parent: u32,
+    col: usize,
+    allow: usize,
+) -> Block
+    requires { ⌜ Ready (now doc) c ⌝ }
+    requires { ⌜ col + 2 * allow ≤ 98 ⌝ }
+    ensures { λ r. ⌜ Blocks (now (doc .entry)) c parent (bulletR (itemR allow (suc (suc col))) (c .at) (drop (c .at) (now (doc .entry)))) r (now (rows .entry)) (now (rows .exit)) (now (text .entry)) (now (text .exit)) ⌝ }
+{
+    let row = c.row;
+    let cur = Cursor {
+        at: c.at,
+        row: row + 1,
+        text: c.text,
+    };
+    match member(&*doc, rows, text, cur, row as u32, col, allow, false) {
+        Block::Bad(p) => Block::Bad(p),
+        Block::Done(n, f, e) => {
+            enclose(rows, c, e, parent, 1, n.row, false);
+            Block::Done(n, f, e)
+        }
+    }
+}
+
+// An item with the content column col.
+fn item(
+    doc: &[u8],
+    rows: &mut [u32],
+    text: &mut [u8],
+    c: Cursor,
+    parent: u32,
+    col: usize,
+    allow: usize,
+) -> Block
+    requires { ⌜ Ready (now doc) c ⌝ }
+    requires { ⌜ col + 2 * allow ≤ 100 ⌝ }
+    ensures { λ r. ⌜ Blocks (now (doc .entry)) c parent (itemR allow col (c .at) (drop (c .at) (now (doc .entry)))) r (now (rows .entry)) (now (rows .exit)) (now (text .entry)) (now (text .exit)) ⌝ }
+{
+    if allow == 0 {
+        return opener(&*doc, rows, text, c, parent, col, allow, false);
+    }
+    match starts(&*doc, c) {
+        Start::Dash => bullet(&*doc, rows, text, c, parent, col, allow - 1),
+        Start::Key => block(&*doc, rows, text, c, parent, col, allow - 1, true),
+        Start::Line(p) => {
+            let line = opener(&*doc, rows, text, c, parent, col, allow, false);
+            kept(line, p)
+        }
+    }
+}
+
+// Nested content at col, whose line begins at the cursor.
+fn nested(
+    doc: &[u8],
+    rows: &mut [u32],
+    text: &mut [u8],
+    c: Cursor,
+    parent: u32,
+    col: usize,
+    allow: usize,
+) -> Block
+    requires { ⌜ Ready (now doc) c ⌝ }
+    requires { ⌜ col + 2 * allow ≤ 100 ⌝ }
+    ensures { λ r. ⌜ Blocks (now (doc .entry)) c parent (nestedR allow col (c .at) (drop (c .at) (now (doc .entry)))) r (now (rows .entry)) (now (rows .exit)) (now (text .entry)) (now (text .exit)) ⌝ }
+{
+    let at = c.at;
+    let i = indent(&*doc, at, col);
+    if i < col {
+        return Block::Bad(at + i);
+    }
+    let n = moved(c, at + i);
+    if allow == 0 {
+        return nested_line(&*doc, rows, text, n, parent, col);
+    }
+    match starts(&*doc, n) {
+        Start::Dash => block(&*doc, rows, text, n, parent, col, allow - 1, false),
+        Start::Key => block(&*doc, rows, text, n, parent, col, allow - 1, true),
+        Start::Line(p) => {
+            let line = nested_line(&*doc, rows, text, n, parent, col);
+            kept(line, p)
+        }
+    }
+}

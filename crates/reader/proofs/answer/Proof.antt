@@ -1,0 +1,62 @@
+use native.Mathlib.Omega.{arith}
+use borrow.Author.Needs.{needs}
+use Rattle.reader.specs.Filling.{held-table, answer-repeat, answer-rows, answer-bytes, answer-all, answer-long, answer-stop, stopped-at, holds}
+use Rattle.reader.proofs.answer.Statement.{statement}
+use Rattle.reader.proofs.answer.Tie as tie
+
+first-repeat-requires : tie.Need-first-repeat-requires
+first-repeat-requires c κs = search (held-table, needs)
+
+enum-known-p : tie.Need-enum-known-p
+enum-known-p c = search needs
+
+returns : tie.Need-returns
+returns c = search (answer-repeat, needs)
+
+enum-told : tie.Need-enum-told
+enum-told c = search needs
+
+mul-if1 : tie.Need-mul-if1
+mul-if1 c = search needs
+
+returns-2 : tie.Need-returns-2
+returns-2 c = search (answer-rows, needs)
+
+returns-3 : tie.Need-returns-3
+returns-3 c = search (answer-bytes, needs)
+
+mul-copy-words : tie.Need-mul-copy-words
+mul-copy-words c = search needs
+
+copy-words-requires : tie.Need-copy-words-requires
+copy-words-requires c κs = search needs
+
+copy-requires : tie.Need-copy-requires
+copy-requires c κs = search needs
+
+same-length : tie.Need-same-length
+same-length c = search needs
+
+same-length-2 : tie.Need-same-length-2
+same-length-2 c = search needs
+
+returns-4 : tie.Need-returns-4
+returns-4 c = search (answer-all, needs)
+
+pub answer-spec : {M : Type 1} → statement M
+answer-spec =
+    tie.close
+    (tie.spec
+    first-repeat-requires
+    enum-known-p
+    returns
+    enum-told
+    mul-if1
+    returns-2
+    returns-3
+    mul-copy-words
+    copy-words-requires
+    copy-requires
+    same-length
+    same-length-2
+    returns-4)
