@@ -7,13 +7,6 @@ use Rattle.judge.proofs.Blocks.{Loop}
 use Rattle.judge.proofs.Colons.{key-inside, property-ready, behind-colon, property-laws}
 use Rattle.judge.proofs.Containers.{block-inside, block-done, bullet-encloses, member-laws, block-laws, bullet-laws, item-laws, nested-laws}
 use borrow.Author.Needs.{needs}
-use mathlib.Core.Path.{_≡_, refl}
-use native.Mathlib.Omega.{arith}
-use Prim.Native.Nat.{_*_, _+_, _-_}
-use lib.ListN.{length}
-use Rattle.judge.proofs.Blocks.{Loop}
-use Rattle.judge.proofs.Colons.{key-inside, property-ready, behind-colon, property-laws}
-use Rattle.judge.proofs.Containers.{block-inside, block-done, bullet-encloses, member-laws, block-laws, bullet-laws, item-laws, nested-laws}
 use Prim.Native.Nat.{ℕ, _<_}
 use borrow.Fn.Kinds.{In}
 use borrow.Fn.PlainCycle.{Measures, is, falls, and}

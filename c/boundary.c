@@ -1,0 +1,175 @@
+/* Tries the C interface at the edges of lent memory: every room ends or begins at a page that may not be touched,
+ * so that a byte read or written outside is a crash. `boundary FILE..` also reads each file cut at every place. */
+#define _DEFAULT_SOURCE
+#include <stdio.h>
+#include <stdlib.h>
+#include <string.h>
+#include <sys/mman.h>
+#include <unistd.h>
+#include "yay.h"
+
+#define ROOM ((size_t)1 << 20)
+
+static int tried, wrong;
+
+static void expect(int holds, const char *what, size_t detail) {
+    tried++;
+    if (!holds) {
+        wrong++;
+        printf("FAILED: %s (%zu)\n", what, detail);
+    }
+}
+
+/* Memory between two pages that may not be touched. */
+struct room {
+    uint8_t *low, *high;
+};
+
+static struct room make_room(void) {
+    size_t page = (size_t)sysconf(_SC_PAGESIZE);
+    uint8_t *all = mmap(NULL, ROOM + 2 * page, PROT_NONE, MAP_PRIVATE | MAP_ANONYMOUS, -1, 0);
+    if (all == MAP_FAILED || mprotect(all + page, ROOM, PROT_READ | PROT_WRITE) != 0) {
+        perror("boundary");
+        exit(2);
+    }
+    return (struct room){all + page, all + page + ROOM};
+}
+
+static struct room doc_room, table_room, text_room;
+
+/* The part of a room of so many bytes that touches its end, or its beginning. */
+static uint8_t *part(struct room room, size_t bytes, int at_end) {
+    return at_end ? room.high - bytes : room.low;
+}
+
+struct answer {
+    uint32_t number;
+    size_t first, second;
+};
+
+/* Reads with rooms of exactly so many rows and text bytes; a refusal must leave both as they were. */
+static struct answer read_in(const uint8_t *doc, size_t len, size_t rows, size_t bytes, int at_end) {
+    uint8_t *lent = part(doc_room, len, at_end);
+    uint8_t *words = part(table_room, rows * YAY_WORDS * 4, at_end);
+    uint8_t *text = part(text_room, bytes, at_end);
+    struct answer answer = {0, 77, 77};
+    memcpy(lent, doc, len);
+    memset(words, 0xa5, rows * YAY_WORDS * 4);
+    memset(text, 0xa5, bytes);
+    answer.number = yay_read(lent, len, (uint32_t *)(void *)words, rows * YAY_WORDS, text, bytes, &answer.first,
+                             &answer.second);
+    if (answer.number != YAY_OK) {
+        expect(answer.second == 0, "a refusal's second number", answer.second);
+        for (size_t i = 0; i < rows * YAY_WORDS * 4; i++) {
+            if (words[i] != 0xa5) expect(0, "the table was changed", i);
+        }
+        for (size_t i = 0; i < bytes; i++) {
+            if (text[i] != 0xa5) expect(0, "the text room was changed", i);
+        }
+    }
+    expect(memcmp(lent, doc, len) == 0, "the document was changed", len);
+    return answer;
+}
+
+/* Asks every row of a table, good or broken, for its text and for a key. */
+static void ask(const uint32_t *table, size_t words, size_t rows, const uint8_t *text, size_t len) {
+    for (size_t row = 0; row < rows + 2; row++) {
+        size_t from = 77, to = 77, value = 77;
+        uint32_t number = yay_text(table, words, rows, text, len, row, &from, &to);
+        expect(number == YAY_OK ? from <= to && to <= len : number == YAY_BADROW && from == 0 && to == 0,
+               "the text of a row", row);
+        number = yay_find(table, words, rows, text, len, row, (const uint8_t *)"a", 1, &value);
+        expect(number == YAY_OK ? value < rows : (number == YAY_NONE || number == YAY_BADROW) && value == 0,
+               "a key in a row", row);
+    }
+}
+
+/* A document in large, exact and too small rooms. */
+static void try_document(const uint8_t *doc, size_t len) {
+    for (int at_end = 0; at_end < 2; at_end++) {
+        struct answer all = read_in(doc, len, len, len, at_end);
+        if (all.number != YAY_OK) {
+            expect(all.number <= YAY_REPEAT && all.first <= len, "a refusal's number and place", all.first);
+            continue;
+        }
+        struct answer small = read_in(doc, len, all.first - 1, len, at_end);
+        expect(small.number == YAY_ROWS && small.first == all.first, "a table too small", small.first);
+        if (all.second > 0) {
+            small = read_in(doc, len, all.first, all.second - 1, at_end);
+            expect(small.number == YAY_TEXT && small.first == all.second, "a text room too small", small.first);
+        }
+        struct answer exact = read_in(doc, len, all.first, all.second, at_end);
+        expect(exact.number == YAY_OK && exact.first == all.first && exact.second == all.second, "exact rooms", len);
+        size_t words = all.first * YAY_WORDS;
+        ask((uint32_t *)(void *)part(table_room, words * 4, at_end), words, all.first,
+            part(text_room, all.second, at_end), all.second);
+    }
+}
+
+/* Tables that no reader made: small random words, and fewer of them than the rows say. */
+static void try_broken_tables(void) {
+    uint32_t seed = 1;
+    for (size_t round = 0; round < 2000; round++) {
+        size_t words = round % 40, rows = round % 9;
+        uint32_t *table = (uint32_t *)(void *)part(table_room, words * 4, 1);
+        for (size_t i = 0; i < words; i++) {
+            seed = seed * 1664525u + 1013904223u;
+            table[i] = (seed >> 16) % 100 == 0 ? 0xffffffffu : (seed >> 16) % 12;
+        }
+        ask(table, words, rows, part(text_room, 5, 1), 5);
+    }
+}
+
+static void expect_answer(const char *doc, uint32_t number, size_t first) {
+    struct answer answer = read_in((const uint8_t *)doc, strlen(doc), strlen(doc), strlen(doc), 1);
+    expect(answer.number == number && answer.first == first, doc, answer.first);
+}
+
+static void expect_order(const char *left, const char *right, uint32_t number, int32_t wanted) {
+    int32_t order = 77;
+    uint32_t got = yay_compare((const uint8_t *)left, strlen(left), (const uint8_t *)right, strlen(right), &order);
+    expect(got == number && order == wanted, left, got);
+}
+
+/* Document 01's table of borders, as far as a C string holds it. */
+static void try_borders(void) {
+    expect_answer("", YAY_END, 0);
+    expect_answer("1", YAY_END, 1);
+    expect_answer("[1, 22]\n", YAY_OK, 3);
+    expect_answer("[1,2]\n", YAY_SYNTAX, 3);
+    expect_answer("a: 1 \n", YAY_SYNTAX, 5);
+    expect_answer("nulls\n", YAY_SYNTAX, 5);
+    expect_answer("\"\\u{D800}\"\n", YAY_SYNTAX, 8);
+    expect_answer("a: 1\na: 2\n", YAY_REPEAT, 5);
+    expect_answer("k:\nj: 1\n", YAY_SYNTAX, 3);
+    expect_answer("[[[[[[[[[[[[[[[[[[[[[[[[[[[[[[[[[", YAY_DEEP, 32);
+    expect_answer("a:\t", YAY_CHAR, 2);
+    expect_order("10", "9", YAY_OK, 1);
+    expect_order("-10", "9", YAY_OK, -1);
+    expect_order("0", "0", YAY_OK, 0);
+    expect_order("x", "9", YAY_NOTINT, 0);
+    expect_order("1", "", YAY_NOTINT, 0);
+}
+
+int main(int count, char **args) {
+    static uint8_t doc[YAY_LONGEST + 1];
+    doc_room = make_room();
+    table_room = make_room();
+    text_room = make_room();
+    try_borders();
+    try_broken_tables();
+    memset(doc, ' ', sizeof doc);
+    expect(read_in(doc, sizeof doc, 9, 9, 1).number == YAY_LONG, "a document too long", sizeof doc);
+    for (int i = 1; i < count; i++) {
+        FILE *file = fopen(args[i], "rb");
+        if (file == NULL) {
+            perror(args[i]);
+            return 2;
+        }
+        size_t len = fread(doc, 1, sizeof doc, file);
+        fclose(file);
+        for (size_t cut = 0; cut <= len; cut++) try_document(doc, cut);
+    }
+    printf("boundary: %d answers, %d wrong\n", tried, wrong);
+    return wrong != 0;
+}

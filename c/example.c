@@ -1,0 +1,70 @@
+/* Reads a profile and prints which image a tablet installs: `example FILE`. */
+#include <stdio.h>
+#include <string.h>
+#include "yay.h"
+
+static uint8_t doc[YAY_LONGEST + 1];
+static uint32_t table[YAY_TABLE_ROOM(YAY_LONGEST)];
+static uint8_t text[YAY_TEXT_ROOM(YAY_LONGEST)];
+static size_t rows, text_len;
+
+static const size_t words = sizeof table / sizeof *table;
+
+/* The row of a key's value in an object's row; if there is none, `rows`, of which every question is YAY_BADROW. */
+static size_t find(size_t object, const char *key) {
+    size_t value;
+    uint32_t number = yay_find(table, words, rows, text, text_len, object, (const uint8_t *)key, strlen(key), &value);
+    return number == YAY_OK ? value : rows;
+}
+
+/* Prints a row's text, bytes as hex. */
+static void print_text(const char *name, size_t row) {
+    size_t from, to;
+    if (yay_text(table, words, rows, text, text_len, row, &from, &to) != YAY_OK) {
+        printf("%s: not given\n", name);
+        return;
+    }
+    printf("%s: ", name);
+    if (table[YAY_WORDS * row + YAY_KIND] == YAY_BYTES) {
+        for (; from < to; from++) printf("%02x", text[from]);
+    } else {
+        printf("%.*s", (int)(to - from), (const char *)text + from);
+    }
+    printf("\n");
+}
+
+/* Prints each element of an array of integers, and whether it is above `limit`. */
+static void print_numbers(size_t array, const char *limit) {
+    size_t end = table[YAY_WORDS * array + YAY_NEXT];
+    for (size_t row = array + 1; row < end; row = table[YAY_WORDS * row + YAY_NEXT]) {
+        size_t from, to;
+        int32_t order;
+        if (yay_text(table, words, rows, text, text_len, row, &from, &to) != YAY_OK) continue;
+        if (yay_compare(text + from, to - from, (const uint8_t *)limit, strlen(limit), &order) != YAY_OK) continue;
+        printf("  %.*s%s\n", (int)(to - from), (const char *)text + from, order > 0 ? " (new)" : "");
+    }
+}
+
+int main(int count, char **args) {
+    FILE *file = count == 2 ? fopen(args[1], "rb") : NULL;
+    if (file == NULL) {
+        fprintf(stderr, "usage: example FILE\n");
+        return 2;
+    }
+    size_t doc_len = fread(doc, 1, sizeof doc, file);
+    fclose(file);
+    uint32_t number = yay_read(doc, doc_len, table, words, text, sizeof text, &rows, &text_len);
+    if (number != YAY_OK) {
+        printf("refused: number %u at place %zu\n", (unsigned)number, rows);
+        return 1;
+    }
+    print_text("image-channel", find(0, "image-channel"));
+    print_text("image", find(0, "image"));
+    print_text("capacity", find(find(0, "battery"), "capacity"));
+    size_t version = find(0, "version");
+    if (version < rows && table[YAY_WORDS * version + YAY_KIND] == YAY_ARRAY) {
+        printf("version:\n");
+        print_numbers(version, "9");
+    }
+    return 0;
+}

@@ -1,0 +1,32 @@
+use native.Mathlib.Omega.{arith}
+use mathlib.Core.Path.{refl}
+use borrow.Author.Needs.{needs}
+use Rattle.yay.specs.Exports.{read-into, found-at, found-missing, found-bad, text-inside, text-at, text-bad}
+use Prim.Native.Nat.{_+_, _*_}
+use Rattle.yay.proofs.word.Statement.{statement}
+use Rattle.yay.proofs.word.Tie as tie
+use Rattle.yay.proofs.word.Reads as reads
+use Rattle.yay.proofs.word.Lts as lts
+
+mul-result : tie.Need-mul-result
+mul-result c = search needs
+
+add-result : tie.Need-add-result
+add-result c = search needs
+
+mul-result-2 : tie.Need-mul-result-2
+mul-result-2 c = search needs
+
+shared-slice-read-result : tie.Need-shared-slice-read-result
+shared-slice-read-result c = search needs
+
+cast-result : tie.Need-cast-result
+cast-result c = omega (arith, c .shared-slice-known .given (7 * c .before .args .row + c .before .args .j))
+
+returns : tie.Need-returns
+returns c = search needs
+
+pub word-spec : {M : Type 1} → statement M
+word-spec =
+    tie.close
+    (tie.spec mul-result add-result mul-result-2 shared-slice-read-result cast-result returns)

@@ -1,0 +1,35 @@
+use native.Mathlib.Omega.{arith}
+use mathlib.Core.Path.{refl}
+use borrow.Author.Needs.{needs}
+use Rattle.yay.specs.Exports.{read-into, found-at, found-missing, found-bad}
+use Rattle.yay.proofs.yay_find.Statement.{statement}
+use Rattle.yay.proofs.yay_find.Tie as tie
+use Rattle.yay.proofs.yay_find.Reads as reads
+use Rattle.yay.proofs.yay_find.Lts as lts
+use Rattle.questions.proofs.find.Reads as find-reads
+
+find-requires : tie.Need-find-requires
+find-requires c κs = search needs
+
+enum-known-row : tie.Need-enum-known-row
+enum-known-row c = search needs
+
+enum-told : tie.Need-enum-told
+enum-told c = search needs
+
+enum-told-2 : tie.Need-enum-told-2
+enum-told-2 c = search needs
+
+returns : tie.Need-returns
+returns c = search (found-at, needs)
+
+returns-2 : tie.Need-returns-2
+returns-2 c = search (found-missing, needs)
+
+returns-3 : tie.Need-returns-3
+returns-3 c = search (found-bad, needs)
+
+pub yay-find-spec : {M : Type 1} → statement M
+yay-find-spec =
+    tie.close
+    (tie.spec find-requires enum-known-row enum-told enum-told-2 returns returns-2 returns-3)

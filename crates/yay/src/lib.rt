@@ -1,0 +1,118 @@
+// The C interface: each function answers a number of document 01, 0 for none, and puts its values where it is told.
+ghost use Rattle.yay.specs.Exports.{ReadInto, FoundAt, ComparedTo, TextAt};
+ghost use mathlib.Core.Path.{_≡_};
+ghost use Prim.Native.Nat.{_+_, _*_, _<_};
+ghost use lib.ListN.{length, getD};
+use language::Answer;
+use language::Row;
+use questions::Compared;
+use questions::Found;
+use rooms::WIDTH;
+
+// 0 with the counts of rows and text bytes; or the number of a refusal with its place and 0.
+#[no_mangle]
+pub extern "C" fn yay_read(
+    doc: &[u8],
+    table: &mut [u32],
+    text: &mut [u8],
+    first: &mut usize,
+    second: &mut usize,
+) -> u32
+    ensures { λ r. ⌜ ReadInto (now (doc .entry)) (now (table .entry)) (now (text .entry)) r (now (first .exit)) (now (second .exit)) (now (table .exit)) (now (text .exit)) ⌝ }
+{
+    match reader::read(&*doc, table, text) {
+        Answer::Accepted(rows, bytes) => {
+            *first = rows;
+            *second = bytes;
+            0
+        }
+        Answer::Refused(number, place) => {
+            *first = place.0;
+            *second = 0;
+            number
+        }
+    }
+}
+
+// 0 with the row of the key's value; or 9 or 10 with 0.
+#[no_mangle]
+pub extern "C" fn yay_find(
+    table: &[u32],
+    rows: usize,
+    text: &[u8],
+    object: usize,
+    key: &[u8],
+    value: &mut usize,
+) -> u32
+    ensures { λ r. ⌜ FoundAt (now (table .entry)) rows (now (text .entry)) object (now (key .entry)) r (now (value .exit)) ⌝ }
+{
+    match questions::find(&*table, rows, &*text, Row(object), &*key) {
+        Found::At(row) => {
+            *value = row.0;
+            0
+        }
+        Found::Missing => {
+            *value = 0;
+            10
+        }
+        Found::BadRow => {
+            *value = 0;
+            9
+        }
+    }
+}
+
+// 0 with -1, 0 or 1; or 11 with 0.
+#[no_mangle]
+pub extern "C" fn yay_compare(left: &[u8], right: &[u8], order: &mut i32) -> u32
+    ensures { λ r. ⌜ ComparedTo (now (left .entry)) (now (right .entry)) r (now (order .exit)) ⌝ }
+{
+    match questions::compare(&*left, &*right) {
+        Compared::Less => {
+            *order = -1;
+            0
+        }
+        Compared::Equal => {
+            *order = 0;
+            0
+        }
+        Compared::Greater => {
+            *order = 1;
+            0
+        }
+        Compared::NotInt => {
+            *order = 0;
+            11
+        }
+    }
+}
+
+// A word of a row, as a number.
+fn word(table: &[u32], row: usize, j: usize) -> usize
+    requires { ⌜ 7 * row + j < length (now table) ⌝ }
+    ensures { λ r. ⌜ r ≡ getD (now (table .entry)) (7 * row + j) 0 ⌝ }
+{
+    table[WIDTH * row + j] as usize
+}
+
+// 0 with the start and the end of the row's text in the room; or 9 with 0 and 0.
+#[no_mangle]
+pub extern "C" fn yay_text(
+    table: &[u32],
+    rows: usize,
+    text: &[u8],
+    row: usize,
+    from: &mut usize,
+    to: &mut usize,
+) -> u32
+    ensures { λ r. ⌜ TextAt (now (table .entry)) rows (now (text .entry)) row r (now (from .exit)) (now (to .exit)) ⌝ }
+{
+    if questions::text_number(&*table, rows, &*text, Row(row)) == 0 {
+        *from = word(&*table, row, 3);
+        *to = word(&*table, row, 4);
+        return 0;
+    }
+    *from = 0;
+    *to = 0;
+    9
+}

@@ -1,0 +1,89 @@
+/* A reader of YAY documents, proved in Rattle. Link with -lyay.
+ *
+ * Every function works on lent memory alone: none allocates, keeps a pointer, or keeps anything between calls, so
+ * threads may call at once. A `const` pointer is only read from. What is written (the table, the text room, the
+ * answers behind the last pointers) must overlap nothing else that is handed over.
+ * What is trusted of a caller is that each pointer is not NULL and valid for its length, a word pointer aligned;
+ * where a length is 0 the pointer is never followed. Any document, table and text may be handed over: for every
+ * one of them the answer is the one that the documents of the project fix.
+ *
+ * A place is counted in bytes from 0, a row from 0; they are never taken for one another. */
+#ifndef YAY_H
+#define YAY_H
+
+#include <stddef.h>
+#include <stdint.h>
+
+#ifdef __cplusplus
+extern "C" {
+#endif
+
+/* The most bytes of a document, the most containers one inside another, and the words of a row. */
+#define YAY_LONGEST 32768
+#define YAY_NESTING 32
+#define YAY_WORDS 7
+
+/* Words and text bytes that are enough for any document of so many bytes: rows and text are each fewer. */
+#define YAY_TABLE_ROOM(doc_len) ((doc_len) * YAY_WORDS)
+#define YAY_TEXT_ROOM(doc_len) (doc_len)
+
+/* Numbers. All but YAY_OK are refusals, and a refusal leaves the table and the text room as they were. */
+#define YAY_OK 0
+#define YAY_LONG 1    /* the document has more than YAY_LONGEST bytes; place 0 */
+#define YAY_CHAR 2    /* the byte at the place belongs to no allowed character */
+#define YAY_SYNTAX 3  /* no document goes on with the byte at the place */
+#define YAY_DEEP 4    /* only a document with more than YAY_NESTING containers inside one another goes on so */
+#define YAY_END 5     /* the document ends too early; the place is its length */
+#define YAY_REPEAT 6  /* the key at the place equals an earlier key of its object */
+#define YAY_ROWS 7    /* the table is too small; the place is the rows needed, of YAY_WORDS words each */
+#define YAY_TEXT 8    /* the text room is too small; the place is the bytes needed */
+#define YAY_BADROW 9  /* a question met a row that the table does not have, or of the wrong kind, or broken */
+#define YAY_NONE 10   /* the key isn't in the object */
+#define YAY_NOTINT 11 /* a text compared isn't an integer's text */
+
+/* Words of row r: table[YAY_WORDS * r + one of these]. */
+#define YAY_KIND 0       /* one of the ten kinds */
+#define YAY_FROM 1       /* first byte of the span in the document */
+#define YAY_TO 2         /* byte after the span */
+#define YAY_TEXT_FROM 3  /* first byte of the text in the text room; 0 for kinds without text */
+#define YAY_TEXT_TO 4    /* byte after the text; of an array its elements, of an object its pairs */
+#define YAY_PARENT 5     /* row of the container; the root's is 0 */
+#define YAY_NEXT 6       /* row after the last descendant */
+
+/* Kinds. A key's row stands just before its value's row, and the object is the parent of both. */
+#define YAY_NULL 1
+#define YAY_FALSE 2
+#define YAY_TRUE 3
+#define YAY_INTEGER 4 /* text: `-` if negative, then digits without leading zeros or spaces */
+#define YAY_FLOAT 5   /* text: as written, spaces removed; also nan, infinity, -infinity */
+#define YAY_STRING 6  /* text: decoded, UTF-8, not ended by a zero byte */
+#define YAY_BYTES 7   /* text: the bytes themselves */
+#define YAY_ARRAY 8
+#define YAY_OBJECT 9
+#define YAY_KEY 10    /* text: decoded, UTF-8 */
+
+/* Reads a document of doc_len bytes into a table of table_words words and a text room of text_len bytes.
+ * YAY_OK: *first is the number of rows, *second that of text bytes; words and bytes past them are as before.
+ * YAY_LONG to YAY_TEXT: *first is the place, *second is 0, and both rooms are as before. */
+uint32_t yay_read(const uint8_t *doc, size_t doc_len, uint32_t *table, size_t table_words, uint8_t *text,
+                  size_t text_len, size_t *first, size_t *second);
+
+/* The text of a row of kind 4 to 7 or 10. The table has `words` words and `rows` rows.
+ * YAY_OK: the text is text[*from] up to, not including, text[*to]. YAY_BADROW: both are 0. */
+uint32_t yay_text(const uint32_t *table, size_t words, size_t rows, const uint8_t *text, size_t text_len, size_t row,
+                  size_t *from, size_t *to);
+
+/* The value of a key (decoded, key_len bytes) in an object's row.
+ * YAY_OK: *value is the value's row. YAY_NONE, YAY_BADROW: *value is 0. */
+uint32_t yay_find(const uint32_t *table, size_t words, size_t rows, const uint8_t *text, size_t text_len,
+                  size_t object, const uint8_t *key, size_t key_len, size_t *value);
+
+/* Two integers' texts by numeric order, whatever their length.
+ * YAY_OK: *order is -1 if the left is less, 0 if they are equal, 1 if it is greater. YAY_NOTINT: *order is 0. */
+uint32_t yay_compare(const uint8_t *left, size_t left_len, const uint8_t *right, size_t right_len, int32_t *order);
+
+#ifdef __cplusplus
+}
+#endif
+
+#endif

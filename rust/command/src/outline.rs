@@ -1,0 +1,73 @@
+//! `yay show`: the tree as an indented outline, a line for each value.
+
+use crate::shown::quoted;
+use crate::{Done, Stop};
+use std::io::Write;
+use yay::{Kind, Number, Row, Tree, ROOT};
+
+/// A table that `read` has filled answers every question that is asked of it here.
+pub fn broken(number: Number) -> Stop {
+    Stop::File(format!("the table of rows is broken: {number}"))
+}
+
+pub fn write(tree: &Tree, out: &mut dyn Write) -> Done {
+    writeln!(out, "{}", value(tree, ROOT)?)?;
+    write_children(tree, ROOT, 1, out)
+}
+
+fn write_children(tree: &Tree, container: Row, depth: usize, out: &mut dyn Write) -> Done {
+    let mut name = String::new();
+    for (index, row) in tree.children(container).enumerate() {
+        if tree.kind(row) == Ok(Kind::Key) {
+            name = key(tree.text(row).map_err(broken)?);
+            continue;
+        }
+        if tree.kind(container) == Ok(Kind::Array) {
+            name = index.to_string();
+        }
+        writeln!(out, "{:indent$}{name}: {}", "", value(tree, row)?, indent = 2 * depth)?;
+        write_children(tree, row, depth + 1, out)?;
+    }
+    Ok(())
+}
+
+/// A key as it may be written: bare where that is one.
+pub fn key(text: &[u8]) -> String {
+    let bare = |byte: &u8| byte.is_ascii_alphanumeric() || matches!(byte, b'_' | b'-');
+    match std::str::from_utf8(text) {
+        Ok(name) if !name.is_empty() && text.iter().all(bare) => name.into(),
+        _ => quoted(text),
+    }
+}
+
+fn value(tree: &Tree, row: Row) -> Result<String, Stop> {
+    let kind = tree.kind(row).map_err(broken)?;
+    Ok(match kind {
+        Kind::Null | Kind::False | Kind::True => kind.name().into(),
+        Kind::Array => counted(kind, tree.count(row).map_err(broken)?, "element"),
+        Kind::Object => counted(kind, tree.count(row).map_err(broken)?, "pair"),
+        _ => format!("{} {}", kind.name(), text(kind, tree.text(row).map_err(broken)?)),
+    })
+}
+
+fn counted(kind: Kind, count: usize, what: &str) -> String {
+    let plural = if count == 1 { "" } else { "s" };
+    format!("{} of {count} {what}{plural}", kind.name())
+}
+
+/// A row's text in one line, long ones cut.
+pub fn text(kind: Kind, text: &[u8]) -> String {
+    const MOST: usize = 32;
+    match kind {
+        Kind::String | Kind::Key => quoted(text),
+        Kind::Bytes if text.len() > MOST => format!("<{}…> of {} bytes", hex(&text[..MOST]), text.len()),
+        Kind::Bytes => format!("<{}>", hex(text)),
+        _ => String::from_utf8_lossy(text).into_owned(),
+    }
+}
+
+pub fn hex(bytes: &[u8]) -> String {
+    const DIGITS: &[u8; 16] = b"0123456789abcdef";
+    let digit = |half: u8| DIGITS[half as usize] as char;
+    bytes.iter().flat_map(|byte| [digit(byte >> 4), digit(byte & 15)]).collect()
+}

@@ -1,0 +1,99 @@
+//! A refusal as people see it: `file:line:column: NAME (number): sentence`, the line, and a caret under the place.
+
+use crate::input::Input;
+use crate::place::{position, Position};
+use crate::repeat::first_key;
+use crate::sentence::sentence;
+use crate::shown::quoted;
+use std::fmt::Write;
+use std::io::{self, IsTerminal};
+use yay::{Number, Refusal};
+
+/// Escape codes for a terminal, or nothing.
+struct Ink {
+    bold: &'static str,
+    red: &'static str,
+    off: &'static str,
+}
+
+const PLAIN: Ink = Ink { bold: "", red: "", off: "" };
+const COLOURS: Ink = Ink { bold: "\x1b[1m", red: "\x1b[1;31m", off: "\x1b[0m" };
+
+/// Says on standard error why a document is refused.
+pub fn say(input: &Input, refusal: Refusal) {
+    let wanted = std::env::var_os("NO_COLOR").is_none_or(|value| value.is_empty());
+    let ink = if io::stderr().is_terminal() && wanted { COLOURS } else { PLAIN };
+    // Where standard error is closed there is nobody to tell.
+    let _ = io::Write::write_all(&mut io::stderr(), report(input, refusal, &ink).as_bytes());
+}
+
+fn report(input: &Input, refusal: Refusal, ink: &Ink) -> String {
+    let here = position(&input.bytes, refusal.place.0);
+    if refusal.number == Number::Repeat {
+        return report_repeat(input, refusal, &here, ink);
+    }
+    let mut report = headline(input, refusal, &here, &sentence(input, refusal), ink);
+    if refusal.number != Number::Long {
+        quote(&mut report, &here, "", ink);
+    }
+    report
+}
+
+fn report_repeat(input: &Input, refusal: Refusal, here: &Position, ink: &Ink) -> String {
+    let Some((key, first)) = first_key(&input.bytes, refusal.place.0) else {
+        let mut report = headline(input, refusal, here, refusal.number.meaning(), ink);
+        quote(&mut report, here, "", ink);
+        return report;
+    };
+    let there = position(&input.bytes, first);
+    let (line, column) = (there.line, there.column);
+    let sentence = format!("the key {} stands in its object already, at {line}:{column}", quoted(&key));
+    let mut report = headline(input, refusal, here, &sentence, ink);
+    quote(&mut report, &there, " first", ink);
+    quote(&mut report, here, " again", ink);
+    report
+}
+
+fn headline(input: &Input, refusal: Refusal, here: &Position, sentence: &str, ink: &Ink) -> String {
+    let Ink { bold, red, off } = ink;
+    let (name, code) = (refusal.number.name(), refusal.number.code());
+    format!("{bold}{}:{}:{}:{off} {red}{name} ({code}){off}: {sentence}\n", input.name, here.line, here.column)
+}
+
+fn quote(report: &mut String, at: &Position, label: &str, ink: &Ink) {
+    let (line, caret) = at.quote();
+    let Ink { red, off, .. } = ink;
+    let row = format!("{:>5} | {line}", at.line);
+    let _ = writeln!(report, "{}", row.trim_end());
+    let _ = writeln!(report, "      | {}{red}^{label}{off}", " ".repeat(caret));
+}
+
+#[cfg(test)]
+mod tests {
+    use super::*;
+
+    fn shown(doc: &[u8], ink: &Ink) -> String {
+        let input = Input { name: "f.yay".into(), bytes: doc.to_vec(), length: None };
+        report(&input, yay::Document::read(doc).expect_err("refused"), ink)
+    }
+
+    #[test]
+    fn the_line_and_a_caret() {
+        let wanted = "f.yay:2:13: SYNTAX (3): \"2\" may not stand here; one space must follow \",\"\n    \
+                      2 | version: [1,2]\n      |             ^\n";
+        assert_eq!(shown(b"a: 1\nversion: [1,2]\n", &PLAIN), wanted);
+    }
+
+    #[test]
+    fn a_repeat_shows_both_keys() {
+        let wanted = "f.yay:3:1: REPEAT (6): the key \"a\" stands in its object already, at 1:1\n    \
+                      1 | a: 1\n      | ^ first\n    3 | \"a\": 2\n      | ^ again\n";
+        assert_eq!(shown(b"a: 1\nb: {a: 3}\n\"a\": 2\n", &PLAIN), wanted);
+    }
+
+    #[test]
+    fn escape_codes_for_terminals_alone() {
+        assert!(!shown(b"a", &PLAIN).contains('\x1b'));
+        assert!(shown(b"a", &COLOURS).contains("\x1b[1;31mEND (5)\x1b[0m"));
+    }
+}

@@ -1,0 +1,62 @@
+//! Runs the command as a user would, behind YAY_RUNNER where this machine cannot run it itself.
+
+use std::io::Write;
+use std::path::PathBuf;
+use std::process::{Command, Stdio};
+
+pub struct Run {
+    pub status: i32,
+    pub out: String,
+    pub err: String,
+}
+
+/// Runs `yay` with words and standard input.
+pub fn yay(words: &[&str], input: &[u8]) -> Run {
+    let program = env!("CARGO_BIN_EXE_yay");
+    let mut command = match std::env::var("YAY_RUNNER") {
+        Ok(runner) if !runner.is_empty() => {
+            let mut command = Command::new(runner);
+            command.arg(program);
+            command
+        }
+        _ => Command::new(program),
+    };
+    command.args(words).stdin(Stdio::piped()).stdout(Stdio::piped()).stderr(Stdio::piped());
+    let mut child = command.spawn().expect("yay starts");
+    let (mut pipe, input) = (child.stdin.take().expect("piped"), input.to_vec());
+    // Beside the reading of answers, so that neither waits for the other; a command may end without reading it.
+    let writer = std::thread::spawn(move || pipe.write_all(&input));
+    let output = child.wait_with_output().expect("yay ends");
+    let _ = writer.join().expect("written");
+    let text = |bytes: Vec<u8>| String::from_utf8(bytes).expect("UTF-8");
+    Run { status: output.status.code().expect("no signal"), out: text(output.stdout), err: text(output.stderr) }
+}
+
+/// A file of the repository.
+#[allow(dead_code)]
+pub fn example(name: &str) -> String {
+    format!("{}/../../examples/{name}", env!("CARGO_MANIFEST_DIR"))
+}
+
+/// A file with these bytes, gone when dropped.
+pub struct Temporary(pub PathBuf);
+
+impl Temporary {
+    #[allow(dead_code)]
+    pub fn new(name: &str, bytes: &[u8]) -> Temporary {
+        let path = std::env::temp_dir().join(format!("yay-test-{}-{name}", std::process::id()));
+        std::fs::write(&path, bytes).expect("written");
+        Temporary(path)
+    }
+
+    #[allow(dead_code)]
+    pub fn name(&self) -> &str {
+        self.0.to_str().expect("UTF-8")
+    }
+}
+
+impl Drop for Temporary {
+    fn drop(&mut self) {
+        let _ = std::fs::remove_file(&self.0);
+    }
+}

@@ -1,0 +1,36 @@
+//! The owned form: a document with rooms of its own.
+
+use crate::{read, Refusal, Tree, LONGEST, WORDS};
+
+/// An accepted document's rows and text, in memory of its own.
+///
+/// ```
+/// let document = yay::Document::read(b"low-at: 0.15\nnames: [\"A\", \"B\"]\n")?;
+/// let tree = document.tree();
+/// let names = tree.find(yay::ROOT, "names")?;
+/// let texts: Vec<_> = tree.children(names).map(|row| tree.text(row).unwrap()).collect();
+/// assert_eq!(texts, [b"A", b"B"]);
+/// # Ok::<(), Box<dyn std::error::Error>>(())
+/// ```
+#[derive(Clone, PartialEq, Eq, Debug)]
+pub struct Document {
+    table: Vec<u32>,
+    text: Vec<u8>,
+}
+
+impl Document {
+    /// Reads with rooms that are large enough for any document of that length.
+    pub fn read(doc: &[u8]) -> Result<Document, Refusal> {
+        let room = doc.len().min(LONGEST);
+        let (mut table, mut text) = (vec![0; room * WORDS], vec![0; room]);
+        let tree = read(doc, &mut table, &mut text)?;
+        let (rows, bytes) = (tree.rows(), tree.text_room().len());
+        table.truncate(rows * WORDS);
+        text.truncate(bytes);
+        Ok(Document { table, text })
+    }
+
+    pub fn tree(&self) -> Tree<'_> {
+        Tree::new(&self.table, self.table.len() / WORDS, &self.text)
+    }
+}

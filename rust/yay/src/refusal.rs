@@ -1,0 +1,106 @@
+//! Numbers of refusal, and the errors that carry them.
+
+use std::error::Error;
+use std::fmt;
+
+/// A place in a document, in bytes from 0. A [`Row`](crate::Row) is never taken for one.
+#[derive(Clone, Copy, PartialEq, Eq, PartialOrd, Ord, Hash, Debug)]
+pub struct Place(pub usize);
+
+/// Why a document is refused, or a question has no answer.
+#[derive(Clone, Copy, PartialEq, Eq, Hash, Debug)]
+#[repr(u32)]
+pub enum Number {
+    /// The document has more than [`LONGEST`](crate::LONGEST) bytes.
+    Long = 1,
+    /// The byte at the place belongs to no allowed character.
+    Char,
+    /// No document goes on with the byte at the place.
+    Syntax,
+    /// Only with more than [`NESTING`](crate::NESTING) containers one inside another could it go on so.
+    Deep,
+    /// The document ends too early.
+    End,
+    /// The key at the place equals an earlier key of its object.
+    Repeat,
+    /// The table lent has too few words.
+    Rows,
+    /// The text room lent has too few bytes.
+    Text,
+    /// A question met a row that the table doesn't have, of the wrong kind, or broken.
+    BadRow,
+    /// The key isn't in the object.
+    None,
+    /// A text compared isn't an integer's text.
+    NotInt,
+}
+
+const NUMBERS: [(Number, &str, &str); 11] = [
+    (Number::Long, "LONG", "the document has more than 32,768 bytes"),
+    (Number::Char, "CHAR", "this byte belongs to no allowed character"),
+    (Number::Syntax, "SYNTAX", "no document goes on like this"),
+    (Number::Deep, "DEEP", "more than 32 containers stand one inside another"),
+    (Number::End, "END", "the document ends too early"),
+    (Number::Repeat, "REPEAT", "this key stands in its object already"),
+    (Number::Rows, "ROWS", "the table lent has too few words"),
+    (Number::Text, "TEXT", "the text room lent has too few bytes"),
+    (Number::BadRow, "BADROW", "the table has no such row that could be asked this"),
+    (Number::None, "NONE", "the key isn't in the object"),
+    (Number::NotInt, "NOTINT", "a text compared isn't an integer's text"),
+];
+
+impl Number {
+    /// The number 1 to 11 as given by the C interface.
+    pub fn from_code(code: u32) -> Option<Number> {
+        let index = usize::try_from(code).ok()?.checked_sub(1)?;
+        NUMBERS.get(index).map(|(number, _, _)| *number)
+    }
+
+    pub fn code(self) -> u32 {
+        self as u32
+    }
+
+    /// Its name in capitals, as `SYNTAX`.
+    pub fn name(self) -> &'static str {
+        NUMBERS[self as usize - 1].1
+    }
+
+    /// What it means, in one plain sentence without a full stop.
+    pub fn meaning(self) -> &'static str {
+        NUMBERS[self as usize - 1].2
+    }
+
+    /// A code outside the header's list would be a broken library: there is nothing to go on with.
+    pub(crate) fn given(code: u32) -> Number {
+        Number::from_code(code).expect("libyay gives the numbers of yay.h alone")
+    }
+}
+
+impl fmt::Display for Number {
+    fn fmt(&self, out: &mut fmt::Formatter) -> fmt::Result {
+        write!(out, "{} ({}): {}", self.name(), self.code(), self.meaning())
+    }
+}
+
+impl Error for Number {}
+
+/// A document refused: numbers [`Number::Long`] to [`Number::Text`].
+#[derive(Clone, Copy, PartialEq, Eq, Debug)]
+pub struct Refusal {
+    pub number: Number,
+    /// Where; for [`Number::Rows`] and [`Number::Text`] how many rows or bytes are needed.
+    pub place: Place,
+}
+
+impl fmt::Display for Refusal {
+    fn fmt(&self, out: &mut fmt::Formatter) -> fmt::Result {
+        match self.number {
+            Number::Long => write!(out, "{}", self.number),
+            Number::Rows => write!(out, "{}, {} rows of 7 words are needed", self.number, self.place.0),
+            Number::Text => write!(out, "{}, {} are needed", self.number, self.place.0),
+            _ => write!(out, "{}, at byte {}", self.number, self.place.0),
+        }
+    }
+}
+
+impl Error for Refusal {}

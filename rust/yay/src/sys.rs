@@ -1,0 +1,103 @@
+//! The functions of include/yay.h, each behind a safe one of the same meaning.
+
+mod linked {
+    extern "C" {
+        pub fn yay_read(
+            doc: *const u8,
+            doc_len: usize,
+            table: *mut u32,
+            table_words: usize,
+            text: *mut u8,
+            text_len: usize,
+            first: *mut usize,
+            second: *mut usize,
+        ) -> u32;
+        pub fn yay_text(
+            table: *const u32,
+            words: usize,
+            rows: usize,
+            text: *const u8,
+            text_len: usize,
+            row: usize,
+            from: *mut usize,
+            to: *mut usize,
+        ) -> u32;
+        pub fn yay_find(
+            table: *const u32,
+            words: usize,
+            rows: usize,
+            text: *const u8,
+            text_len: usize,
+            object: usize,
+            key: *const u8,
+            key_len: usize,
+            value: *mut usize,
+        ) -> u32;
+        pub fn yay_compare(
+            left: *const u8,
+            left_len: usize,
+            right: *const u8,
+            right_len: usize,
+            order: *mut i32,
+        ) -> u32;
+    }
+}
+
+/// 0, rows and text bytes; or the number, the place and 0.
+pub fn read(doc: &[u8], table: &mut [u32], text: &mut [u8]) -> (u32, usize, usize) {
+    let (mut first, mut second) = (0, 0);
+    let (words, bytes) = (table.len(), text.len());
+    // SAFETY: each pointer and length is that of a live slice, the two lent for writing are borrowed by this call
+    // alone, and the two answers are apart from each other and from them.
+    let number = unsafe {
+        linked::yay_read(
+            doc.as_ptr(),
+            doc.len(),
+            table.as_mut_ptr(),
+            words,
+            text.as_mut_ptr(),
+            bytes,
+            &mut first,
+            &mut second,
+        )
+    };
+    (number, first, second)
+}
+
+/// 0 and the part of the text room; or the number, 0 and 0.
+pub fn text(table: &[u32], rows: usize, text: &[u8], row: usize) -> (u32, usize, usize) {
+    let (mut from, mut to) = (0, 0);
+    // SAFETY: each pointer and length is that of a live slice, and the two answers are apart.
+    let number = unsafe {
+        linked::yay_text(table.as_ptr(), table.len(), rows, text.as_ptr(), text.len(), row, &mut from, &mut to)
+    };
+    (number, from, to)
+}
+
+/// 0 and the value's row; or the number and 0.
+pub fn find(table: &[u32], rows: usize, text: &[u8], object: usize, key: &[u8]) -> (u32, usize) {
+    let mut value = 0;
+    // SAFETY: each pointer and length is that of a live slice, and the answer is apart from them.
+    let number = unsafe {
+        linked::yay_find(
+            table.as_ptr(),
+            table.len(),
+            rows,
+            text.as_ptr(),
+            text.len(),
+            object,
+            key.as_ptr(),
+            key.len(),
+            &mut value,
+        )
+    };
+    (number, value)
+}
+
+/// 0 and -1, 0 or 1; or the number and 0.
+pub fn compare(left: &[u8], right: &[u8]) -> (u32, i32) {
+    let mut order = 0;
+    // SAFETY: each pointer and length is that of a live slice, and the answer is apart from them.
+    let number = unsafe { linked::yay_compare(left.as_ptr(), left.len(), right.as_ptr(), right.len(), &mut order) };
+    (number, order)
+}
