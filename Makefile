@@ -1,20 +1,57 @@
 # The README's commands, and what they need.
-.PHONY: test evidence run
+SHELL := bash
+.SHELLFLAGS := -eo pipefail -c
+.PHONY: test evidence compare soak bench figures linked run
+.DEFAULT_GOAL := test
 
-EVIDENCE = CARGO_TARGET_DIR=../target/cargo cargo
+# What cargo builds outlives target/, which `rt ci` removes.
+export CARGO_TARGET_DIR := $(CURDIR)/build/cargo
+export CARGO_NET_OFFLINE := true
+BUILT := build/cargo/release
+EVIDENCE := --release --quiet --manifest-path evidence/Cargo.toml
+VECTORS := evidence/vectors/base.tsv
 
-# The evidence first; then every crate proved from nothing, every must-fail edit refused, every program's output as stored.
+include people.mk
+
+# What needs no proof comes first. Then `rt ci` removes target/ and proves every crate, tries every must-fail edit and
+# runs every program. The library can be made only behind it, when all but its own crate is proved already, and what
+# links the library only behind that. So rt ci's last line is kept, outside target/, and said again when all is done.
+# Crates and edits take very different times: four at once leave no processor idle.
 test: evidence
-	rt ci
+	@mkdir -p build
+	RT_JOBS=4 rt ci 2>&1 | tee build/ci.out
+	$(MAKE) people-test compare
+	@tail -n 1 build/ci.out | grep -xE '[0-9]+ passed, 0 failed'
 
 # The second reader and the slow checker of places agree with each other and with the vectors.
 evidence:
-	cd evidence && $(EVIDENCE) build --offline --release --quiet && $(EVIDENCE) test --offline --release --quiet
-	target/cargo/release/vectors evidence/vectors/base.tsv
-	target/cargo/release/places 2000 7
+	cargo build $(EVIDENCE) && cargo test $(EVIDENCE)
+	$(BUILT)/vectors $(VECTORS)
+	$(BUILT)/places 2000 7
+
+# The proved reader agrees with the second reader, on a million documents and more.
+compare: linked
+	$(BUILT)/compare --vectors $(VECTORS)
+
+# The same as long as one likes: `make soak SECONDS=600`, or until it is stopped; SEED= gives the same documents again.
+soak: linked
+	$(BUILT)/compare --soak --vectors $(VECTORS) --seed $(or $(SEED),$(shell date +%s)) $(if $(SECONDS),--seconds $(SECONDS))
+
+# Figures of speed; `make figures` puts them below the last heading of docs/BENCHMARKS.md.
+bench: linked
+	@echo "$$(date -u +%F), $$(uname -m), $$(lscpu | sed -n 's/^Model name: *//p'), native code from the proved module"; echo
+	@$(BUILT)/bench
+
+figures: linked
+	@mkdir -p build
+	$(MAKE) --silent --no-print-directory bench | tee build/figures
+	sed -i '/^## Figures/q' docs/BENCHMARKS.md
+	(echo; cat build/figures) >> docs/BENCHMARKS.md
+
+# The programs of evidence/ that link the library.
+linked: $(LIBRARY)
+	cargo build $(EVIDENCE) --features proved --bin compare --bin bench
 
 # The tree of an example profile, read by the proved reader.
 run: yay
 	build/yay show examples/tablet.yay
-
-include people.mk

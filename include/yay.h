@@ -6,6 +6,7 @@
  * What is trusted of a caller is that each pointer is not NULL and valid for its length, a word pointer aligned;
  * where a length is 0 the pointer is never followed. Any document, table and text may be handed over: for every
  * one of them the answer is the one that the documents of the project fix.
+ * yay_read has rooms of its own on the stack: give its thread 2 MB of it.
  *
  * A place is counted in bytes from 0, a row from 0; they are never taken for one another. */
 #ifndef YAY_H

@@ -3,12 +3,13 @@
 
 mod asked;
 pub mod faults;
+pub mod run;
 pub mod stream;
 
 use crate::documents::grow::Meant;
 use crate::documents::Rng;
 use crate::second::questions::{self, Lent};
-use crate::second::{Answer, Counts, Refusal, Second, ROWS, TEXT, WORDS};
+use crate::second::{Answer, Counts, Refusal, Second, LONGEST, ROWS, TEXT, WORDS};
 use std::ops::Range;
 
 /// What a reader under test offers, as the C interface has it.
@@ -25,6 +26,16 @@ pub trait Questions {
     fn row_text(&self, lent: &Lent, row: usize) -> Result<Range<usize>, u32>;
     fn find_key(&self, lent: &Lent, object: usize, key: &[u8]) -> Result<usize, u32>;
     fn compare_integers(&self, left: &[u8], right: &[u8]) -> Result<i32, u32>;
+}
+
+impl Reader for Box<dyn Reader> {
+    fn read(&mut self, doc: &[u8], table: &mut [u32], room: &mut [u8]) -> Answer {
+        (**self).read(doc, table, room)
+    }
+
+    fn questions(&self) -> Option<&dyn Questions> {
+        (**self).questions()
+    }
 }
 
 impl Reader for Second {
@@ -57,19 +68,33 @@ impl Questions for SecondQuestions {
 #[derive(Default, Clone)]
 pub struct Tally {
     pub documents: usize,
-    pub answers: usize,
-    pub asked: usize,
     /// Answers by number, 0 for acceptance.
-    pub numbers: [usize; 9],
+    pub numbers: [usize; 12],
+    /// Questions asked.
+    pub asked: usize,
     /// Rows of accepted documents by kind.
     pub kinds: [usize; 11],
 }
 
+impl Tally {
+    pub fn add(&mut self, other: &Tally) {
+        self.documents += other.documents;
+        self.asked += other.asked;
+        self.numbers.iter_mut().zip(other.numbers).for_each(|(sum, more)| *sum += more);
+        self.kinds.iter_mut().zip(other.kinds).for_each(|(sum, more)| *sum += more);
+    }
+}
+
 /// Words and bytes behind the lent rooms, which no reader may touch either.
 const GUARD: usize = 8;
+/// Far too large rooms, as words and bytes.
+const FAR: (usize, usize) = (WORDS * (LONGEST + 100), LONGEST + 100);
 
 pub struct Comparer {
     second: Second,
+    /// What the rooms hold before a reader gets them.
+    old_table: Vec<u32>,
+    old_room: Vec<u8>,
     table: Vec<u32>,
     room: Vec<u8>,
     pub tally: Tally,
@@ -77,17 +102,12 @@ pub struct Comparer {
 
 impl Default for Comparer {
     fn default() -> Self {
-        Comparer { second: Second::new(), table: Vec::new(), room: Vec::new(), tally: Tally::default() }
+        let old_table: Vec<u32> =
+            (0..(FAR.0 + GUARD) as u32).map(|i| 0xA500_0000 ^ i.wrapping_mul(0x9E37_79B1)).collect();
+        let old_room: Vec<u8> = (0..FAR.1 + GUARD).map(|i| (i as u8).wrapping_mul(31) ^ 0x5A).collect();
+        let (table, room) = (old_table.clone(), old_room.clone());
+        Comparer { second: Second::new(), old_table, old_room, table, room, tally: Tally::default() }
     }
-}
-
-/// What a word or byte of a room holds before a reader gets it.
-fn old_word(i: usize) -> u32 {
-    0xA500_0000 ^ (i as u32).wrapping_mul(0x9E37_79B1)
-}
-
-fn old_byte(i: usize) -> u8 {
-    (i as u8).wrapping_mul(31) ^ 0x5A
 }
 
 impl Comparer {
@@ -96,23 +116,29 @@ impl Comparer {
         self.second.tree(doc).map(|(words, text)| (words.to_vec(), text.to_vec()))
     }
 
-    /// The first difference on a document in all rooms, in words.
-    pub fn difference(&mut self, reader: &mut dyn Reader, doc: &[u8], seed: u64) -> Option<String> {
-        let meant = self.expected(doc);
+    /// The first difference from what a document means, in words: in rooms of many sizes, and in the questions.
+    /// `every` room is tried, or far too large ones only now and then.
+    pub fn difference(
+        &mut self,
+        reader: &mut dyn Reader,
+        doc: &[u8],
+        meant: &Meant,
+        every: bool,
+        seed: u64,
+    ) -> Option<String> {
         self.tally.documents += 1;
         let mut rng = Rng::new(seed);
-        for (words, bytes) in rooms(&meant, &mut rng) {
-            let what = self.in_rooms(reader, doc, &meant, words, bytes);
+        for (words, bytes) in rooms(meant, every, &mut rng) {
+            let what = self.in_rooms(reader, doc, meant, words, bytes);
             if what.is_some() {
                 return what;
             }
         }
-        let (words, text) = meant.ok()?;
+        let (words, text) = meant.as_ref().ok()?;
         for row in words.chunks_exact(WORDS) {
             self.tally.kinds[row[0] as usize] += 1;
         }
-        let questions = reader.questions()?;
-        asked::difference(questions, &words, &text, &mut rng, &mut self.tally.asked)
+        asked::difference(reader.questions()?, words, text, &mut rng, &mut self.tally)
     }
 
     fn in_rooms(
@@ -124,27 +150,34 @@ impl Comparer {
         bytes: usize,
     ) -> Option<String> {
         let expected = answer_in(meant, words, bytes);
-        self.tally.answers += 1;
         self.tally.numbers[expected.map_or_else(|refusal| refusal.number as usize, |_| 0)] += 1;
-        self.table.clear();
-        self.table.extend((0..words + GUARD).map(old_word));
-        self.room.clear();
-        self.room.extend((0..bytes + GUARD).map(old_byte));
-        let answer = reader.read(doc, &mut self.table[..words], &mut self.room[..bytes]);
-        let rooms = format_args!("with {words} words and {bytes} bytes lent").to_string();
-        if answer != expected {
-            return Some(format!("{rooms}: expected {expected:?}, got {answer:?}"));
-        }
+        let (table, room) = (&mut self.table[..words + GUARD], &mut self.room[..bytes + GUARD]);
+        table.copy_from_slice(&self.old_table[..words + GUARD]);
+        room.copy_from_slice(&self.old_room[..bytes + GUARD]);
+        let answer = reader.read(doc, &mut table[..words], &mut room[..bytes]);
         let (rows, text): (&[u32], &[u8]) = match (expected, meant) {
             (Ok(_), Ok((rows, text))) => (rows, text),
             _ => (&[], &[]),
         };
-        if let Some(i) = (0..self.table.len()).find(|&i| self.table[i] != rows.get(i).copied().unwrap_or(old_word(i))) {
-            return Some(format!("{rooms}: word {i} of {} is {}", rows.len(), self.table[i]));
-        }
-        let wrong = (0..self.room.len()).find(|&i| self.room[i] != text.get(i).copied().unwrap_or(old_byte(i)));
-        wrong.map(|i| format!("{rooms}: text byte {i} of {} is {}", text.len(), self.room[i]))
+        let what = if answer != expected {
+            format!("expected {expected:?}, got {answer:?}")
+        } else if let Some(i) = first_wrong(table, rows, &self.old_table) {
+            format!("word {i} of {} is {}", rows.len(), table[i])
+        } else {
+            let i = first_wrong(room, text, &self.old_room)?;
+            format!("text byte {i} of {} is {}", text.len(), room[i])
+        };
+        Some(format!("with {words} words and {bytes} bytes lent: {what}"))
     }
+}
+
+/// Where a room is not `new` and behind that as of `old`.
+fn first_wrong<T: PartialEq>(room: &[T], new: &[T], old: &[T]) -> Option<usize> {
+    let (filled, kept) = room.split_at(new.len());
+    if filled == new && kept == &old[new.len()..room.len()] {
+        return None;
+    }
+    (0..room.len()).find(|&i| room[i] != *new.get(i).unwrap_or(&old[i]))
 }
 
 /// The answer in rooms of the given sizes.
@@ -163,20 +196,26 @@ fn answer_in(meant: &Meant, words: usize, bytes: usize) -> Answer {
     Ok(counts)
 }
 
-/// Exact, one short, empty and larger rooms, and one of random size.
-fn rooms(meant: &Meant, rng: &mut Rng) -> Vec<(usize, usize)> {
-    match meant {
+/// Empty, exact, one word or one byte short, larger and random rooms, as words and bytes.
+fn rooms(meant: &Meant, every: bool, rng: &mut Rng) -> Vec<(usize, usize)> {
+    let mut rooms = match meant {
         Err(_) => vec![(0, 0), (rng.below(80), rng.below(20))],
         Ok((rows, text)) => {
             let (words, bytes) = (rows.len(), text.len());
-            let mut rooms = vec![(words, bytes), (words - 1, bytes), (words + rng.below(40), bytes + rng.below(40))];
-            rooms.push((rng.below(words + 1), rng.below(bytes + 1)));
-            rooms.push((0, bytes));
-            if bytes > 0 {
-                rooms.push((words, bytes - 1));
-                rooms.push((words + 7, 0));
-            }
-            rooms
+            vec![
+                (words, bytes),
+                (words - 1, bytes),
+                (words, bytes.saturating_sub(1)),
+                (0, bytes),
+                (words, 0),
+                (0, 0),
+                (words + rng.below(40), bytes + rng.below(40)),
+                (rng.below(words + 1), rng.below(bytes + 1)),
+            ]
         }
+    };
+    if every || rng.once_in(100) {
+        rooms.push(FAR);
     }
+    rooms
 }

@@ -1,7 +1,10 @@
 //! Documents to try: grown from the grammar, changed, small, deep, long and bordering.
 
+pub mod borders;
 pub mod deep;
 pub mod grow;
+pub mod hostile;
+pub mod keys;
 pub mod mutate;
 pub mod pieces;
 pub mod rng;

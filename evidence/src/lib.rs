@@ -3,6 +3,8 @@
 
 pub mod compare;
 pub mod documents;
+#[cfg(feature = "proved")]
+pub mod figures;
 pub mod hex;
 #[cfg(feature = "proved")]
 pub mod proved;

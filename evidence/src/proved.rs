@@ -1,43 +1,114 @@
-//! The proved library behind its C interface (feature `proved`).
+//! The proved library behind its C interface, include/yay.h (feature `proved`).
 
-use crate::compare::Reader;
+use crate::compare::{Questions, Reader};
+use crate::second::questions::Lent;
 use crate::second::{Answer, Counts, Refusal};
+use std::ops::Range;
 
 extern "C" {
-    /// 0 with counts of rows and text, or a number with its place in `a`.
     fn yay_read(
         doc: *const u8,
         doc_len: usize,
         table: *mut u32,
-        table_len: usize,
+        table_words: usize,
         text: *mut u8,
         text_len: usize,
-        a: *mut usize,
-        b: *mut usize,
+        first: *mut usize,
+        second: *mut usize,
     ) -> u32;
+    fn yay_text(
+        table: *const u32,
+        words: usize,
+        rows: usize,
+        text: *const u8,
+        text_len: usize,
+        row: usize,
+        from: *mut usize,
+        to: *mut usize,
+    ) -> u32;
+    fn yay_find(
+        table: *const u32,
+        words: usize,
+        rows: usize,
+        text: *const u8,
+        text_len: usize,
+        object: usize,
+        key: *const u8,
+        key_len: usize,
+        value: *mut usize,
+    ) -> u32;
+    fn yay_compare(left: *const u8, left_len: usize, right: *const u8, right_len: usize, order: *mut i32) -> u32;
 }
+
+/// What answers hold before a call.
+const UNSET: usize = 77;
+/// Stands for a number whose other answers are not the 0 that the header promises; nobody expects it.
+const UNTRUE: u32 = 1000;
 
 pub struct Proved;
 
 impl Reader for Proved {
     fn read(&mut self, doc: &[u8], table: &mut [u32], room: &mut [u8]) -> Answer {
-        let (mut a, mut b) = (0, 0);
-        // SAFETY: every pointer and length is that of a live slice, and the two counts are apart.
+        let (mut first, mut second) = (UNSET, UNSET);
+        let (words, bytes) = (table.len(), room.len());
+        // SAFETY: every pointer and length is that of a live slice, and the two answers are apart from them.
         let number = unsafe {
             yay_read(
                 doc.as_ptr(),
                 doc.len(),
                 table.as_mut_ptr(),
-                table.len(),
+                words,
                 room.as_mut_ptr(),
-                room.len(),
-                &mut a,
-                &mut b,
+                bytes,
+                &mut first,
+                &mut second,
             )
         };
-        match number {
-            0 => Ok(Counts { rows: a, text: b }),
-            number => Err(Refusal { number, place: a }),
+        match (number, second) {
+            (0, _) => Ok(Counts { rows: first, text: second }),
+            (number, 0) => Err(Refusal { number, place: first }),
+            _ => Err(Refusal { number: UNTRUE, place: second }),
         }
+    }
+
+    fn questions(&self) -> Option<&dyn Questions> {
+        Some(self)
+    }
+}
+
+impl Questions for Proved {
+    fn row_text(&self, lent: &Lent, row: usize) -> Result<Range<usize>, u32> {
+        let Lent { table, rows, text } = *lent;
+        let (mut from, mut to) = (UNSET, UNSET);
+        // SAFETY: every pointer and length is that of a live slice, and the two answers are apart from them.
+        let number =
+            unsafe { yay_text(table.as_ptr(), table.len(), rows, text.as_ptr(), text.len(), row, &mut from, &mut to) };
+        answered(number, from..to, 0..0)
+    }
+
+    fn find_key(&self, lent: &Lent, object: usize, key: &[u8]) -> Result<usize, u32> {
+        let Lent { table, rows, text } = *lent;
+        let (words, bytes) = (table.len(), text.len());
+        let (table, text) = (table.as_ptr(), text.as_ptr());
+        let mut value = UNSET;
+        // SAFETY: every pointer and length is that of a live slice, and the answer is apart from them.
+        let number = unsafe { yay_find(table, words, rows, text, bytes, object, key.as_ptr(), key.len(), &mut value) };
+        answered(number, value, 0)
+    }
+
+    fn compare_integers(&self, left: &[u8], right: &[u8]) -> Result<i32, u32> {
+        let mut order = UNSET as i32;
+        // SAFETY: every pointer and length is that of a live slice, and the answer is apart from them.
+        let number = unsafe { yay_compare(left.as_ptr(), left.len(), right.as_ptr(), right.len(), &mut order) };
+        answered(number, order, 0)
+    }
+}
+
+/// What was answered, or the number of a refusal, where the answer must be `nothing`.
+fn answered<T: PartialEq>(number: u32, answer: T, nothing: T) -> Result<T, u32> {
+    match number {
+        0 => Ok(answer),
+        number if answer == nothing => Err(number),
+        _ => Err(UNTRUE),
     }
 }

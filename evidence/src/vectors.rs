@@ -1,31 +1,42 @@
 //! Files of documents with their answers: hex of the document, a tab, and
 //! `no NUMBER PLACE` or `ok ROWS TEXTBYTES words,.. texthex`.
 
+use crate::documents::grow::Meant;
 use crate::hex;
-use crate::second::{Refusal, Second};
+use crate::second::{Refusal, WORDS};
 
 /// A document and the answer a file gives for it.
 pub struct Vector {
     pub doc: Vec<u8>,
-    pub answer: String,
+    pub meant: Meant,
 }
 
 /// The vectors of a file, or the number of its first bad line.
 pub fn parse(file: &str) -> Result<Vec<Vector>, usize> {
     let vector = |line: &str| {
         let (doc, answer) = line.split_once('\t')?;
-        Some(Vector { doc: hex::parse(doc)?, answer: answer.trim_end().to_string() })
+        Some(Vector { doc: hex::parse(doc)?, meant: meant(answer.trim_end())? })
     };
     file.lines().enumerate().map(|(i, line)| vector(line).ok_or(i + 1)).collect()
 }
 
-/// The second reader's answer as such a file writes it.
-pub fn answer(second: &mut Second, doc: &[u8]) -> String {
-    match second.tree(doc) {
-        Err(Refusal { number, place }) => format!("no {number} {place}"),
-        Ok((words, text)) => {
-            let list: Vec<String> = words.iter().map(u32::to_string).collect();
-            format!("ok {} {} {} {}", words.len() / 7, text.len(), list.join(","), hex::show(text))
+/// The vectors of a file with a name, or what is wrong with it.
+pub fn load(path: &str) -> Result<Vec<Vector>, String> {
+    let file = std::fs::read_to_string(path).map_err(|error| format!("{path}: {error}"))?;
+    parse(&file).map_err(|line| format!("{path}:{line}: no vector"))
+}
+
+/// What an answer as such a file writes it says.
+pub fn meant(answer: &str) -> Option<Meant> {
+    let words: Vec<&str> = answer.split(' ').collect();
+    match words[..] {
+        ["no", number, place] => Some(Err(Refusal { number: number.parse().ok()?, place: place.parse().ok()? })),
+        ["ok", rows, bytes, list, text] => {
+            let list = list.split(',').map(|word| word.parse().ok()).collect::<Option<Vec<u32>>>()?;
+            let text = hex::parse(text)?;
+            let counted = rows.parse() == Ok(list.len() / WORDS) && bytes.parse() == Ok(text.len());
+            counted.then_some(Ok((list, text)))
         }
+        _ => None,
     }
 }

@@ -1,81 +1,28 @@
-//! The borders of document 01 and the examples of the readings, with their answers.
+//! The borders of document 01, by the second reader and the slow checker of places; and the questions.
 
+use evidence::documents::borders::borders;
 use evidence::second::questions::{compare_integers, Lent, BADROW, NONE, NOTINT};
-use evidence::second::{Refusal, Second};
+use evidence::second::{Refusal, Second, REPEAT};
 use evidence::slow;
-use evidence::vectors::answer;
-
-const ANSWERS: [(&str, &str); 42] = [
-    ("", "no 5 0"),
-    ("1", "no 5 1"),
-    ("[1, 22]\n", "ok 3 3 8,0,7,0,2,0,3,4,1,2,0,1,0,2,4,4,6,1,3,0,3 313232"),
-    ("[1,2]\n", "no 3 3"),
-    ("a: 1 \n", "no 3 5"),
-    ("nulls\n", "no 3 5"),
-    ("a: nulls\n", "no 3 7"),
-    ("\"\\u{D800}\"\n", "no 3 8"),
-    ("\"\\u{110000}\"\n", "no 3 9"),
-    ("a: 1\na: 2\n", "no 6 5"),
-    ("k:\nj: 1\n", "no 3 3"),
-    ("[[[[[[[[[[[[[[[[[[[[[[[[[[[[[[[[[", "no 4 32"),
-    ("\u{FEFF}", "no 3 0"),
-    ("a:\t", "no 2 2"),
-    ("- -5\n", "ok 2 2 8,0,4,0,1,0,2,4,2,4,0,2,0,2 2d35"),
-    ("- - 5\n", "ok 3 1 8,0,5,0,1,0,3,8,2,5,0,1,0,3,4,4,5,0,1,1,3 35"),
-    ("`\n  x\n    y\n\n\n", "ok 1 7 6,0,11,0,7,0,1 0a780a2020790a"),
-    ("# \n1\n", "no 3 2"),
-    ("a: \u{80}", "no 3 3"),
-    ("\"\\u{00D800}\"\n", "no 3 9"),
-    ("\"\\u{0D800}\"\n", "no 3 9"),
-    ("1  # c\n", "no 3 2"),
-    ("[1]  # c\n", "no 3 3"),
-    ("a: 1 #", "no 3 5"),
-    ("-00\n", "ok 1 1 4,0,3,0,1,0,1 30"),
-    ("a:\n  1\n", "no 3 6"),
-    ("a:\n  [", "no 3 5"),
-    ("- - 1\n  - 2\n", "no 3 6"),
-    ("a: `\n", "ok 3 1 9,0,4,0,1,0,3,10,0,1,0,1,0,2,6,3,4,1,1,0,3 61"),
-    ("`\n\n", "ok 1 1 6,0,1,0,1,0,1 0a"),
-    ("`  x\n", "ok 1 3 6,0,4,0,3,0,1 20780a"),
-    ("a: 1\n\nb: 2\n", "no 3 6"),
-    ("a: 1\n\n\nb", "no 3 7"),
-    ("- `\n  x\n", "no 3 6"),
-    ("a: >\n  # c\n", "ok 3 1 9,0,10,0,1,0,3,10,0,1,0,1,0,2,7,3,10,1,1,0,3 61"),
-    ("D- 5\n", "no 4 65"),
-    ("D-5: 1\n", "no 4 66"),
-    ("Dnul: 1\n", "no 4 67"),
-    ("D\"a\": 1\n", "no 4 67"),
-    ("Da 1\n", "no 4 64"),
-    ("Dnull 1\n", "no 3 69"),
-    ("D)\n", "no 3 64"),
-];
-
-/// A leading `D` stands for 32 times `- `.
-fn document(short: &str) -> Vec<u8> {
-    short.replacen('D', &"- ".repeat(32), usize::from(short.starts_with('D'))).into_bytes()
-}
 
 #[test]
 fn borders_and_readings() {
     let mut second = Second::new();
-    for (short, expected) in ANSWERS {
-        let doc = document(short);
-        assert_eq!(answer(&mut second, &doc), expected, "{short:?}");
-        let places = slow::answer(&doc, 32);
-        match second.tree(&doc) {
-            Err(Refusal { number: 6, .. }) | Ok(_) => assert_eq!(places, Ok(()), "{short:?}"),
-            Err(refusal) => assert_eq!(places, Err(refusal), "{short:?}"),
-        }
+    for (doc, meant) in borders() {
+        let answer = second.tree(&doc).map(|(words, text)| (words.to_vec(), text.to_vec()));
+        assert_eq!(answer, meant, "{:?}", String::from_utf8_lossy(&doc));
     }
 }
 
 #[test]
-fn the_longest_and_one_more() {
-    let mut doc = vec![b'\n'; 32_768];
-    doc[0] = b'1';
-    assert!(Second::new().tree(&doc).is_ok());
-    doc.push(b'\n');
-    assert_eq!(Second::new().tree(&doc).unwrap_err(), Refusal { number: 1, place: 0 });
+fn places_of_borders() {
+    for (doc, meant) in borders().into_iter().filter(|(doc, _)| doc.len() < 1000) {
+        let wanted = match meant {
+            Err(Refusal { number: REPEAT, .. }) | Ok(_) => Ok(()),
+            Err(refusal) => Err(refusal),
+        };
+        assert_eq!(slow::answer(&doc, 32), wanted, "{:?}", String::from_utf8_lossy(&doc));
+    }
 }
 
 #[test]

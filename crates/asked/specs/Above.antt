@@ -1,7 +1,7 @@
 -- Whether an answer says that the left integer is the greater. Assumes nothing.
 use mathlib.Core.Bool.{Bool, true, false}
-use Rattle.questions.specs.declared.Compared.{Compared}
-use Rattle.questions.specs.declared.Compared.the-variants.{Less, Equal, Greater, NotInt}
+use Rattle.integers.specs.declared.Compared.{Compared}
+use Rattle.integers.specs.declared.Compared.the-variants.{Less, Equal, Greater, NotInt}
 
 abbrev pub isAbove : Compared → Bool
 isAbove Less = false

@@ -2,7 +2,7 @@
 use super::show::compare;
 use super::show::say;
 use super::show::verdict;
-use questions::Compared;
+use integers::Compared;
 ghost use mathlib.Core.Path.{_≡_};
 ghost use Rattle.asked.specs.Above.{isAbove};
 
@@ -31,7 +31,7 @@ fn above(c: Compared) -> bool
 
 // P12, from the contract of `compare` alone.
 fn ten_above_nine() {
-    check::expect(above(questions::compare(b"10", b"9")));
+    check::expect(above(integers::compare(b"10", b"9")));
 }
 
 fn plain() {
@@ -100,12 +100,12 @@ fn long() {
     let mut left = [55u8; 16384];
     let mut right = [55u8; 16384];
     say(b"compare 16 KB, alike ");
-    verdict(questions::compare(&left, &right));
+    verdict(integers::compare(&left, &right));
     right[16383] = 56;
     say(b"compare 16 KB, the last digit more ");
-    verdict(questions::compare(&left, &right));
+    verdict(integers::compare(&left, &right));
     left[0] = 45;
     right[0] = 45;
     say(b"compare 16 KB, the last digit more, below zero ");
-    verdict(questions::compare(&left, &right));
+    verdict(integers::compare(&left, &right));
 }

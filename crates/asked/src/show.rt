@@ -1,6 +1,6 @@
 // A question asked, and its line.
+use integers::Compared;
 use language::Row;
-use questions::Compared;
 use questions::Found;
 
 pub fn say(word: &[u8]) {
@@ -64,5 +64,5 @@ pub fn compare(left: &[u8], right: &[u8]) {
     say(b"' '");
     say(right);
     say(b"' ");
-    verdict(questions::compare(left, right));
+    verdict(integers::compare(left, right));
 }

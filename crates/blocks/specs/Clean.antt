@@ -9,7 +9,7 @@ use Rattle.language.specs.Characters.{Feed, Space, Allowed}
 use Rattle.language.specs.Blocks.{Lines, ValueLine, Property, Object, Dashed, Array, Open, Nested, Item}
 use Rattle.language.specs.Document.{RootLine, Root, Whole, Document}
 use Rattle.exact.specs.Class.{only}
-use Rattle.characters.specs.Clean.{Clean, ret-clean, here-clean, byte-clean, seq-clean, alt-clean, star-clean, map-clean, indented-clean, word-clean, clean-begins, end-clean}
+use Rattle.utf8.specs.Clean.{Clean, ret-clean, here-clean, byte-clean, seq-clean, alt-clean, star-clean, map-clean, indented-clean, word-clean, clean-begins, end-clean}
 use Rattle.characters.specs.Comments.{comment-clean, optionalComment-clean}
 use Rattle.strings.specs.Clean.{key-clean}
 use Rattle.blocks.specs.ValueClean.{value-clean}

@@ -5,7 +5,7 @@ use Rattle.language.specs.Tree.{Tree}
 use Rattle.language.specs.Document.{Document}
 use Rattle.language.specs.Answered.{deepest, CHAR, SYNTAX, DEEP, END, Stops, char, syntax, deep, end}
 use Rattle.exact.specs.Decide.{settle, settled}
-use Rattle.characters.specs.Told.{Answer, Right, tell, told, given, refused-char, refused-syntax, refused-deep, refused-end, r-given, r-char, r-syntax, r-deep, r-end}
+use Rattle.utf8.specs.Told.{Answer, Right, tell, told, given, refused-char, refused-syntax, refused-deep, refused-end, r-given, r-char, r-syntax, r-deep, r-end}
 use Rattle.blocks.specs.Document.{verdict, family}
 use Rattle.blocks.specs.Clean.{document-allowed}
 

@@ -8,9 +8,9 @@ use Rattle.language.specs.Characters.{ascii}
 use Rattle.language.specs.Inline.{Listed, InlineArray, InlinePair, InlineObject, Scalar, Value}
 use Rattle.exact.specs.Class.{Class, sub, only}
 use Rattle.exact.specs.Lang.{Lang, byte}
-use Rattle.characters.specs.Whole.{scan, whole}
-use Rattle.characters.specs.Utf8.{start}
-use Rattle.characters.specs.Clean.{Clean, ret-clean, here-clean, byte-clean, seq-clean, alt-clean, star-clean, word-clean}
+use Rattle.utf8.specs.Whole.{scan, whole}
+use Rattle.utf8.specs.Utf8.{start}
+use Rattle.utf8.specs.Clean.{Clean, ret-clean, here-clean, byte-clean, seq-clean, alt-clean, star-clean, word-clean}
 use Rattle.strings.specs.Clean.{string-clean, key-clean, inlineBytes-clean}
 use Rattle.blocks.specs.Through.{Through, Bytes, stay, on}
 use Rattle.blocks.specs.Plain.{plain-bytes}

@@ -13,6 +13,7 @@ use Rattle.exact.specs.Block.{lead}
 use Rattle.exact.specs.Place.{peek, peek-in}
 use Rattle.language.specs.BlockText.{Line, blank, line, lower, bodyEnd}
 use Rattle.language.specs.Answered.{limit}
+use Rattle.rooms.specs.Contract.{columns}
 use Rattle.characters.specs.declared.Skip.{Skip}
 use Rattle.characters.specs.declared.Skip.the-variants.{End, Bad}
 use Rattle.blocktext.specs.declared.body.Seen.{Seen}
@@ -56,9 +57,9 @@ pub record Bodying (doc : List ℕ) (e col a last least : ℕ) : Type 0 where
   pub lowest : least ≡ lower (length doc) lines
   pub inside : a ≤ length doc
   pub small : length doc ≤ limit
-  pub low : col ≤ 200
+  pub low : col ≤ columns
 
-pub body-first : (doc : List ℕ) (e col : ℕ) → e < length doc → length doc ≤ limit → col ≤ 200 → Bodying doc e col (e + 1) e (length doc)
+pub body-first : (doc : List ℕ) (e col : ℕ) → e < length doc → length doc ≤ limit → col ≤ columns → Bodying doc e col (e + 1) e (length doc)
 unfolding bodyEnd
 body-first doc e col l m n =
     record {

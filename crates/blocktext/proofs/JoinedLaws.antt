@@ -23,7 +23,7 @@ use Rattle.rooms.specs.declared.Ans.{Ans}
 use Rattle.rooms.specs.declared.Ans.the-variants.{Ok, No}
 use Rattle.rooms.specs.declared.Block.{Block}
 use Rattle.rooms.specs.declared.Block.the-variants.{Done, Bad}
-use Rattle.rooms.specs.Contract.{Ready, Blocks}
+use Rattle.rooms.specs.Contract.{columns, Ready, Blocks}
 use Rattle.rooms.specs.Laws.{not-block}
 use Rattle.strings.specs.Contract.{Texted, Texts}
 use Rattle.strings.specs.Quoted.{quotedR}
@@ -215,7 +215,7 @@ firm-ok {X} o (suc q) v a t f h = absurd (no (subst (λ (u : Out X). Firm u) h f
     no : Firm {X = X} (soft (suc q) v a t) → ⊥
     no x = elim x [ ]
 
-module _ (doc : List ℕ) (c : Cursor) (col : ℕ) (i : Ready doc c) (low : col ≤ 200) (a : Ans) (T T₁ : List ℕ)
+module _ (doc : List ℕ) (c : Cursor) (col : ℕ) (i : Ready doc c) (low : col ≤ columns) (a : Ans) (T T₁ : List ℕ)
     (p : PartAt doc (record { at = c .at; row = 0; text = c .text }) (joinedLineR (c .at) (drop (c .at) doc)) a T T₁) where
   pub joined-stop : (parent u : ℕ) (R : List ℕ) → a ≡ No u → Blocks doc c parent (joinedR col (c .at) (drop (c .at) doc)) (Bad u) R R T T₁
   unfolding PartAt joinedR

@@ -14,6 +14,7 @@ use Rattle.language.specs.BlockText.{Line, blank, line, hold, trim, lower, spac
 use Rattle.language.specs.Answered.{limit}
 use Rattle.rooms.specs.Stores.{sets-append}
 use Rattle.rooms.specs.declared.Cursor.{Cursor}
+use Rattle.rooms.specs.Contract.{columns}
 use Rattle.blocktext.specs.Spaces.{slice-front}
 use Rattle.blocktext.specs.Placed.{Blank, Text, lineAt, Placed, First, first, first-none, first-blank, first-text, lower-self, lower-le, trim-none, text-ahead, text-least, length-line}
 use Rattle.blocktext.specs.Contract.{Fed, bodyLines, Known, Stored, One, one-blank, one-text, Lined, LinePut}
@@ -103,7 +104,7 @@ pub record Putting (doc : List ℕ) (col m last stop : ℕ) (goal : List ℕ) (n
   pub bound : m ≤ length doc
   pub small : length doc ≤ limit
   pub few : n .text ≤ n .at
-  pub low : col ≤ 200
+  pub low : col ≤ columns
 
 pub put-first : (doc : List ℕ) (e col last least x : ℕ) (T : List ℕ) → Known doc e col last least x
     → Putting doc col least last (x + length (bodyText (bodyLines doc e col))) (sets T x (bodyText (bodyLines doc e col))) (record { at = e + 1; row = 0; text = x }) T

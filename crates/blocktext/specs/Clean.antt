@@ -10,7 +10,7 @@ use Rattle.language.specs.Characters.{dark, Space, Feed}
 use Rattle.language.specs.BlockText.{blank, line, part, bodyText, bodyEnd, partBytes, partEnd, Deeper, TextLine, BodyLine, OpenString, PropertyString, HexRest, HexLine, OpenBytes, PropertyBytes}
 use Rattle.language.specs.Blocks.{JoinedLine, Joined}
 use Rattle.exact.specs.Class.{only}
-use Rattle.characters.specs.Clean.{Clean, ret-clean, here-clean, byte-clean, char-clean, seq-clean, alt-clean, star-clean, plus-clean, map-clean, indented-clean, word-clean}
+use Rattle.utf8.specs.Clean.{Clean, ret-clean, here-clean, byte-clean, char-clean, seq-clean, alt-clean, star-clean, plus-clean, map-clean, indented-clean, word-clean}
 use Rattle.characters.specs.Comments.{piece-clean, comment-clean, option-clean, optionalComment-clean}
 use Rattle.strings.specs.Clean.{quoted-clean, pairs-clean}
 use Rattle.blocktext.specs.LineEnd.{LineEnd}

@@ -14,7 +14,7 @@ use Rattle.language.specs.Answered.{limit}
 use Rattle.characters.specs.declared.Skip.{Skip}
 use Rattle.characters.specs.declared.Skip.the-variants.{End, Bad}
 use Rattle.rooms.specs.declared.Cursor.{Cursor}
-use Rattle.rooms.specs.Contract.{Ready}
+use Rattle.rooms.specs.Contract.{columns, Ready}
 use Rattle.blocktext.specs.declared.body.Seen.{Seen}
 use Rattle.blocktext.specs.declared.body.Seen.the-variants.{Empty, Written, Over, Refused}
 use Rattle.blocktext.specs.declared.body.Extent.{Extent}
@@ -27,7 +27,7 @@ use Rattle.blocktext.specs.Placed.{Blank, Text, lineAt, Placed}
 pub record Asked (doc : List ℕ) (c : Cursor) (b col : ℕ) : Type 0 where
   pub ready : Ready doc c
   pub first : peek doc (c .at) ≡ b
-  pub low : col ≤ 200
+  pub low : col ≤ columns
 
 -- the spaces at `at` end at s
 pub record Spaced (doc : List ℕ) (at s : ℕ) : Type 0 where
@@ -119,7 +119,7 @@ pub record Known (doc : List ℕ) (e col last least x : ℕ) : Type 0 where
   pub inside : e < length doc
   pub small : length doc ≤ limit
   pub few : x ≤ e
-  pub low : col ≤ 200
+  pub low : col ≤ columns
 
 pub record Stored (x y : ℕ) (s text text' : List ℕ) : Type 0 where
   pub end : y ≡ x + length s
@@ -138,7 +138,7 @@ pub record Lined (doc : List ℕ) (col m : ℕ) (n : Cursor) : Type 0 where
   pub bound : m ≤ length doc
   pub small : length doc ≤ limit
   pub few : n .text ≤ n .at
-  pub low : col ≤ 200
+  pub low : col ≤ columns
 
 pub record LinePut (doc : List ℕ) (col m : ℕ) (n n' : Cursor) (text text' : List ℕ) : Type 0 where
   pub at : (l : Line) (z : ℕ) → One doc col m (n .at) l z → n' .at ≡ z

@@ -16,7 +16,7 @@ use Rattle.language.specs.Answered.{limit}
 use Rattle.rooms.specs.declared.Cursor.{Cursor}
 use Rattle.rooms.specs.declared.Block.{Block}
 use Rattle.rooms.specs.declared.Block.the-variants.{Done, Bad}
-use Rattle.rooms.specs.Contract.{Ready, Blocks}
+use Rattle.rooms.specs.Contract.{columns, Ready, Blocks}
 use Rattle.rooms.specs.Stores.{sets-append}
 
 -- ASKED: the first line of a block from the cursor c ends at e with an LF, and its text in the room at x
@@ -25,7 +25,7 @@ pub record Begun (doc : List ℕ) (c : Cursor) (e x col : ℕ) : Type 0 where
   pub ahead : c .at < e
   pub inside : e < length doc
   pub few : x ≤ e
-  pub low : col ≤ 200
+  pub low : col ≤ columns
 
 -- the row of a leaf from c up to `at`, whose span ends at e and whose text ends at x
 pub record Rowed (c : Cursor) (parent kind at x far e : ℕ) (r : Block) (rows rows' : List ℕ) : Type 0 where

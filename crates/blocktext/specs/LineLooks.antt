@@ -17,7 +17,7 @@ use Rattle.exact.specs.Comb.{seqR, manyR}
 use Rattle.exact.specs.Ll.{star-ll}
 use Rattle.exact.specs.Block.{lead, ind-none}
 use Rattle.exact.specs.Place.{peek, peek-cons, There, there, byte-there, none-there, byte-is, byte-not, alt-is, alt-not}
-use Rattle.characters.specs.Char.{charR, char-ll}
+use Rattle.utf8.specs.Char.{charR, char-ll}
 use Rattle.characters.specs.Comments.{pieceR, pieceS, piece-ll}
 use Rattle.blocktext.specs.Pieces.{solidR}
 use Rattle.blocktext.specs.LineEnd.{lineEndR}

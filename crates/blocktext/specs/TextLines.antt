@@ -14,7 +14,7 @@ use Rattle.exact.specs.Lang.{None, Exact, within-bar, weaken, retR, byteR, byte
 use Rattle.exact.specs.Comb.{seqR, mapR, map-exact, altR, alt-exact, manyR}
 use Rattle.exact.specs.Ll.{Shape, Ll, seq-ll, star-ll, relax}
 use Rattle.exact.specs.Block.{manyG, Clear, Looks, body-exact, ind, lead, lead-near, ind-of}
-use Rattle.characters.specs.Char.{charR, charS, char-ll}
+use Rattle.utf8.specs.Char.{charR, charS, char-ll}
 use Rattle.characters.specs.Comments.{pieceR, pieceS, piece-ll}
 use Rattle.blocktext.specs.Follow.{beyond}
 use Rattle.blocktext.specs.Opens.{Opens, byte-opens, seq-opens, ll-opens}

@@ -4,6 +4,7 @@ ghost use Prim.Native.Nat.{_+_, _≤_, _<_, min};
 ghost use lib.ListN.{length};
 ghost use Rattle.language.specs.Answered.{limit};
 ghost use Rattle.language.specs.BlockText.{bodyText};
+ghost use Rattle.rooms.specs.Contract.{columns};
 ghost use Rattle.blocktext.specs.Contract.{Sees, BodyAt, bodyLines, Known, Stored, Lined, LinePut};
 use super::lines::byte_at;
 use super::lines::line_feed;
@@ -64,7 +65,7 @@ fn lesser(a: usize, b: usize) -> usize
 pub fn body(doc: &[u8], e: usize, col: usize) -> Extent
     requires { ⌜ e < length (now doc) ⌝ }
     requires { ⌜ length (now doc) ≤ limit ⌝ }
-    requires { ⌜ col ≤ 200 ⌝ }
+    requires { ⌜ col ≤ columns ⌝ }
     ensures { λ r. ⌜ BodyAt (now (doc .entry)) e col r ⌝ }
 {
     let mut a = e + 1;

@@ -4,7 +4,7 @@ ghost use lib.ListN.{length, drop};
 ghost use Rattle.language.specs.Kind.{STRING};
 ghost use Rattle.language.specs.BlockText.{partBytes, partEnd};
 ghost use Rattle.exact.specs.Block.{indentedR};
-ghost use Rattle.rooms.specs.Contract.{Ready, Blocks};
+ghost use Rattle.rooms.specs.Contract.{columns, Ready, Blocks};
 ghost use Rattle.blocktext.specs.Plus.{plusR};
 ghost use Rattle.blocktext.specs.Further.{furtherR};
 ghost use Rattle.blocktext.specs.Joined.{quotes, joinedLineR, joinedR};
@@ -154,7 +154,7 @@ pub fn joined(
     col: usize,
 ) -> Block
     requires { ⌜ Ready (now doc) c ⌝ }
-    requires { ⌜ col ≤ 200 ⌝ }
+    requires { ⌜ col ≤ columns ⌝ }
     ensures { λ r. ⌜ Blocks (now (doc .entry)) c parent (joinedR col (c .at) (drop (c .at) (now (doc .entry)))) r (now (rows .entry)) (now (rows .exit)) (now (text .entry)) (now (text .exit)) ⌝ }
 {
     let got = joined_line(&*doc, text, c.at, c.text);

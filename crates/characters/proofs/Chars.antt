@@ -10,12 +10,12 @@ use borrow.Author.Needs.{needs}
 use Rattle.characters.specs.declared.Skip.{Skip}
 use Rattle.characters.specs.declared.Skip.the-variants.{End, Bad}
 use Rattle.characters.specs.declared.Read.the-variants.{Scalar, Not}
-use Rattle.characters.specs.Utf8.{charR}
+use Rattle.utf8.specs.Utf8.{charR}
 use Rattle.characters.specs.Reads.{Stands, ReadAt, Wide, WideAt}
 use Rattle.characters.specs.Going.{low-stands, Going, going-first, going-over, going-none, going-more, going-done, wide-refused}
 use Rattle.characters.specs.Value.{Between, Tail, Added, wide-digits, stands-as}
-use Rattle.characters.specs.Allowed.{bad-char}
-use Rattle.characters.specs.Scan.{rows, find, fits-at, fits-other, fits-low, fits-high, fits-yes, find-row, find-next, find-end, caught-by, caught-other, caught-low, caught-high, caught-tail, Scanned, scanned-first, scanned-more, scanned-last}
+use Rattle.utf8.specs.Allowed.{bad-char}
+use Rattle.utf8.specs.Scan.{rows, find, fits-at, fits-other, fits-low, fits-high, fits-yes, find-row, find-next, find-end, caught-by, caught-other, caught-low, caught-high, caught-tail, Scanned, scanned-first, scanned-more, scanned-last}
 
 module _ (t : List ℕ) (i s b : ℕ) where
   pub row-other : (getD t i 0 ≡ s → ⊥) → false ≡ fits-at t i s b

@@ -1,3 +1,4 @@
 -- What several proofs use.
 pub mod Chars
+pub mod Rests
 pub mod Lines

@@ -1,25 +1,26 @@
 -- Pieces, comments and line comments: laws as `search` takes them. Assumes nothing.
-use mathlib.Core.Path.{_≡_, refl, sym, ap, _∙_}
+use mathlib.Core.Path.{_≡_, refl, sym, ap, subst, _∙_}
 use mathlib.Core.List.{List}
-use mathlib.Core.Bool.{Bool, true, false}
-use Prim.Native.Nat.{ℕ, _+_, _-_, _≤_, _<_}
+use mathlib.Core.Bool.{Bool, true, false, _&&_}
+use Prim.Native.Nat.{ℕ, zero, suc, _+_, _-_, _≤_, _<_}
 use native.Mathlib.Omega.{arith}
-use lib.ListN.{length, drop, getD, List·getD-eq-default}
-use lib.Dec.{eqb}
+use native.Mathlib.Decide.{decLe}
+use lib.ListN.{length, drop, getD, drop-of-length-le, List·getD-eq-default}
+use lib.Dec.{eqb, leb}
 use borrow.Author.Needs.{needs}
-use borrow.Author.Tests.{ne-eqb, eqb-true, eqb-false}
-use Rattle.exact.specs.Class.{only, only-no, only-yes}
+use borrow.Author.Tests.{ne-eqb, eqb-true, eqb-false, leb-true}
+use Rattle.exact.specs.Class.{clash, only, only-no, only-yes}
 use Rattle.exact.specs.Out.{bad}
 use Rattle.exact.specs.Place.{peek, peek-in, runEnd, run-over, run-none, run-more, getD-any}
 use Rattle.language.specs.Characters.{dark, character}
-use Rattle.characters.specs.declared.Read.{Read}
-use Rattle.characters.specs.declared.Read.the-variants.{Scalar, Not}
-use Rattle.characters.specs.declared.Reading.{Reading}
 use Rattle.characters.specs.declared.Skip.{Skip}
 use Rattle.characters.specs.declared.Skip.the-variants.{End, Bad}
 use Rattle.characters.specs.Comments.{pieceR, piecesR, commentR, lineCommentR, optionalCommentR}
-use Rattle.characters.specs.Reads.{ReadAt, Skips, ends-of, bad-of, read-stands, read-permits, read-refused}
-use Rattle.characters.specs.Pieces.{dark-below, dark-among, dark-delete, dark-above, piece-bad, piece-light, piece-ends, piece-ahead, Along, along-first, pieces-over, pieces-end, pieces-bad, pieces-on, comment-none, comment-ends, comment-bad, line-none, line-half, line-ends, line-bad, option-none, option-ends, option-bad}
+use Rattle.characters.specs.Reads.{WideAt, Skips, ends-of, bad-of}
+use Rattle.utf8.specs.Utf8.{charR}
+use Rattle.characters.specs.Going.{low-stands}
+use Rattle.characters.specs.Rest.{ByteAt}
+use Rattle.characters.specs.Pieces.{dark-below, dark-among, dark-delete, dark-above, piece-bad, piece-light, piece-ends, piece-ahead, Along, along-first, Smooth, smooth-none, smooth-more, Printable, Block, pieces-over, pieces-end, pieces-bad, pieces-on, comment-none, comment-ends, comment-bad, line-none, line-half, line-ends, line-bad, option-none, option-ends, option-bad}
 
 -- ---- a byte, and spaces
 
@@ -48,28 +49,126 @@ end-on doc at i h l e = h ∙ spaces-more doc i l e
 
 pub ruleset lining = (has-byte, has-none, spaces-over, spaces-none, same-end, end-on, needs)
 
--- ---- a dark character
-
-pub ruleset darkly = (dark-below, dark-among, dark-delete, dark-above, needs)
-
 -- ---- a piece
 
-module _ (doc : List ℕ) (at j : ℕ) (r : Read) (h : ReadAt doc j r) where
-  module _ (e : j ≡ runEnd (only 32) doc at) where
-    pub piece-refused : (p : ℕ) → r ≡ Not p → Skips doc at (pieceR at (drop at doc)) (Bad p)
+module _ (doc : List ℕ) (at j : ℕ) (e : j ≡ runEnd (only 32) doc at) where
+  module _ (b : ℕ) (h : ByteAt doc j b) where
+    pub piece-dark : 33 ≤ b → b < 127 → Skips doc at (pieceR at (drop at doc)) (End (j + 1))
     unfolding Skips
-    piece-refused p k = piece-bad doc at j e p (read-refused doc j r h p k dark)
+    piece-dark l k = piece-ends doc at j e b (j + 1) (low-stands doc j b (omega (arith, h .inside)) (h .is) (omega arith)) (dark-among b l k)
 
-    module _ (v : ℕ) (n : Reading) (k : r ≡ Scalar v n) where
-      pub piece-dark : (x : Bool) → x ≡ character dark v → x ≡ true → Skips doc at (pieceR at (drop at doc)) (End (n .at))
-      unfolding Skips
-      piece-dark x c t = piece-ends doc at j e v (n .at) (read-stands doc j r h v n k) (sym t ∙ c)
+    low-not : b < 128 → false ≡ character dark b → Dec (length doc ≤ j) → Skips doc at (pieceR at (drop at doc)) (Bad j)
+    unfolding Skips
+    low-not k f (yes o) = piece-bad doc at j e j (ap (charR dark j) (drop-of-length-le doc o))
+    low-not k f (no i) = piece-light doc at j e b (j + 1) (low-stands doc j b (omega arith) (h .is) k) f
 
-      pub piece-not : (x : Bool) → x ≡ character dark v → x ≡ false → Skips doc at (pieceR at (drop at doc)) (Bad j)
-      unfolding Skips
-      piece-not x c t = piece-light doc at j e v (n .at) (read-stands doc j r h v n k) (sym t ∙ c)
+    pub piece-low : b < 33 → Skips doc at (pieceR at (drop at doc)) (Bad j)
+    piece-low k = low-not (omega arith) (dark-below b k) (decLe (length doc) j)
 
-pub ruleset piecing = (read-permits, piece-refused, piece-dark, piece-not, needs)
+    pub piece-delete : 127 ≤ b → b < 128 → Skips doc at (pieceR at (drop at doc)) (Bad j)
+    piece-delete k l = low-not l (dark-delete b (omega arith)) (decLe (length doc) j)
+
+  pub piece-wide : (r : Skip) → WideAt doc j r → Skips doc at (pieceR at (drop at doc)) r
+  unfolding Skips WideAt
+  piece-wide (End n) w =
+      let h = w .high in
+      piece-ends doc at j e (w .value) n (w .stands) (dark-above (w .value) (w .stands .allowed) (omega arith) (λ z. omega arith))
+  piece-wide (Bad p) w = piece-bad doc at j e p (w dark)
+
+pub ruleset piecing = (piece-dark, piece-low, piece-delete, piece-wide, needs)
+
+-- ---- printable bytes
+
+pub smooth-dark : (doc : List ℕ) (at k i : ℕ) → Smooth doc at k → runEnd (only 32) doc k ≡ runEnd (only 32) doc i → k ≤ i → i < length doc
+    → 32 ≤ getD doc i 0 → getD doc i 0 ≤ 126 → (getD doc i 0 ≡ 32 → ⊥) → Smooth doc at (i + 1)
+smooth-dark doc at k i s h b l x y n =
+    smooth-more doc at k (i + 1) s (omega arith)
+    (piece-ends doc k i (spaces-none doc i l n ∙ sym h) (getD doc i 0) (i + 1) (low-stands doc i (getD doc i 0) l refl (omega arith))
+    (dark-among (getD doc i 0) (let z : getD doc i 0 ≡ 32 → ⊥ = n in omega arith) (omega arith)))
+
+-- on the way over printable bytes: the pieces up to `last` are read, and there are spaces up to i
+record Way (doc : List ℕ) (at i : ℕ) : Type 0 where
+  last : ℕ
+  smooth : Smooth doc at last
+  spaces : runEnd (only 32) doc last ≡ runEnd (only 32) doc i
+  behind : last ≤ i
+
+way-more : (doc : List ℕ) (at i : ℕ) → Way doc at i → i < length doc → (32 ≤ getD doc i 0) × (getD doc i 0 ≤ 126) → Way doc at (i + 1)
+way-more doc at i w l p = by (decLe (getD doc i 0) 32)
+  where
+    by : Dec (getD doc i 0 ≤ 32) → Way doc at (i + 1)
+    by (yes x) =
+        record { last = w .last; smooth = w .smooth; spaces = w .spaces ∙ spaces-more doc i l (omega arith); behind = omega (arith, w .behind) }
+    by (no x) =
+        record {
+          last = i + 1;
+          smooth = smooth-dark doc at (w .last) i (w .smooth) (w .spaces) (w .behind) l (p .0) (p .1) (λ e. omega arith);
+          spaces = refl;
+          behind = omega arith;
+        }
+
+ways : (doc : List ℕ) (at i n : ℕ) → Smooth doc at i → i + n ≤ length doc → Printable doc i (i + n) → Way doc at (i + n)
+unfolding Printable
+ways doc at i zero s l p =
+    let z : i ≡ i + 0 = omega arith in
+    subst (Way doc at) z (record { last = i; smooth = s; spaces = refl; behind = omega arith })
+ways doc at i (suc n) s l p =
+    let z : i + n + 1 ≡ i + suc n = omega arith in
+    subst (Way doc at) z
+    (way-more doc at (i + n) (ways doc at i n s (omega arith) (λ k x y. p k x (omega arith))) (omega arith) (p (i + n) (omega arith) (omega arith)))
+
+block-smooth : (doc : List ℕ) (at i : ℕ) → Smooth doc at i → i + 64 ≤ length doc → Block doc i → Smooth doc at (i + 64)
+unfolding Printable
+block-smooth doc at i s l b =
+    let w = ways doc at i 63 s (omega arith) (λ k x y. b .bytes k x (omega arith)) in
+    let p = b .bytes (i + 63) (omega arith) (omega arith) in
+    let z : i + 63 + 1 ≡ i + 64 = omega arith in
+    subst (Smooth doc at) z (smooth-dark doc at (w .last) (i + 63) (w .smooth) (w .spaces) (w .behind) (omega arith) (p .0) (p .1) (b .dark))
+
+pub block-on : (doc : List ℕ) (at i : ℕ) (r : Bool) → (r ≡ true → Block doc i) → r ≡ true → Smooth doc at i → 64 ≤ length doc - i → Smooth doc at (i + 64)
+block-on doc at i r f t s l = block-smooth doc at i s (omega arith) (f t)
+
+-- bytes tested without an exit
+pub no-block : (doc : List ℕ) (at : ℕ) → false ≡ true → Block doc at
+no-block doc at e = absurd (clash e refl)
+
+pub printed-none : (doc : List ℕ) (at : ℕ) → true ≡ true → Printable doc at (at + 0)
+unfolding Printable
+printed-none doc at e k x y = absurd (omega arith)
+
+split : (x y : Bool) → x && y ≡ true → (x ≡ true) × (y ≡ true)
+split true y e = (refl, e)
+split false y e = absurd (clash e refl)
+
+pub printed-more : (doc : List ℕ) (at i : ℕ) (a : Bool) → (a ≡ true → Printable doc at (at + i)) → a && leb 32 (getD doc (at + i) 0) && leb (getD doc (at + i) 0) 126 ≡ true → Printable doc at (at + (i + 1))
+unfolding Printable
+printed-more doc at i a f e k x y = by (decLe k (at + i))
+  where
+    b : ℕ
+    b = getD doc (at + i) 0
+
+    parts : (a ≡ true) × (32 ≤ b) × (b ≤ 126)
+    parts =
+        let u = split (a && leb 32 b) (leb b 126) e in
+        let v = split a (leb 32 b) (u .0) in
+        (v .0, leb-true 32 b (v .1), leb-true b 126 (u .1))
+
+    by : Dec (k ≤ at + i) → (32 ≤ getD doc k 0) × (getD doc k 0 ≤ 126)
+    by (yes h) = here (decLe (at + i) k)
+      where
+        here : Dec (at + i ≤ k) → (32 ≤ getD doc k 0) × (getD doc k 0 ≤ 126)
+        here (yes g) = let z : at + i ≡ k = omega arith in subst (λ n. (32 ≤ getD doc n 0) × (getD doc n 0 ≤ 126)) z (parts .1, parts .2)
+        here (no g) = f (parts .0) k x (omega arith)
+    by (no h) = absurd (omega arith)
+
+pub printed-all : (doc : List ℕ) (at i : ℕ) (a : Bool) → (a ≡ true → Printable doc at (at + i)) → i ≤ 64 → 64 ≤ i → (getD doc (at + 63) 0 ≡ 32 → ⊥) → a ≡ true → Block doc at
+printed-all doc at i a f l h d e =
+    let z : i ≡ 64 = omega arith in
+    record { bytes = subst (λ n. Printable doc at (at + n)) z (f e); dark = d }
+
+pub ruleset printing = (no-block, printed-none, printed-more, printed-all, needs)
+
+pub ruleset smoothly = (smooth-none, smooth-dark, block-on, end-on, needs)
 
 -- ---- the pieces
 
@@ -87,16 +186,20 @@ module _ (doc : List ℕ) (at i : ℕ) (a : Along doc at i) where
     unfolding Skips
     lines-bad p e n = pieces-bad doc at i a l p (bad-of doc i (pieceR i (drop i doc)) r p e h) n
 
-    pub lines-on : (n : ℕ) → r ≡ End n → Along doc at n
-    lines-on n e = pieces-on doc at i a l n (ends-of doc i (pieceR i (drop i doc)) r n e h)
-
     pub lines-in : (n : ℕ) → r ≡ End n → n ≤ length doc
     lines-in n e = ends-of doc i (pieceR i (drop i doc)) r n e h .inside
 
-    pub lines-less : (n : ℕ) → r ≡ End n → length doc - n < length doc - i
-    lines-less n e = let k = lines-in n e in let g = piece-ahead doc i n (ends-of doc i (pieceR i (drop i doc)) r n e h) in omega arith
+    module _ (n : ℕ) (e : r ≡ End n) (m : ℕ) (s : Smooth doc n m) where
+      pub lines-on : Along doc at m
+      lines-on = s .on at (pieces-on doc at i a l n (ends-of doc i (pieceR i (drop i doc)) r n e h))
 
-pub ruleset lines = (lines-over, lines-end, lines-bad, lines-on, lines-in, lines-less, along-first, needs)
+      pub lines-less : length doc - m < length doc - i
+      lines-less = let g = piece-ahead doc i n (ends-of doc i (pieceR i (drop i doc)) r n e h) in omega (arith, s .behind, s .inside)
+
+pub lines-first : (doc : List ℕ) (at i : ℕ) → Smooth doc at i → Along doc at i
+lines-first doc at i s = s .on at (along-first doc at)
+
+pub ruleset lines = (lines-over, lines-end, lines-bad, lines-on, lines-in, lines-less, lines-first, needs)
 
 -- ---- comments
 

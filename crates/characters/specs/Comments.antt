@@ -9,8 +9,8 @@ use Rattle.exact.specs.Lang.{Lang, retR, byteR}
 use Rattle.exact.specs.Comb.{seqR, mapR, altR, manyR, cat}
 use Rattle.exact.specs.Ll.{Shape, Ll, ret-ll, retS, byte₁, seq-ll, alt-ll, altS, star-ll, relax, wordR, word-ll}
 use Rattle.language.specs.Characters.{dark, Piece, Comment, Option, LineComment}
-use Rattle.characters.specs.Char.{charR, charS, char-ll}
-use Rattle.characters.specs.Clean.{Clean, ret-clean, byte-clean, char-clean, seq-clean, alt-clean, star-clean, map-clean, word-clean}
+use Rattle.utf8.specs.Char.{charR, charS, char-ll}
+use Rattle.utf8.specs.Clean.{Clean, ret-clean, byte-clean, char-clean, seq-clean, alt-clean, star-clean, map-clean, word-clean}
 
 -- PIECES: spaces, and a character that is none
 abbrev pub dark-first : Class

@@ -16,12 +16,12 @@ use Rattle.exact.specs.Class.{Class, pick, clash, is, or-of}
 use Rattle.exact.specs.Out.{Out, fmap, ok, soft, bad}
 use Rattle.exact.specs.Run.{steps, runL}
 use Rattle.language.specs.Characters.{ascii, character, utf8, wide}
-use Rattle.characters.specs.Utf8.{At, leads, follow, kind, lively, finished, live, full, next, start, done, dead, one-more, two-more, after-c2, after-e0, after-ed, after-ef, after-ef-b7, after-f0, after-f1, after-f4, plane-end, last, char-inside, charR}
-use Rattle.characters.specs.Tails.{left-of, begun, followed, full-done, tail-step}
-use Rattle.characters.specs.States.{low-byte, lead-byte}
-use Rattle.characters.specs.Spelling.{Spelling, spell, utf8-one}
-use Rattle.characters.specs.Whole.{step, restart, whole-of, inside-step, outside-step}
-use Rattle.characters.specs.Scan.{rows, find, code, step-code, whole-code, live-code}
+use Rattle.utf8.specs.Utf8.{At, leads, follow, kind, lively, finished, live, full, next, start, done, dead, one-more, two-more, after-c2, after-e0, after-ed, after-ef, after-ef-b7, after-f0, after-f1, after-f4, plane-end, last, char-inside, charR}
+use Rattle.utf8.specs.Tails.{left-of, begun, followed, full-done, tail-step}
+use Rattle.utf8.specs.States.{low-byte, lead-byte}
+use Rattle.utf8.specs.Spelling.{Spelling, spell, utf8-one}
+use Rattle.utf8.specs.Whole.{step, restart, whole-of, inside-step, outside-step}
+use Rattle.utf8.specs.Scan.{rows, find, code, step-code, whole-code, live-code}
 use Rattle.characters.specs.Reads.{Stands, Wide}
 
 -- THE CLASS below 128 is not asked

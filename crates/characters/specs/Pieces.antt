@@ -14,9 +14,9 @@ use Rattle.exact.specs.Comb.{seqR, seq-tame, manyR, starR, cat}
 use Rattle.exact.specs.Run.{runL, run-exact}
 use Rattle.exact.specs.Place.{peek, run, runEnd, run-end, many-run, byte-is, byte-not, alt-is, alt-not}
 use Rattle.language.specs.Characters.{dark, character, utf8, wide}
-use Rattle.characters.specs.Utf8.{Arrow, _to-be_, table, follow, live, full, Classes, found, next, laws, start, charR}
-use Rattle.characters.specs.Char.{char-ll}
-use Rattle.characters.specs.Tails.{every}
+use Rattle.utf8.specs.Utf8.{Arrow, _to-be_, table, follow, live, full, Classes, found, next, laws, start, charR}
+use Rattle.utf8.specs.Char.{char-ll}
+use Rattle.utf8.specs.Tails.{every}
 use Rattle.characters.specs.Reads.{Stands, Ends}
 use Rattle.characters.specs.Comments.{pieceR, pieceS, piece-ll, piecesR, commentR, lineCommentR, optionalCommentR}
 
@@ -205,6 +205,29 @@ module _ (doc : List ℕ) (at i : ℕ) (a : Along doc at i) where
           enough = omega (arith, a .enough, t .1);
           behind = omega (arith, a .behind);
         }
+
+-- the pieces up to i being read, those up to n are
+pub record Smooth (doc : List ℕ) (i n : ℕ) : Type 0 where
+  pub behind : i ≤ n
+  pub inside : n ≤ length doc
+  pub on : (at : ℕ) → Along doc at i → Along doc at n
+
+pub smooth-none : (doc : List ℕ) (i : ℕ) → i ≤ length doc → Smooth doc i i
+smooth-none doc i l = record { behind = omega arith; inside = l; on = λ at a. a }
+
+pub smooth-more : (doc : List ℕ) (i m n : ℕ) → Smooth doc i m → m < length doc → Ends doc m (pieceR m (drop m doc)) n → Smooth doc i n
+smooth-more doc i m n s l e =
+    let g = piece-ahead doc m n e in
+    record { behind = omega (arith, s .behind); inside = e .inside; on = λ at a. pieces-on doc at m (s .on at a) l n e }
+
+-- the bytes from `at` on and below n are printable
+unfoldable pub Printable : List ℕ → ℕ → ℕ → Type 0
+Printable doc at n = (k : ℕ) → at ≤ k → k < n → (32 ≤ getD doc k 0) × (getD doc k 0 ≤ 126)
+
+-- a block of them whose last is no space
+pub record Block (doc : List ℕ) (at : ℕ) : Type 0 where
+  pub bytes : Printable doc at (at + 64)
+  pub dark : getD doc (at + 63) 0 ≡ 32 → ⊥
 
 -- A COMMENT, A LINE COMMENT, AND NONE, by the byte at the place
 module _ (doc : List ℕ) (at : ℕ) where

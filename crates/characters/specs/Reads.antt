@@ -8,7 +8,7 @@ use lib.Seq.{slice}
 use Rattle.exact.specs.Class.{Class, pick}
 use Rattle.exact.specs.Out.{Out, ok, bad}
 use Rattle.language.specs.Characters.{character, utf8, wide}
-use Rattle.characters.specs.Utf8.{charR}
+use Rattle.utf8.specs.Utf8.{charR}
 use Rattle.characters.specs.declared.Reading.{Reading}
 use Rattle.characters.specs.declared.Read.{Read}
 use Rattle.characters.specs.declared.Read.the-variants.{Scalar, Not}

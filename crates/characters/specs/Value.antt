@@ -8,8 +8,8 @@ use native.Mathlib.Decide.{decLe}
 use lib.ListN.{length, take, getD}
 use lib.Seq.{length-slice, getD-drop, getD-take}
 use Rattle.language.specs.Characters.{utf8}
-use Rattle.characters.specs.Wide.{wide-least}
-use Rattle.characters.specs.Spelling.{utf8-two, utf8-three, utf8-four}
+use Rattle.utf8.specs.Wide.{wide-least}
+use Rattle.utf8.specs.Spelling.{utf8-two, utf8-three, utf8-four}
 use Rattle.characters.specs.Reads.{Stands, Wide}
 
 -- a number from one to another

@@ -3,7 +3,7 @@ use mathlib.Core.Path.{_≡_, refl}
 use mathlib.Core.List.{List, [], _∷_}
 use Rattle.exact.specs.Out.{ok, bad}
 use Rattle.language.specs.Characters.{ascii}
-use Rattle.characters.specs.Utf8.{charR}
+use Rattle.utf8.specs.Utf8.{charR}
 use Rattle.characters.specs.Comments.{commentR, lineCommentR, optionalCommentR}
 
 -- U+00E9, U+20AC and U+1F600

@@ -79,12 +79,12 @@ module _ (table room : List ℕ) (n : ℕ) where
 
   -- ---- the words of a row
 
-  pub leaf-word : (r k a e : ℕ) (s : List ℕ) (p : Placed r (leaf k a e s)) (j : ℕ) → j < 7
+  pub leaf-word : (r k a e : ℕ) (s : List ℕ) (p : Placed r (leaf k a e s)) (j : ℕ) → j < width
       → word table r j ≡ getD (leafRow r (p .parent) (p .from) k a e s) j 0
   unfolding word rowsOf size
   leaf-word r k a e s p j h = stands-word (p .rows) j (omega (arith, length-rows r (p .parent) (p .from) (leaf k a e s)))
 
-  pub node-word : (r k a e c : ℕ) (ts : Forest) (p : Placed r (node k a e c ts)) (j : ℕ) → j < 7
+  pub node-word : (r k a e c : ℕ) (ts : Forest) (p : Placed r (node k a e c ts)) (j : ℕ) → j < width
       → word table r j ≡ getD (rowList k a e 0 c (p .parent) (r + 1 + sizes ts)) j 0
   unfolding word rowsOf
   node-word r k a e c ts p j h =

@@ -22,7 +22,7 @@ both h k = rw (h, k)
 module _ (table room : List ℕ) (n : ℕ) (enough : width * n ≤ length table) where
   good-row : (r : ℕ) → r < n → good table n r ≡ true
   unfolding good
-  good-row r h = both (lt-ltb r n h) (le-leb (7 * (r + 1)) (length table) (omega arith))
+  good-row r h = both (lt-ltb r n h) (le-leb (width * (r + 1)) (length table) (omega arith))
 
   module _ (r a e : ℕ) (s : List ℕ) (p : Placed table room n r (leaf KEY a e s)) where
     -- a key's row

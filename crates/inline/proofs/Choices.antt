@@ -1,9 +1,9 @@
 -- Which reader the first byte chooses: of a scalar, of a value inside brackets, and of a value on a line.
 use mathlib.Core.Path.{_≡_, refl, sym, ap, _∙_}
 use mathlib.Core.List.{List, [], _∷_, _++_}
-use mathlib.Core.Logic.{_⊎_, inl, inr}
+use mathlib.Core.Logic.{_⊎_, inl, inr, ⊎-elim}
 use mathlib.Core.Bool.{Bool, true, false}
-use Prim.Native.Nat.{ℕ, zero, suc, _-_}
+use Prim.Native.Nat.{ℕ, zero, suc, _-_, _≤_, _<_}
 use native.Mathlib.Omega.{arith}
 use lib.ListN.{drop}
 use borrow.Author.Needs.{needs}
@@ -98,23 +98,21 @@ module _ (doc : List ℕ) (c : Cursor) (p : ℕ) (a : Ans) (R R' T T' : List ℕ
   string-reads e f x =
       via (second-reads doc (c .at) plainFirst (plainR false) _ refl e ∙ (alt-peek doc (c .at) (stringS .first) refl stringR inlineBytesR ∙ rw f refl)) x
 
-  pub via-double : b ≡ 34 → Via stringR → Via (scalarR false)
-  via-double e x = string-reads (seen 34 plainFirst e) (seen 34 (stringS .first) e) x
-
-  pub via-single : b ≡ 39 → Via stringR → Via (scalarR false)
-  via-single e x = string-reads (seen 39 plainFirst e) (seen 39 (stringS .first) e) x
+  pub via-string : (b ≡ 34) ⊎ (b ≡ 39) → Via stringR → Via (scalarR false)
+  via-string (inl e) x = string-reads (seen 34 plainFirst e) (seen 34 (stringS .first) e) x
+  via-string (inr e) x = string-reads (seen 39 plainFirst e) (seen 39 (stringS .first) e) x
 
   pub via-bytes : b ≡ 60 → Via inlineBytesR → Via (scalarR false)
   unfolding scalarR quotesR
   via-bytes e x =
       via (second-reads doc (c .at) plainFirst (plainR false) _ refl (seen 60 plainFirst e) ∙ second-reads doc (c .at) (stringS .first) stringR inlineBytesR refl (seen 60 (stringS .first) e)) x
 
-  pub via-plain : (b ≡ 34 → ⊥) → (b ≡ 39 → ⊥) → (b ≡ 60 → ⊥) → Via (plainR false) → Via (scalarR false)
+  pub via-plain : ((b ≡ 34) ⊎ (b ≡ 39) → ⊥) → (b ≡ 60 → ⊥) → Via (plainR false) → Via (scalarR false)
   unfolding scalarR
-  via-plain k l m x =
+  via-plain k m x =
       via
       (first-reads doc (c .at) plainFirst (quotesS .first) (plainR false) quotesR refl (plain-shuts false) (ll-shuts refl quotes-ll)
-      (none-of-three 34 39 60 (peek doc (c .at)) (λ e. k (h ∙ e)) (λ e. l (h ∙ e)) (λ e. m (h ∙ e))))
+      (none-of-three 34 39 60 (peek doc (c .at)) (λ e. k (inl (h ∙ e))) (λ e. k (inr (h ∙ e))) (λ e. m (h ∙ e))))
       x
 
   -- a value
@@ -130,6 +128,10 @@ module _ (doc : List ℕ) (c : Cursor) (p : ℕ) (a : Ans) (R R' T T' : List ℕ
             (first-reads doc (c .at) scalarFirst openings (scalarR false) (containerR (valueR false k)) refl (scalar-shuts false) (ll-shuts refl (container-ll (value-ll k)))
             (none-of-two 91 123 (peek doc (c .at)) (λ e. l (h ∙ e)) (λ e. m (h ∙ e))))
             x
+
+    pub via-digits : 48 ≤ b → b < 58 → Via (plainR false) → Via (valueR false k)
+    via-digits l m x =
+        via-scalar (λ e. omega arith) (λ e. omega arith) (via-plain (λ e. ⊎-elim (λ z. omega arith) (λ z. omega arith) e) (λ e. omega arith) x)
 
     container-reads : (o : Bool) → (k ≡ 0 → ⊥) → is scalarFirst (peek doc (c .at)) ≡ false
         → ((r : Reader Tree) → containerR r (c .at) (drop (c .at) doc) ≡ bracketR o r (c .at) (drop (c .at) doc)) → Via (bracketR o (valueR false (k - 1))) → Via (valueR false k)
@@ -220,6 +222,6 @@ module _ (doc : List ℕ) (c : Cursor) (p k : ℕ) (R R' T T' : List ℕ) (b : �
     pub line-not : (q : ℕ) → a ≡ No q → Reaches doc c p (valueR true k (c .at) (drop (c .at) doc)) (Not q) R R' T T'
     line-not q z = Laws.not-reached doc c p _ R R' T T' q (Laws.refusal doc c p _ R R' T T' a q z alike)
 
-pub ruleset choices = (via-double, via-single, via-bytes, via-plain, via-deep, via-scalar, via-array, via-object, needs)
+pub ruleset choices = (via-string, via-bytes, via-plain, via-deep, via-digits, via-scalar, via-array, via-object, needs)
 
 pub ruleset lining = (line-plain, line-read, line-not, needs)

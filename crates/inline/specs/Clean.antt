@@ -9,7 +9,7 @@ use Rattle.language.specs.Tree.{Tree, field, arrayTree, objectTree}
 use Rattle.language.specs.Characters.{ascii}
 use Rattle.language.specs.Inline.{Listed, InlineArray, InlinePair, InlineObject, Scalar, Value}
 use Rattle.exact.specs.Class.{sub}
-use Rattle.characters.specs.Clean.{Clean, ret-clean, here-clean, byte-clean, word-clean, seq-clean, alt-clean, star-clean}
+use Rattle.utf8.specs.Clean.{Clean, ret-clean, here-clean, byte-clean, word-clean, seq-clean, alt-clean, star-clean}
 use Rattle.numbers.specs.Clean.{plain-clean}
 use Rattle.strings.specs.Clean.{string-clean, key-clean, inlineBytes-clean}
 

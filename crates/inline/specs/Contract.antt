@@ -9,6 +9,7 @@ use Rattle.exact.specs.Place.{peek}
 use Rattle.rooms.specs.declared.Cursor.{Cursor}
 use Rattle.rooms.specs.declared.Ans.{Ans}
 use Rattle.rooms.specs.declared.Ans.the-variants.{Ok, No}
+use Rattle.rooms.specs.Contract.{ample}
 use Rattle.inline.specs.declared.Sep.{Sep}
 use Rattle.inline.specs.declared.Sep.the-variants.{More, Last, Bad}
 use Rattle.inline.specs.Brackets.{Member, children}
@@ -16,11 +17,11 @@ use Rattle.inline.specs.Written.{Written}
 
 -- the numbers of a container's row fit
 pub record Enclosed (c n : Cursor) (count : ℕ) : Type 0 where
-  pub first-fits : c .at < 100000
-  pub after-fits : n .at < 100000
-  pub count-fits : count < 100000
-  pub row-fits : c .row < 100000
-  pub next-fits : n .row < 100000
+  pub first-fits : c .at < ample
+  pub after-fits : n .at < ample
+  pub count-fits : count < ample
+  pub row-fits : c .row < ample
+  pub next-fits : n .row < ample
 
 -- the cursor i bytes on
 abbrev pub onward : Cursor → ℕ → Cursor

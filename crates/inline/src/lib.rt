@@ -6,7 +6,7 @@ ghost use lib.ListN.{length, drop};
 ghost use lib.Seq.{sets};
 ghost use Rattle.exact.specs.Place.{peek};
 ghost use Rattle.language.specs.Tree.{width, rowList};
-ghost use Rattle.rooms.specs.Contract.{Ready, Answers, Reaches};
+ghost use Rattle.rooms.specs.Contract.{ample, Ready, Answers, Reaches};
 ghost use Rattle.exact.specs.Class.{is};
 ghost use Rattle.inline.specs.Values.{marks, scalarR, valueR};
 ghost use Rattle.inline.specs.Brackets.{opens, closes, kindOf, labelR, memberR, bracketR};
@@ -35,22 +35,16 @@ fn scalar(doc: &[u8], rows: &mut [u32], text: &mut [u8], c: Cursor, parent: u32)
     requires { ⌜ Ready (now doc) c ⌝ }
     ensures { λ r. ⌜ Answers (now (doc .entry)) c parent (scalarR false (c .at) (drop (c .at) (now (doc .entry)))) r (now (rows .entry)) (now (rows .exit)) (now (text .entry)) (now (text .exit)) ⌝ }
 {
-    let b = c.look(&*doc);
-    if b == 34 {
-        return string(&*doc, rows, text, c, parent);
+    match c.look(&*doc) {
+        34 | 39 => string(&*doc, rows, text, c, parent),
+        60 => inline_bytes(&*doc, rows, text, c, parent),
+        _ => plain_inside(&*doc, rows, text, c, parent),
     }
-    if b == 39 {
-        return string(&*doc, rows, text, c, parent);
-    }
-    if b == 60 {
-        return inline_bytes(&*doc, rows, text, c, parent);
-    }
-    plain_inside(&*doc, rows, text, c, parent)
 }
 
 // The cursor some bytes on.
 fn ahead(c: Cursor, i: usize) -> Cursor
-    requires { ⌜ c .at + i < 100000 ⌝ }
+    requires { ⌜ c .at + i < ample ⌝ }
     ensures { λ r. ⌜ r ≡ record { at = c .at + i; row = c .row; text = c .text } ⌝ }
 {
     Cursor {
@@ -136,16 +130,14 @@ pub fn value(
     ensures { λ r. ⌜ Answers (now (doc .entry)) c parent (valueR false allow (c .at) (drop (c .at) (now (doc .entry)))) r (now (rows .entry)) (now (rows .exit)) (now (text .entry)) (now (text .exit)) ⌝ }
 {
     if allow == 0 {
-        return scalar(&*doc, rows, text, c, parent);
+        return scalar(&*doc, rows, text, c, parent).anew();
     }
-    let b = c.look(&*doc);
-    if b == 91 {
-        return container(&*doc, rows, text, c, parent, allow - 1, false);
+    match c.look(&*doc) {
+        91 => container(&*doc, rows, text, c, parent, allow - 1, false).anew(),
+        123 => container(&*doc, rows, text, c, parent, allow - 1, true).anew(),
+        48..=57 => plain_inside(&*doc, rows, text, c, parent).anew(),
+        _ => scalar(&*doc, rows, text, c, parent).anew(),
     }
-    if b == 123 {
-        return container(&*doc, rows, text, c, parent, allow - 1, true);
-    }
-    scalar(&*doc, rows, text, c, parent)
 }
 
 // A container, whose bracket stands at the cursor.
@@ -265,5 +257,5 @@ pub fn line_value(
             Ans::No(p) => Far::Not(p),
         };
     }
-    plain(&*doc, rows, text, c, parent, true)
+    plain(&*doc, rows, text, c, parent, true).anew()
 }

@@ -18,7 +18,7 @@ use Rattle.exact.specs.Lines.{spaces, indented-ok, indented-bad}
 use Rattle.rooms.specs.declared.Cursor.{Cursor}
 use Rattle.rooms.specs.declared.Block.{Block}
 use Rattle.rooms.specs.declared.Block.the-variants.{Done, Bad}
-use Rattle.rooms.specs.Contract.{Ready, Blocks}
+use Rattle.rooms.specs.Contract.{ample, Ready, Blocks}
 use Rattle.rooms.specs.Indent.{spaces-lead}
 use Rattle.rooms.specs.Laws
 use Rattle.inline.specs.Written.{written-one}
@@ -149,7 +149,7 @@ module _ (o : Bool) (k n : ℕ) (doc : List ℕ) (c : Cursor) (R₀ T₀ : List 
         pub block-inside : m .at ≤ length doc
         block-inside = got .written .inside
 
-        pub block-count : cnt < 100000
+        pub block-count : cnt < ample
         block-count = let s = got .spare in let i = got .written .inside in let r = l .from .small in omega (arith, l .few)
 
         pub block-encloses : (i : ℕ) → i ≡ cnt + 1 → Enclosed c e i (m .row)

@@ -10,7 +10,7 @@ use borrow.Author.Needs.{needs}
 use borrow.Author.Tests.{le-leb, lt-leb, lt-ltb, le-ltb}
 use Rattle.language.specs.Tree.{Tree}
 use Rattle.language.specs.Document.{Document}
-use Rattle.language.specs.Answered.{limit, Stops}
+use Rattle.language.specs.Answered.{limit, deepest, Stops}
 use Rattle.exact.specs.Verdict.{Tail, Far, Verdict, acc, stop, stops}
 use Rattle.exact.specs.Class.{is, only, only-yes, only-no}
 use Rattle.exact.specs.Out.{Out, Reader, bind, fmap, finish, Tamed, Tame, forward, tamed-less, ok, bad, t-ok, t-soft, t-bad}
@@ -29,8 +29,8 @@ use Rattle.rooms.specs.Laws
 use Rattle.characters.specs.declared.Skip.{Skip}
 use Rattle.characters.specs.declared.Skip.the-variants
 use Rattle.characters.specs.Reads.{Ends, Skips}
-use Rattle.characters.specs.Allowed.{bad-char}
-use Rattle.characters.specs.Told.{Answer, refused-char, refused-syntax, refused-deep, refused-end}
+use Rattle.utf8.specs.Allowed.{bad-char}
+use Rattle.utf8.specs.Told.{Answer, refused-char, refused-syntax, refused-deep, refused-end}
 use Rattle.characters.specs.Comments.{commentR, comment-ll}
 use Rattle.blocks.specs.Openers.{openerR}
 use Rattle.blocks.specs.Straight.{root-array, root-object, root-line}
@@ -315,26 +315,26 @@ empty-kept l (x ∷ s) h = absurd (omega arith)
 far-of : {P : Tail Tree} {s : List ℕ} {p : ℕ} → Verdict P 0 s (stop p) → Far P 0 s p
 far-of (stops _ v z) = v
 
-module _ (doc : List ℕ) (p : ℕ) (h : verdict 32 doc ≡ stop p) where
+module _ (doc : List ℕ) (p : ℕ) (h : verdict deepest doc ≡ stop p) where
   told : (g : Answer Tree) → judge doc ≡ g → Judged doc g
   told g e = subst (Judged doc) e (judged doc)
 
   pub blame-end : length doc ≤ p → Stops doc 5 p
   unfolding judge
   blame-end l =
-      let v = far-of (subst (Verdict (Document 32) 0 doc) h (exact 32 doc)) in
+      let v = far-of (subst (Verdict (Document deepest) 0 doc) h (exact deepest doc)) in
       let e : p ≡ length doc = omega (arith, v .here, v .within) in
       rw e (told (refused-end (length doc)) (rw (h, le-leb (length doc) p l) refl))
 
-  module _ (a : Ans) (l : p < length doc) (w : Checked 33 doc a) where
+  module _ (a : Ans) (l : p < length doc) (w : Checked (deepest + 1) doc a) where
     pub blame-deep : (n : Cursor) → a ≡ Ok n → Stops doc 4 p
     unfolding judge Checked
     blame-deep n e =
-        let k : Known 33 doc n = rw e at w in
+        let k : Known (deepest + 1) doc n = rw e at w in
         told (refused-deep p) (rw (h, lt-leb (length doc) p l, k .is) refl)
 
     module _ (q : ℕ) (e : a ≡ No q) where
-      second : verdict 33 doc ≡ stop q
+      second : verdict (deepest + 1) doc ≡ stop q
       unfolding Checked
       second = rw e at w
 

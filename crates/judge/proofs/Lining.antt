@@ -23,7 +23,7 @@ use Rattle.rooms.specs.declared.Far.{Far}
 use Rattle.rooms.specs.declared.Far.the-variants.{Upto, Not}
 use Rattle.rooms.specs.declared.Block.{Block}
 use Rattle.rooms.specs.declared.Block.the-variants.{Done, Bad}
-use Rattle.rooms.specs.Contract.{Ready, Span, Taken, Answers, Reaches, Blocks, Small}
+use Rattle.rooms.specs.Contract.{columns, ample, Ready, Span, Taken, Answers, Reaches, Blocks, Small}
 use Rattle.rooms.specs.Laws
 use Rattle.language.specs.declared.Kind.{Kind}
 use Rattle.characters.specs.declared.Skip.{Skip}
@@ -117,7 +117,7 @@ module _ (doc : List ℕ) (c : Cursor) (p k : ℕ) (root : Bool) (a : Far) (R R'
 
 -- ---- one reader in place of another, by the byte b at the cursor
 
-pub asked-first : (doc : List ℕ) (c : Cursor) (b d n : ℕ) → Ready doc c → n ≤ 200 → b ≡ peek doc (c .at) → b ≡ d → Asked doc c d n
+pub asked-first : (doc : List ℕ) (c : Cursor) (b d n : ℕ) → Ready doc c → n ≤ columns → b ≡ peek doc (c .at) → b ≡ d → Asked doc c d n
 asked-first doc c b d n r l h e = record { ready = r; first = sym h ∙ e; low = l }
 
 module _ (doc : List ℕ) (c : Cursor) (p : ℕ) (a : Block) (R R' T T' : List ℕ) (b : ℕ) (h : b ≡ peek doc (c .at)) where
@@ -134,9 +134,9 @@ module _ (doc : List ℕ) (c : Cursor) (p : ℕ) (a : Block) (R R' T T' : List �
   unfolding onR
   on-string k n e x = via-first 96 _ _ (omega arith) e x
 
-  pub on-bytes : (k n : ℕ) → (b ≡ 96 → ⊥) → b ≡ 62 → Via (propertyBytesR n) → Via (onR k n)
+  pub on-bytes : (k n : ℕ) → b ≡ 62 → Via (propertyBytesR n) → Via (onR k n)
   unfolding onR
-  on-bytes k n e f x = via-other 96 _ _ (omega arith) e (via-first 62 _ _ (omega arith) f x)
+  on-bytes k n f x = via-other 96 _ _ (omega arith) (λ e. omega arith) (via-first 62 _ _ (omega arith) f x)
 
   pub on-value : (k n : ℕ) → (b ≡ 96 → ⊥) → (b ≡ 62 → ⊥) → Via (lineR (endR false) k) → Via (onR k n)
   unfolding onR
@@ -146,9 +146,9 @@ module _ (doc : List ℕ) (c : Cursor) (p : ℕ) (a : Block) (R R' T T' : List �
   unfolding openerR
   opens-string root k n e x = via-first 96 _ _ (omega arith) e x
 
-  pub opens-bytes : (root : Bool) (k n : ℕ) → (b ≡ 96 → ⊥) → b ≡ 62 → Via (openBytesR n) → Via (openerR (endR root) k n)
+  pub opens-bytes : (root : Bool) (k n : ℕ) → b ≡ 62 → Via (openBytesR n) → Via (openerR (endR root) k n)
   unfolding openerR
-  opens-bytes root k n e f x = via-other 96 _ _ (omega arith) e (via-first 62 _ _ (omega arith) f x)
+  opens-bytes root k n f x = via-other 96 _ _ (omega arith) (λ e. omega arith) (via-first 62 _ _ (omega arith) f x)
 
   pub opens-value : (root : Bool) (k n : ℕ) → (b ≡ 96 → ⊥) → (b ≡ 62 → ⊥) → Via (lineR (endR root) k) → Via (openerR (endR root) k n)
   unfolding openerR
@@ -240,7 +240,7 @@ module _ (c : Cursor) (e count next : ℕ) (s : Enclosed c e count next) where
   pub enclosed-small : Small (c .at) e 0 count next
   enclosed-small = record { first-fits = s .first-fits; after-fits = s .after-fits; from-fits = omega arith; to-fits = s .count-fits; next-fits = s .next-fits }
 
-  pub enclosed-row : c .row < 100000
+  pub enclosed-row : c .row < ample
   enclosed-row = s .row-fits
 
 pub enclosed-stored : (c : Cursor) (e count next parent : ℕ) (o : Bool) (k : Kind) (w : Words) (R R' : List ℕ) → k .0 ≡ kindOf o

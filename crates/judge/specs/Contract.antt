@@ -20,6 +20,7 @@ use Rattle.rooms.specs.declared.Ans.{Ans}
 use Rattle.rooms.specs.declared.Ans.the-variants.{Ok, No}
 use Rattle.rooms.specs.declared.Block.{Block}
 use Rattle.rooms.specs.declared.Block.the-variants.{Done, Bad}
+use Rattle.rooms.specs.Contract.{ample}
 use Rattle.characters.specs.Comments.{commentR, optionalCommentR}
 use Rattle.strings.specs.Keys.{keyR}
 use Rattle.inline.specs.Written.{Written}
@@ -75,11 +76,11 @@ later (Bad q) p = Bad (max q p)
 
 -- the numbers of a block's row fit
 pub record Enclosed (c : Cursor) (e count next : ℕ) : Type 0 where
-  pub first-fits : c .at < 100000
-  pub after-fits : e < 100000
-  pub count-fits : count < 100000
-  pub row-fits : c .row < 100000
-  pub next-fits : next < 100000
+  pub first-fits : c .at < ample
+  pub after-fits : e < ample
+  pub count-fits : count < ample
+  pub row-fits : c .row < ample
+  pub next-fits : next < ample
 
 -- THE NEXT LINE of a block at n: a further member begins at a, or none does, and the line begins one up to p
 pub record Again (o : Bool) (doc : List ℕ) (at n a : ℕ) : Type 0 where

@@ -4,7 +4,7 @@ ghost use Prim.Native.Nat.{_*_, _≤_};
 ghost use lib.ListN.{drop};
 ghost use lib.Seq.{sets};
 ghost use Rattle.language.specs.Tree.{width, rowList};
-ghost use Rattle.rooms.specs.Contract.{Ready, Answers, Blocks};
+ghost use Rattle.rooms.specs.Contract.{columns, Ready, Answers, Blocks};
 ghost use Rattle.strings.specs.Keys.{keyR};
 ghost use Rattle.blocks.specs.ValueLine.{lineR};
 ghost use Rattle.blocks.specs.Property.{onR};
@@ -21,6 +21,7 @@ use blocktext::property_string;
 use characters::Skip;
 use inline::line_value;
 use language::Kind;
+use language::WIDTH;
 use rooms::Ans;
 use rooms::Block;
 use rooms::Cursor;
@@ -66,17 +67,14 @@ pub fn on_line(
     allow: usize,
 ) -> Block
     requires { ⌜ Ready (now doc) c ⌝ }
-    requires { ⌜ col ≤ 200 ⌝ }
+    requires { ⌜ col ≤ columns ⌝ }
     ensures { λ r. ⌜ Blocks (now (doc .entry)) c parent (onR allow col (c .at) (drop (c .at) (now (doc .entry)))) r (now (rows .entry)) (now (rows .exit)) (now (text .entry)) (now (text .exit)) ⌝ }
 {
-    let b = c.look(&*doc);
-    if b == 96 {
-        return property_string(&*doc, rows, text, c, parent, col);
+    match c.look(&*doc) {
+        96 => property_string(&*doc, rows, text, c, parent, col),
+        62 => property_bytes(&*doc, rows, text, c, parent, col),
+        _ => value_line(&*doc, rows, text, c, parent, allow, false),
     }
-    if b == 62 {
-        return property_bytes(&*doc, rows, text, c, parent, col);
-    }
-    value_line(&*doc, rows, text, c, parent, allow, false)
 }
 
 // An open block string or open block bytes at col, or a value on this line.
@@ -91,17 +89,14 @@ pub fn opener(
     root: bool,
 ) -> Block
     requires { ⌜ Ready (now doc) c ⌝ }
-    requires { ⌜ col ≤ 200 ⌝ }
+    requires { ⌜ col ≤ columns ⌝ }
     ensures { λ r. ⌜ Blocks (now (doc .entry)) c parent (openerR (endR root) allow col (c .at) (drop (c .at) (now (doc .entry)))) r (now (rows .entry)) (now (rows .exit)) (now (text .entry)) (now (text .exit)) ⌝ }
 {
-    let b = c.look(&*doc);
-    if b == 96 {
-        return open_string(&*doc, rows, text, c, parent, col);
+    match c.look(&*doc) {
+        96 => open_string(&*doc, rows, text, c, parent, col),
+        62 => open_bytes(&*doc, rows, text, c, parent, col),
+        _ => value_line(&*doc, rows, text, c, parent, allow, root),
     }
-    if b == 62 {
-        return open_bytes(&*doc, rows, text, c, parent, col);
-    }
-    value_line(&*doc, rows, text, c, parent, allow, root)
 }
 
 // An open block string at col, or joined strings.
@@ -114,7 +109,7 @@ pub fn nested_line(
     col: usize,
 ) -> Block
     requires { ⌜ Ready (now doc) c ⌝ }
-    requires { ⌜ col ≤ 200 ⌝ }
+    requires { ⌜ col ≤ columns ⌝ }
     ensures { λ r. ⌜ Blocks (now (doc .entry)) c parent (nestedLineR col (c .at) (drop (c .at) (now (doc .entry)))) r (now (rows .entry)) (now (rows .exit)) (now (text .entry)) (now (text .exit)) ⌝ }
 {
     if c.look(&*doc) == 96 {
@@ -144,7 +139,7 @@ pub fn key_row(doc: &[u8], rows: &mut [u32], text: &mut [u8], c: Cursor, parent:
         row: 0,
         text: c.text,
     };
-    let mut words = [0u32; 7];
+    let mut words = [0u32; WIDTH];
     match key(&*doc, &mut words, text, from, parent) {
         Ans::No(p) => Ans::No(p),
         Ans::Ok(n) => {

@@ -1,7 +1,7 @@
 // Blocks: arrays and objects by lines, what is nested in a property, and items. A container inside another takes one of the allowance.
 ghost use Prim.Native.Nat.{suc, _+_, _*_, _≤_};
 ghost use lib.ListN.{drop};
-ghost use Rattle.rooms.specs.Contract.{Ready, Blocks};
+ghost use Rattle.rooms.specs.Contract.{columns, Ready, Blocks};
 ghost use mathlib.Core.Bool.{true};
 ghost use Rattle.blocks.specs.Property.{onR};
 ghost use Rattle.blocks.specs.Rest.{restR};
@@ -41,16 +41,16 @@ fn behind(
     allow: usize,
 ) -> Block
     requires { ⌜ Ready (now doc) c ⌝ }
-    requires { ⌜ col + 2 * allow ≤ 98 ⌝ }
+    requires { ⌜ col + 2 * (allow + 1) ≤ columns ⌝ }
     ensures { λ r. ⌜ Blocks (now (doc .entry)) c parent (restR (onR allow col) (nestedR allow (suc (suc col))) (c .at) (drop (c .at) (now (doc .entry)))) r (now (rows .entry)) (now (rows .exit)) (now (text .entry)) (now (text .exit)) ⌝ }
 {
     let at = c.at;
     if one_space(&*doc, at) {
-        return on_line(&*doc, rows, text, moved(c, at + 1), parent, col, allow);
+        return on_line(&*doc, rows, text, moved(c, at + 1), parent, col, allow).anew();
     }
     match line_end(&*doc, at, false) {
         Skip::Bad(p) => Block::Bad(p),
-        Skip::End(a) => nested(&*doc, rows, text, moved(c, a), parent, col + 2, allow),
+        Skip::End(a) => nested(&*doc, rows, text, moved(c, a), parent, col + 2, allow).anew(),
     }
 }
 
@@ -65,7 +65,7 @@ fn property(
     allow: usize,
 ) -> Block
     requires { ⌜ Stands (now doc) c ⌝ }
-    requires { ⌜ col + 2 * allow ≤ 98 ⌝ }
+    requires { ⌜ col + 2 * (allow + 1) ≤ columns ⌝ }
     ensures { λ r. ⌜ Members true (now (doc .entry)) c parent (memberR true allow col (c .at) (drop (c .at) (now (doc .entry)))) r (now (rows .entry)) (now (rows .exit)) (now (text .entry)) (now (text .exit)) ⌝ }
 {
     match key_row(&*doc, rows, text, c, parent) {
@@ -92,7 +92,7 @@ fn member(
     object: bool,
 ) -> Block
     requires { ⌜ Stands (now doc) c ⌝ }
-    requires { ⌜ col + 2 * allow ≤ 98 ⌝ }
+    requires { ⌜ col + 2 * (allow + 1) ≤ columns ⌝ }
     ensures { λ r. ⌜ Members object (now (doc .entry)) c parent (memberR object allow col (c .at) (drop (c .at) (now (doc .entry)))) r (now (rows .entry)) (now (rows .exit)) (now (text .entry)) (now (text .exit)) ⌝ }
 {
     if object {
@@ -118,7 +118,7 @@ pub fn block(
     object: bool,
 ) -> Block
     requires { ⌜ Ready (now doc) c ⌝ }
-    requires { ⌜ col + 2 * allow ≤ 98 ⌝ }
+    requires { ⌜ col + 2 * (allow + 1) ≤ columns ⌝ }
     ensures { λ r. ⌜ Blocks (now (doc .entry)) c parent (blockR object allow col (c .at) (drop (c .at) (now (doc .entry)))) r (now (rows .entry)) (now (rows .exit)) (now (text .entry)) (now (text .exit)) ⌝ }
 {
     let row = c.row;
@@ -131,9 +131,7 @@ pub fn block(
     let mut count: usize = 0;
     loop {
         match member(&*doc, rows, text, cur, row as u32, col, allow, object) {
-            Block::Bad(p) => {
-                return Block::Bad(greater(far, p));
-            }
+            Block::Bad(p) => return Block::Bad(greater(far, p)),
             Block::Done(n, f, e) => {
                 far = greater(far, f);
                 count += 1;
@@ -142,9 +140,7 @@ pub fn block(
                         enclose(rows, c, e, parent, count, n.row, object);
                         return Block::Done(n, greater(far, p), e);
                     }
-                    Next::More(a) => {
-                        cur = moved(n, a);
-                    }
+                    Next::More(a) => cur = moved(n, a),
                 }
             }
         }
@@ -162,7 +158,7 @@ fn bullet(
     allow: usize,
 ) -> Block
     requires { ⌜ Ready (now doc) c ⌝ }
-    requires { ⌜ col + 2 * allow ≤ 98 ⌝ }
+    requires { ⌜ col + 2 * (allow + 1) ≤ columns ⌝ }
     ensures { λ r. ⌜ Blocks (now (doc .entry)) c parent (bulletR (itemR allow (suc (suc col))) (c .at) (drop (c .at) (now (doc .entry)))) r (now (rows .entry)) (now (rows .exit)) (now (text .entry)) (now (text .exit)) ⌝ }
 {
     let row = c.row;
@@ -191,15 +187,15 @@ fn item(
     allow: usize,
 ) -> Block
     requires { ⌜ Ready (now doc) c ⌝ }
-    requires { ⌜ col + 2 * allow ≤ 100 ⌝ }
+    requires { ⌜ col + 2 * allow ≤ columns ⌝ }
     ensures { λ r. ⌜ Blocks (now (doc .entry)) c parent (itemR allow col (c .at) (drop (c .at) (now (doc .entry)))) r (now (rows .entry)) (now (rows .exit)) (now (text .entry)) (now (text .exit)) ⌝ }
 {
     if allow == 0 {
-        return opener(&*doc, rows, text, c, parent, col, allow, false);
+        return opener(&*doc, rows, text, c, parent, col, allow, false).anew();
     }
     match starts(&*doc, c) {
         Start::Dash => bullet(&*doc, rows, text, c, parent, col, allow - 1),
-        Start::Key => block(&*doc, rows, text, c, parent, col, allow - 1, true),
+        Start::Key => block(&*doc, rows, text, c, parent, col, allow - 1, true).anew(),
         Start::Line(p) => {
             let line = opener(&*doc, rows, text, c, parent, col, allow, false);
             kept(line, p)
@@ -218,7 +214,7 @@ fn nested(
     allow: usize,
 ) -> Block
     requires { ⌜ Ready (now doc) c ⌝ }
-    requires { ⌜ col + 2 * allow ≤ 100 ⌝ }
+    requires { ⌜ col + 2 * allow ≤ columns ⌝ }
     ensures { λ r. ⌜ Blocks (now (doc .entry)) c parent (nestedR allow col (c .at) (drop (c .at) (now (doc .entry)))) r (now (rows .entry)) (now (rows .exit)) (now (text .entry)) (now (text .exit)) ⌝ }
 {
     let at = c.at;
@@ -232,7 +228,7 @@ fn nested(
     }
     match starts(&*doc, n) {
         Start::Dash => block(&*doc, rows, text, n, parent, col, allow - 1, false),
-        Start::Key => block(&*doc, rows, text, n, parent, col, allow - 1, true),
+        Start::Key => block(&*doc, rows, text, n, parent, col, allow - 1, true).anew(),
         Start::Line(p) => {
             let line = nested_line(&*doc, rows, text, n, parent, col);
             kept(line, p)

@@ -5,8 +5,8 @@ ghost use lib.ListN.{length, drop};
 ghost use Rattle.exact.specs.Class.{only};
 ghost use Rattle.exact.specs.Place.{runEnd};
 ghost use Rattle.exact.specs.Verdict.{stop};
-ghost use Rattle.language.specs.Answered.{limit, Stops};
-ghost use Rattle.rooms.specs.Contract.{Ready, Blocks};
+ghost use Rattle.language.specs.Answered.{limit, deepest, Stops};
+ghost use Rattle.rooms.specs.Contract.{columns, Ready, Blocks};
 ghost use Rattle.characters.specs.Reads.{Skips};
 ghost use Rattle.blocks.specs.Root.{rootR};
 ghost use Rattle.blocks.specs.Document.{headR, verdict};
@@ -21,6 +21,7 @@ use super::nesting::block;
 use characters::Skip;
 use characters::bad_char;
 use characters::comment;
+use language::DEEPEST;
 use rooms::Ans;
 use rooms::Block;
 use rooms::Cursor;
@@ -71,7 +72,7 @@ fn blanks(doc: &[u8], at: usize) -> usize
 // The root.
 fn root(doc: &[u8], rows: &mut [u32], text: &mut [u8], c: Cursor, allow: usize) -> Block
     requires { ⌜ Ready (now doc) c ⌝ }
-    requires { ⌜ 2 * allow ≤ 100 ⌝ }
+    requires { ⌜ 2 * allow ≤ columns ⌝ }
     ensures { λ r. ⌜ Blocks (now (doc .entry)) c 0 (rootR allow (c .at) (drop (c .at) (now (doc .entry)))) r (now (rows .entry)) (now (rows .exit)) (now (text .entry)) (now (text .exit)) ⌝ }
 {
     if allow == 0 {
@@ -101,7 +102,7 @@ fn finish(doc: &[u8], n: Cursor, far: usize) -> Ans
 // The whole document, written into the rooms as far as they reach.
 pub fn pass(doc: &[u8], rows: &mut [u32], text: &mut [u8], allow: usize) -> Ans
     requires { ⌜ length (now doc) ≤ limit ⌝ }
-    requires { ⌜ 2 * allow ≤ 100 ⌝ }
+    requires { ⌜ 2 * allow ≤ columns ⌝ }
     ensures { λ r. ⌜ Checked allow (now (doc .entry)) r ⌝ }
     ensures { λ r. ⌜ Filled allow (now (doc .entry)) (now (rows .entry)) (now (rows .exit)) (now (text .entry)) (now (text .exit)) ⌝ }
 {
@@ -124,7 +125,7 @@ pub fn pass(doc: &[u8], rows: &mut [u32], text: &mut [u8], allow: usize) -> Ans
 // The document read into empty rooms, so that nothing is written.
 pub fn check(doc: &[u8], rows: &mut [u32], text: &mut [u8], allow: usize) -> Ans
     requires { ⌜ length (now doc) ≤ limit ⌝ }
-    requires { ⌜ 2 * allow ≤ 100 ⌝ }
+    requires { ⌜ 2 * allow ≤ columns ⌝ }
     ensures { λ r. ⌜ Checked allow (now (doc .entry)) r ⌝ }
     ensures { λ r. ⌜ (now (rows .exit) ≡ now (rows .entry)) × (now (text .exit) ≡ now (text .entry)) ⌝ }
 {
@@ -134,14 +135,14 @@ pub fn check(doc: &[u8], rows: &mut [u32], text: &mut [u8], allow: usize) -> Ans
 // The number of a refusal at p: END at the document's end, DEEP where one container more goes on, elsewhere CHAR or SYNTAX.
 pub fn blame(doc: &[u8], rows: &mut [u32], text: &mut [u8], p: usize) -> u32
     requires { ⌜ length (now doc) ≤ limit ⌝ }
-    requires { ⌜ verdict 32 (now doc) ≡ stop p ⌝ }
+    requires { ⌜ verdict deepest (now doc) ≡ stop p ⌝ }
     ensures { λ r. ⌜ Stops (now (doc .entry)) r p ⌝ }
     ensures { λ r. ⌜ (now (rows .exit) ≡ now (rows .entry)) × (now (text .exit) ≡ now (text .entry)) ⌝ }
 {
     if doc.len() <= p {
         return 5;
     }
-    match check(&*doc, rows, text, 33) {
+    match check(&*doc, rows, text, DEEPEST + 1) {
         Ans::Ok(_) => 4,
         Ans::No(q) => {
             if p < q {

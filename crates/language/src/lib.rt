@@ -2,6 +2,15 @@
 ghost use mathlib.Core.Path.{_≡_};
 ghost use Rattle.language.specs.Kind.{hasText};
 
+// "Rows stand in document order, seven words each".
+pub const WIDTH: usize = 7;
+
+// LONG: "more than 32,768 bytes".
+pub const LIMIT: usize = 32768;
+
+// "at most 32 containers one inside another".
+pub const DEEPEST: usize = 32;
+
 // A place is counted in bytes from 0.
 pub struct Place(pub usize);
 

@@ -19,7 +19,7 @@ use Rattle.rooms.specs.declared.Words.{Words}
 use Rattle.rooms.specs.declared.Ans.the-variants.{Ok, No}
 use Rattle.rooms.specs.declared.Far.{Far}
 use Rattle.rooms.specs.declared.Far.the-variants.{Upto, Not}
-use Rattle.rooms.specs.Contract.{Ready, Answers, Reaches, Small}
+use Rattle.rooms.specs.Contract.{ample, Ready, Answers, Reaches, Small}
 use Rattle.rooms.specs.Laws.{reaching, not-reached, reached-taken, reached-refusal, leaf-text}
 use Rattle.rooms.specs.Laws
 use Rattle.language.specs.Kind.{INTEGER}
@@ -41,11 +41,11 @@ module _ (doc : List ℕ) (at b : ℕ) (h : b ≡ peek doc at) where
   pub leads-low : (b ≡ 45 → ⊥) → b < 102 → Leads doc at at false
   leads-low n l = digits-lead (λ e. omega arith) (λ e. omega arith) (λ e. omega arith) (λ e. omega arith) (λ e. n (h ∙ e))
 
+  pub leads-high : 117 ≤ b → Leads doc at at false
+  leads-high l = digits-lead (λ e. omega arith) (λ e. omega arith) (λ e. omega arith) (λ e. omega arith) (λ e. omega arith)
+
   pub leads-other : 102 ≤ peek doc at → (b ≡ 110 → ⊥) → (b ≡ 116 → ⊥) → (b ≡ 102 → ⊥) → (b ≡ 105 → ⊥) → Leads doc at at false
   leads-other l n t f i = digits-lead (λ e. n (h ∙ e)) (λ e. t (h ∙ e)) (λ e. f (h ∙ e)) (λ e. i (h ∙ e)) (λ e. omega arith)
-
-  pub word-begins : 102 ≤ b → 102 ≤ peek doc at
-  word-begins l = omega arith
 
 pub leads-minus : (doc : List ℕ) (at b : ℕ) → b ≡ peek doc (at + 1) → Stands doc at 45 → (b ≡ 105 → ⊥) → Leads doc at (at + 1) true
 leads-minus doc at b h s n = minus-leads s (λ e. n (h ∙ e))
@@ -203,7 +203,7 @@ pub put-read : (c : Cursor) (p kind e to : ℕ) (R R' : List ℕ) (w : Words)
     → Put R R' c p kind e to (record { at = e; row = c .row + 1; text = to })
 put-read c p kind e to R R' w h r = record { next = refl; table = rw h at r }
 
-pub small-row : (a e x to n : ℕ) → Small a e x to (n + 1) → n < 100000
+pub small-row : (a e x to n : ℕ) → Small a e x to (n + 1) → n < ample
 small-row a e x to n s = let h = s .next-fits in omega arith
 
 -- HOW FAR
@@ -262,4 +262,4 @@ pub ruleset inside-laws = (inside-took, inside-not, needs)
 
 pub ruleset pair-laws = (leads-minus, via-nan, via-null, via-minus, needs)
 
-pub ruleset plain-laws = (leads-low, leads-other, stands, word-begins, via-true, via-false, via-infinity, needs)
+pub ruleset plain-laws = (leads-low, leads-high, stands, via-true, via-false, via-infinity, needs)

@@ -4,7 +4,7 @@ use mathlib.Core.List.{List, [], _∷_, _++_}
 use mathlib.Core.Bool.{Bool, true, false}
 use Prim.Native.Nat.{ℕ}
 use Rattle.notation.specs.Class.{_to_, only}
-use Rattle.characters.specs.Clean.{Clean, ret-clean, here-clean, byte-clean, word-clean, seq-clean, alt-clean, star-clean}
+use Rattle.utf8.specs.Clean.{Clean, ret-clean, here-clean, byte-clean, word-clean, seq-clean, alt-clean, star-clean}
 use Rattle.language.specs.Kind.{NULL, FALSE, TRUE, INTEGER, FLOAT}
 use Rattle.language.specs.Tree.{leaf}
 use Rattle.language.specs.Scalars.{nullWord, trueWord, falseWord, nanWord, infinityWord, Keyword, Keywords, digit, Further, Digits, signed, Integer, Pointed, Exponent, Float, Plain}

@@ -12,6 +12,7 @@ use Rattle.language.specs.Kind.{INTEGER, FLOAT}
 use Rattle.language.specs.Tree.{width, rowList}
 use Rattle.rooms.specs.declared.Cursor.{Cursor}
 use Rattle.language.specs.Scalars.{digit, plain, signed}
+use Rattle.language.specs.Answered.{limit}
 use Rattle.numbers.specs.declared.digits.Stretch.{Stretch}
 use Rattle.numbers.specs.declared.scanning.Numeral.{Numeral}
 use Rattle.numbers.specs.Same.{Found, found}
@@ -77,7 +78,7 @@ pub data Scanned (spaced : Bool) (doc : List ℕ) (d : ℕ) : Numeral → Type 0
 pub record Storing (doc : List ℕ) (a e x : ℕ) : Type 0 where
   pub ahead : a ≤ e
   pub inside : e ≤ length doc
-  pub small : x + e < 90000
+  pub small : x + e < 3 * limit
 
 -- where `dense` holds, no space is among them
 pub record Dense (doc : List ℕ) (a e : ℕ) (dense : Bool) : Type 0 where
@@ -112,7 +113,7 @@ pub record Writing (doc : List ℕ) (s : Numeral) (at d : ℕ) (neg : Bool) (x :
   pub some : d < s .end
   pub inside : s .end ≤ length doc
   pub last : s .kind ≡ INTEGER → peek doc (s .end - 1) ≡ 32 → ⊥
-  pub small : x + length doc < 80000
+  pub small : x + length doc ≤ 2 * limit
   pub dense : s .dense ≡ true → Tight doc d (s .end)
 
 -- A NUMBER AT A PLACE: behind a `-` that no `i` follows, or where no keyword begins and no `-` stands

@@ -194,9 +194,9 @@ fn signed(
 {
     let at = c.at;
     if look(&*doc, at + 1) == 105 {
-        return float_word(&*doc, rows, text, c, parent, b"-infinity");
+        return float_word(&*doc, rows, text, c, parent, b"-infinity").anew();
     }
-    number(&*doc, rows, text, c, parent, at + 1, true, spaced)
+    number(&*doc, rows, text, c, parent, at + 1, true, spaced).anew()
 }
 
 // A keyword that begins with no `-`, or none.
@@ -206,23 +206,16 @@ fn word(doc: &[u8], rows: &mut [u32], text: &mut [u8], c: Cursor, parent: u32, s
     ensures { λ r. ⌜ Reaches (now (doc .entry)) c parent (plainR spaced (c .at) (drop (c .at) (now (doc .entry)))) r (now (rows .entry)) (now (rows .exit)) (now (text .entry)) (now (text .exit)) ⌝ }
 {
     let at = c.at;
-    let b = look(&*doc, at);
-    if b == 110 {
-        return nan_or_null(&*doc, rows, text, c, parent, spaced);
+    match look(&*doc, at) {
+        110 => nan_or_null(&*doc, rows, text, c, parent, spaced).anew(),
+        116 => keyword(&*doc, rows, text, c, parent, Kind::TRUE, b"true").anew(),
+        102 => keyword(&*doc, rows, text, c, parent, Kind::FALSE, b"false").anew(),
+        105 => float_word(&*doc, rows, text, c, parent, b"infinity").anew(),
+        _ => number(&*doc, rows, text, c, parent, at, false, spaced).anew(),
     }
-    if b == 116 {
-        return keyword(&*doc, rows, text, c, parent, Kind::TRUE, b"true");
-    }
-    if b == 102 {
-        return keyword(&*doc, rows, text, c, parent, Kind::FALSE, b"false");
-    }
-    if b == 105 {
-        return float_word(&*doc, rows, text, c, parent, b"infinity");
-    }
-    number(&*doc, rows, text, c, parent, at, false, spaced)
 }
 
-// A keyword or a number at the cursor, with single spaces between digits where `spaced` holds.
+// A keyword, which begins with `-` or with f to t, or a number at the cursor, with single spaces between digits where `spaced` holds.
 pub fn plain(
     doc: &[u8],
     rows: &mut [u32],
@@ -235,14 +228,11 @@ pub fn plain(
     ensures { λ r. ⌜ Reaches (now (doc .entry)) c parent (plainR spaced (c .at) (drop (c .at) (now (doc .entry)))) r (now (rows .entry)) (now (rows .exit)) (now (text .entry)) (now (text .exit)) ⌝ }
 {
     let at = c.at;
-    let b = look(&*doc, at);
-    if b == 45 {
-        return signed(&*doc, rows, text, c, parent, spaced);
+    match look(&*doc, at) {
+        45 => signed(&*doc, rows, text, c, parent, spaced).anew(),
+        102..=116 => word(&*doc, rows, text, c, parent, spaced).anew(),
+        _ => number(&*doc, rows, text, c, parent, at, false, spaced).anew(),
     }
-    if b < 102 {
-        return number(&*doc, rows, text, c, parent, at, false, spaced);
-    }
-    word(&*doc, rows, text, c, parent, spaced)
 }
 
 // The same inside `[` and `{`, where no space stands between digits.

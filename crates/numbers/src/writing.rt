@@ -10,13 +10,14 @@ ghost use Prim.Native.Nat.{ℕ, _+_, _<_};
 ghost use lib.ListN.{length};
 ghost use lib.Seq.{slice};
 ghost use Rattle.language.specs.Scalars.{signed};
+ghost use Rattle.rooms.specs.Contract.{ample};
 ghost use Rattle.numbers.specs.Places.{squeezed};
 ghost use Rattle.numbers.specs.Texts.{minusOf, numberText};
 ghost use Rattle.numbers.specs.Contract.{Dense, Storing, Stored, Whole, Nonzero, Writing};
 
 // A byte stored at x, unless it is a space; the place after it.
 fn put_solid(text: &mut [u8], x: usize, b: u8) -> usize
-    requires { ⌜ x < 100000 ⌝ }
+    requires { ⌜ x < ample ⌝ }
     ensures { λ r. ⌜ Stored (now (text .entry)) (now (text .exit)) x r (squeezed (b ∷ [])) ⌝ }
 {
     if b == 32 {

@@ -1,6 +1,4 @@
--- Laws that several proofs use: of rows, of texts, of the walk, of digits and signs, of the order.
+-- Laws that several proofs use: of rows, of texts, of the walk.
 pub mod RowLaws
 pub mod TextLaws
 pub mod WalkLaws
-pub mod NumeralLaws
-pub mod OrderLaws

@@ -11,21 +11,22 @@ use lib.Dec.{leb, ltb, eqb}
 use borrow.Author.Needs.{needs}
 use borrow.Author.Tests.{lt-ltb, le-ltb, le-leb, lt-leb, ltb-true, leb-true, ltb-false}
 use Rattle.language.specs.Kind.{hasText}
+use Rattle.language.specs.Tree.{width}
 use Rattle.questions.specs.Both.{both-left, both-right, not-left, not-right, then-right}
-use Rattle.questions.specs.Table.{WIDTH, word, kind, start, end, good, readable}
+use Rattle.questions.specs.Table.{word, kind, start, end, good, readable}
 use Rattle.questions.specs.Contract.{isKind, Held}
 
 -- ---- a good row
 
 module _ (table : List ℕ) (R r : ℕ) where
-  whole-row : ltb r (length table / WIDTH) ≡ leb (WIDTH * (r + 1)) (length table)
-  whole-row = go (ltb r (length table / WIDTH)) refl
+  whole-row : ltb r (length table / width) ≡ leb (width * (r + 1)) (length table)
+  whole-row = go (ltb r (length table / width)) refl
     where
-      go : (b : Bool) → ltb r (length table / WIDTH) ≡ b → b ≡ leb (WIDTH * (r + 1)) (length table)
-      go true h = let l = ltb-true r (length table / WIDTH) h in sym (le-leb (WIDTH * (r + 1)) (length table) (omega arith))
-      go false h = let l = ltb-false r (length table / WIDTH) h in sym (lt-leb (WIDTH * (r + 1)) (length table) (omega arith))
+      go : (b : Bool) → ltb r (length table / width) ≡ b → b ≡ leb (width * (r + 1)) (length table)
+      go true h = let l = ltb-true r (length table / width) h in sym (le-leb (width * (r + 1)) (length table) (omega arith))
+      go false h = let l = ltb-false r (length table / width) h in sym (lt-leb (width * (r + 1)) (length table) (omega arith))
 
-  pub good-below : r < R → ltb r (length table / WIDTH) ≡ good table R r
+  pub good-below : r < R → ltb r (length table / width) ≡ good table R r
   unfolding good
   good-below h = then-right _ _ _ (lt-ltb r R h) whole-row
 
@@ -36,21 +37,21 @@ module _ (table : List ℕ) (R r : ℕ) where
   module _ (g : Bool) (said : g ≡ good table R r) (taken : g ≡ true) where
     pub good-row : r < R
     unfolding good
-    good-row = ltb-true r R (both-left (ltb r R) (leb (WIDTH * (r + 1)) (length table)) (sym said ∙ taken))
+    good-row = ltb-true r R (both-left (ltb r R) (leb (width * (r + 1)) (length table)) (sym said ∙ taken))
 
     pub good-fits : Fits w64 R → Fits w64 (r + 1)
     good-fits f = let l = good-row in omega arith
 
-    pub good-whole : WIDTH * (r + 1) ≤ length table
+    pub good-whole : width * (r + 1) ≤ length table
     unfolding good
-    good-whole = leb-true (WIDTH * (r + 1)) (length table) (both-right (ltb r R) (leb (WIDTH * (r + 1)) (length table)) (sym said ∙ taken))
+    good-whole = leb-true (width * (r + 1)) (length table) (both-right (ltb r R) (leb (width * (r + 1)) (length table)) (sym said ∙ taken))
 
-    pub good-held : (k : ℕ) → k < WIDTH → Held table r k
+    pub good-held : (k : ℕ) → k < width → Held table r k
     good-held k h = record { whole = good-whole; one = h }
 
 -- ---- a word of it
 
-pub word-read : (table : List ℕ) (r k x : ℕ) → x ≡ getD table (WIDTH * r + k) 0 → x ≡ word table r k
+pub word-read : (table : List ℕ) (r k x : ℕ) → x ≡ getD table (width * r + k) 0 → x ≡ word table r k
 unfolding word
 word-read table r k x h = h
 
@@ -116,7 +117,7 @@ module _ (table : List ℕ) (R : ℕ) (room : List ℕ) (r : ℕ) where
     pub read-end : end table r ≤ length room
     read-end = leb-true (end table r) (length room) (both-right S E read-spans)
 
-    pub read-held : (k : ℕ) → k < WIDTH → Held table r k
+    pub read-held : (k : ℕ) → k < width → Held table r k
     read-held k h = good-held table R r true read-good refl k h
 
     pub read-row : r < R

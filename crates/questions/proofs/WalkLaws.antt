@@ -13,8 +13,9 @@ use borrow.Author.Count.{below-more}
 use borrow.Author.Needs.{needs}
 use borrow.Author.Tests.{lt-ltb, le-ltb, le-leb, lt-leb}
 use Rattle.language.specs.Kind.{OBJECT, KEY, pick}
+use Rattle.language.specs.Tree.{width}
 use Rattle.questions.specs.declared.Found.the-variants.{At, Missing, BadRow}
-use Rattle.questions.specs.Table.{WIDTH, kind, next, good, readable}
+use Rattle.questions.specs.Table.{kind, next, good, readable}
 use Rattle.questions.specs.Text.{part, textOf}
 use Rattle.questions.specs.Walk.{Reply, foundReply, paired, onward, object, Walk, ends, breaks, matches, strays, goes, Finds, refused, walked}
 use Rattle.questions.specs.Contract.{isKind, Held, Same}
@@ -86,7 +87,7 @@ module _ (table : List ℕ) (R : ℕ) (room : List ℕ) (at : ℕ) where
     pub pair-fits : Fits w64 R → Fits w64 (at + 1)
     pair-fits f = let l = pair-row in omega arith
 
-    pub pair-held : (k : ℕ) → k < WIDTH → Held table (at + 1) k
+    pub pair-held : (k : ℕ) → k < width → Held table (at + 1) k
     pair-held k h = good-held table R (at + 1) true (sym (both-right K G (both-right (readable table R room at) (K && G) pair-all))) refl k h
 
 pub ruleset pairs = (pair-text, pair-kind, pair-value, read-fits, read-held, needs)

@@ -1,21 +1,17 @@
 -- WHAT THE INNER FUNCTIONS PROMISE EACH OTHER. No promise of a question rests on these. Assumes nothing.
 use mathlib.Core.Path.{_≡_}
 use mathlib.Core.Bool.{Bool, true, false}
-use mathlib.Core.List.{List, [], _∷_}
+use mathlib.Core.List.{List}
 use Prim.Native.Nat.{ℕ, _+_, _*_, _≤_, _<_}
 use lib.ListN.{length}
-use lib.Dec.{eqb, ltb}
-use Rattle.language.specs.Kind.{pick}
-use Rattle.questions.specs.declared.Compared.{Compared}
-use Rattle.questions.specs.declared.Compared.the-variants.{Less, Equal, Greater}
-use Rattle.questions.specs.Table.{WIDTH, kind}
-use Rattle.questions.specs.Integer.{MINUS, isInteger, integer}
-use Rattle.questions.specs.Order.{orderOf}
+use lib.Dec.{eqb}
+use Rattle.language.specs.Tree.{width}
+use Rattle.questions.specs.Table.{kind}
 
 -- a whole row's word, which is there to be read
 pub record Held (table : List ℕ) (r k : ℕ) : Type 0 where
-  pub whole : WIDTH * (r + 1) ≤ length table
-  pub one : k < WIDTH
+  pub whole : width * (r + 1) ≤ length table
+  pub one : k < width
 
 -- whether row r is of kind k
 abbrev pub isKind : List ℕ → ℕ → ℕ → Bool
@@ -25,27 +21,3 @@ isKind table r k = eqb (kind table r) k
 pub record Same (a b : List ℕ) (r : Bool) : Type 0 where
   pub alike : r ≡ true → a ≡ b
   pub apart : r ≡ false → a ≡ b → ⊥
-
--- whether a minus leads
-unfoldable pub negative : List ℕ → Bool
-negative [] = false
-negative (b ∷ s) = eqb b MINUS
-
--- texts byte by byte; one that ends first is less
-unfoldable pub byBytes : List ℕ → List ℕ → Compared
-byBytes [] [] = Equal
-byBytes [] (b ∷ s) = Less
-byBytes (a ∷ s) [] = Greater
-byBytes (a ∷ s) (b ∷ t) = pick (ltb a b) Less (pick (ltb b a) Greater (byBytes s t))
-
--- digits without leading zeros: by length, then byte by byte
-unfoldable pub bySize : List ℕ → List ℕ → Compared
-bySize a b = pick (ltb (length a) (length b)) Less (pick (ltb (length b) (length a)) Greater (byBytes a b))
-
--- two integers' texts, which the code compares once both are tested
-pub record Integers (left right : List ℕ) : Type 0 where
-  pub on-left : isInteger left ≡ true
-  pub on-right : isInteger right ≡ true
-
-abbrev pub Ordered : List ℕ → List ℕ → Compared → Type 0
-Ordered left right r = r ≡ orderOf (integer left) (integer right)

@@ -1,4 +1,4 @@
--- THE NUMBERS THAT A QUESTION ANSWERS (01, Numbers of refusal). Their place is 0. Assumes nothing.
+-- THE NUMBERS THAT A QUESTION OF A TABLE ANSWERS (01, Numbers of refusal). Their place is 0. Assumes nothing.
 use Prim.Native.Nat.{ℕ}
 
 -- "a question meets a bad row"
@@ -8,7 +8,3 @@ BADROW = 9
 -- "the key isn't in the object"
 abbrev pub NONE : ℕ
 NONE = 10
-
--- "a text compared isn't an integer's text"
-abbrev pub NOTINT : ℕ
-NOTINT = 11

@@ -5,14 +5,11 @@ use Prim.Native.Nat.{ℕ, _+_, _*_}
 use lib.ListN.{length, getD}
 use lib.Dec.{leb, ltb}
 use Rattle.language.specs.Kind.{hasText}
-
--- "Rows stand in document order, seven words each"
-abbrev pub WIDTH : ℕ
-WIDTH = 7
+use Rattle.language.specs.Tree.{width}
 
 -- word k of row r
 unfoldable pub word : List ℕ → ℕ → ℕ → ℕ
-word table r k = getD table (WIDTH * r + k) 0
+word table r k = getD table (width * r + k) 0
 
 -- "kind; first byte of the span; byte after it; text start; text end; parent row; row after the last descendant"
 abbrev pub kind : List ℕ → ℕ → ℕ
@@ -29,7 +26,7 @@ next table r = word table r 6
 
 -- "Row r is bad if r is not below R or seven times (r+1) exceeds the words" (Questions)
 unfoldable pub good : List ℕ → ℕ → ℕ → Bool
-good table R r = ltb r R && leb (WIDTH * (r + 1)) (length table)
+good table R r = ltb r R && leb (width * (r + 1)) (length table)
 
 -- "BADROW exactly if r is bad, the kind is another, or start ≤ end ≤ the room's length fails" (Questions)
 unfoldable pub readable : List ℕ → ℕ → List ℕ → ℕ → Bool

@@ -4,14 +4,10 @@ use mathlib.Core.Bool.{Bool, true, false}
 use mathlib.Core.List.{List}
 use Prim.Native.Nat.{ℕ, _+_, _≤_, _<_}
 use native.Mathlib.Omega.{arith}
-use lib.IntN.{ℤ, pos, negsuc}
 use Rattle.questions.specs.declared.Found.{Found}
 use Rattle.questions.specs.declared.Found.the-variants.{At, Missing, BadRow}
-use Rattle.questions.specs.declared.Compared.{Compared}
-use Rattle.questions.specs.declared.Compared.the-variants.{Less, Equal, Greater, NotInt}
 use Rattle.questions.specs.Text.{textNumber, textOf}
 use Rattle.questions.specs.Walk.{Reply, foundReply, Walk, ends, breaks, matches, strays, goes, Finds, refused, walked}
-use Rattle.questions.specs.Order.{Verdict, comparedVerdict, compared}
 
 clash : {X : Type 0} {b : Bool} → b ≡ true → b ≡ false → X
 clash p q = absurd (mathlib.Core.Bool.true≢false (sym p ∙ q))
@@ -79,35 +75,3 @@ reply-tells BadRow BadRow e = refl
 pub one-found : (table : List ℕ) (R : ℕ) (room key : List ℕ) (r : ℕ) (f g : Found)
     → Finds table R room key r (foundReply f) → Finds table R room key r (foundReply g) → f ≡ g
 one-found table R room key r f g p q = reply-tells f g (one-find p q)
-
--- ---- comparing
-
--- a verdict as one natural number
-mark : Verdict → ℕ
-mark v = v .number + rank (v .value)
-  where
-    rank : ℤ → ℕ
-    rank (pos n) = n
-    rank (negsuc n) = 2
-
-pub verdict-tells : (c d : Compared) → comparedVerdict c ≡ comparedVerdict d → c ≡ d
-unfolding mark
-verdict-tells Less Less e = refl
-verdict-tells Less Equal e = absurd (omega (arith, ap mark e))
-verdict-tells Less Greater e = absurd (omega (arith, ap mark e))
-verdict-tells Less NotInt e = absurd (omega (arith, ap mark e))
-verdict-tells Equal Less e = absurd (omega (arith, ap mark e))
-verdict-tells Equal Equal e = refl
-verdict-tells Equal Greater e = absurd (omega (arith, ap mark e))
-verdict-tells Equal NotInt e = absurd (omega (arith, ap mark e))
-verdict-tells Greater Less e = absurd (omega (arith, ap mark e))
-verdict-tells Greater Equal e = absurd (omega (arith, ap mark e))
-verdict-tells Greater Greater e = refl
-verdict-tells Greater NotInt e = absurd (omega (arith, ap mark e))
-verdict-tells NotInt Less e = absurd (omega (arith, ap mark e))
-verdict-tells NotInt Equal e = absurd (omega (arith, ap mark e))
-verdict-tells NotInt Greater e = absurd (omega (arith, ap mark e))
-verdict-tells NotInt NotInt e = refl
-
-pub one-compared : (left right : List ℕ) (c d : Compared) → comparedVerdict c ≡ compared left right → comparedVerdict d ≡ compared left right → c ≡ d
-one-compared left right c d p q = verdict-tells c d (p ∙ sym q)

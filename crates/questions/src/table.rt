@@ -1,12 +1,11 @@
 // Rows of any lent table: whether they are good, and their words.
 use language::Kind;
+use language::WIDTH;
 ghost use mathlib.Core.Path.{_≡_};
 ghost use Rattle.questions.specs.Table as T;
 ghost use Rattle.questions.specs.Contract.{Held, isKind};
 
-// The words of a row.
-pub const WIDTH: usize = 7;
-
+// The words of a row that are asked for.
 pub const KIND: usize = 0;
 
 pub const START: usize = 3;

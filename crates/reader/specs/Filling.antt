@@ -57,7 +57,7 @@ pub record Held (doc R T : List ℕ) (n m : ℕ) : Type 0 where
   pub text-count : m ≡ length (textOf tree)
   pub few : width * n ≤ length R
   pub fits : m ≤ length T
-  pub small : n + m < 90000
+  pub small : n + m ≤ 2 * limit
   pub table-is : Stands R 0 (rowsOf 0 0 0 tree)
   pub text-is : Stands T 0 (textOf tree)
 
@@ -70,7 +70,7 @@ module _ {doc R T : List ℕ} {n m : ℕ} (f : Held doc R T n m) where
   pub text-held : slice 0 m T ≡ textOf (f .tree)
   text-held = ap (take m) (f .text-is .is) ∙ take-at (textOf (f .tree)) (f .text-is .rest) m (omega (arith, f .text-count))
 
-  few-held : size (f .tree) ≤ 32768
+  few-held : size (f .tree) ≤ limit
   few-held = let h = few-rows deepest doc (f .tree) (f .word) in omega (arith, f .short)
 
 -- ---- what `answer` shows
@@ -118,24 +118,28 @@ answer-long doc table text l = long l
 pub answer-stop : (doc table text : List ℕ) (n p : ℕ) → length doc ≤ limit → Stops doc n p → Answered doc table text (refusal n p) table text
 answer-stop doc table text n p l x = stopped n p l x
 
-pub stopped-at : (doc : List ℕ) (a : Ans) (p : ℕ) → Checked deepest doc a → a ≡ No p → verdict 32 doc ≡ stop p
+pub stopped-at : (doc : List ℕ) (a : Ans) (p : ℕ) → Checked deepest doc a → a ≡ No p → verdict deepest doc ≡ stop p
 unfolding Checked
 stopped-at doc a p x e = rw e at x
 
--- the document is within the limit, and the rooms of our own are large enough for any such
+-- few bytes, and some
+abbrev pub few-bytes : ℕ
+few-bytes = 1024
+
+abbrev pub some-bytes : ℕ
+some-bytes = 8192
+
+-- the document is within the limit, and the rooms of our own are large enough for any of so many bytes
 pub record Enough (doc R T : List ℕ) : Type 0 where
   pub short : length doc ≤ limit
-  pub rows-fit : width * limit ≤ length R
-  pub text-fits : limit ≤ length T
+  pub rows-fit : width * length doc ≤ length R
+  pub text-fits : length doc ≤ length T
 
--- the rooms of our own are filled
-pub holds : (doc R R' T T' : List ℕ) (a : Ans) (c : Cursor) → Enough doc R T → Checked deepest doc a → a ≡ Ok c → Filled deepest doc R R' T T'
-    → length R' ≡ length R → length T' ≡ length T → Held doc R' T' (c .row) (c .text)
+-- the rooms of our own are filled, where there are rows enough
+holds-few : (doc R R' T T' : List ℕ) (a : Ans) (c : Cursor) → length doc ≤ limit → length doc ≤ length T → width * c .row ≤ length R'
+    → Checked deepest doc a → a ≡ Ok c → Filled deepest doc R R' T T' → length R' ≡ length R → length T' ≡ length T → Held doc R' T' (c .row) (c .text)
 unfolding Checked
-holds doc R R' T T' a c f x e w u v =
-    let l = f .short in
-    let i = f .rows-fit in
-    let j = f .text-fits in
+holds-few doc R R' T T' a c l j i x e w u v =
     let g : Known deepest doc c = rw e at x in
     let t = g .tree in
     let d = accepts deepest doc t (g .is) in
@@ -149,9 +153,44 @@ holds doc R R' T T' a c f x e w u v =
       word = d;
       row = g .row;
       text-count = g .text;
-      few = omega (arith, g .row);
+      few = i;
       fits = omega (arith, g .text);
       small = omega (arith, g .row, g .text);
-      table-is = subst (λ (s : List ℕ). Stands s 0 (rowsOf 0 0 0 t)) (sym (z .0)) (stands-sets R 0 (rowsOf 0 0 0 t) (omega arith));
+      table-is = subst (λ (s : List ℕ). Stands s 0 (rowsOf 0 0 0 t)) (sym (z .0)) (stands-sets R 0 (rowsOf 0 0 0 t) (omega (arith, g .row)));
       text-is = subst (λ (s : List ℕ). Stands s 0 (textOf t)) (sym (z .1)) (stands-sets T 0 (textOf t) (omega arith));
     }
+
+-- there are, where the rooms have a row for each byte
+pub holds : (doc R R' T T' : List ℕ) (a : Ans) (c : Cursor) → Enough doc R T → Checked deepest doc a → a ≡ Ok c → Filled deepest doc R R' T T'
+    → length R' ≡ length R → length T' ≡ length T → Held doc R' T' (c .row) (c .text)
+unfolding Checked
+holds doc R R' T T' a c f x e w u v =
+    let g : Known deepest doc c = rw e at x in
+    let h = few-rows deepest doc (g .tree) (accepts deepest doc (g .tree) (g .is)) in
+    let i = f .rows-fit in
+    holds-few doc R R' T T' a c (f .short) (f .text-fits) (omega (arith, g .row)) x e w u v
+
+-- the document is within the limit, and the text room of our own is large enough for any of so many bytes, the table for one row
+pub record Texted (doc R T : List ℕ) : Type 0 where
+  pub short : length doc ≤ limit
+  pub row-fits : width ≤ length R
+  pub text-fits : length doc ≤ length T
+
+-- n rows and m text bytes were read into rooms of our own, which hold them if there are rows enough
+pub record Tried (doc R T : List ℕ) (n m : ℕ) : Type 0 where
+  pub short : length doc ≤ limit
+  pub few : n ≤ limit
+  pub held : width * n ≤ length R → Held doc R T n m
+
+pub tries : (doc R R' T T' : List ℕ) (a : Ans) (c : Cursor) → Texted doc R T → Checked deepest doc a → a ≡ Ok c → Filled deepest doc R R' T T'
+    → length R' ≡ length R → length T' ≡ length T → Tried doc R' T' (c .row) (c .text)
+unfolding Checked
+tries doc R R' T T' a c f x e w u v =
+    let l = f .short in
+    let j = f .text-fits in
+    let g : Known deepest doc c = rw e at x in
+    let h = few-rows deepest doc (g .tree) (accepts deepest doc (g .tree) (g .is)) in
+    record { short = l; few = omega (arith, g .row); held = λ i. holds-few doc R R' T T' a c l j i x e w u v }
+
+pub tried-holds : (doc R T : List ℕ) (n m : ℕ) → Tried doc R T n m → width * n ≤ length R → Held doc R T n m
+tried-holds doc R T n m f i = f .held i

@@ -4,22 +4,24 @@ ghost use Prim.Native.Nat.{ℕ, _+_, _*_, _≤_, _<_};
 ghost use lib.ListN.{length};
 ghost use lib.Seq.{sets, slice};
 ghost use Rattle.language.specs.Answered.{Answered, limit, deepest};
-ghost use Rattle.reader.specs.Filling.{Held, Enough};
+ghost use Rattle.reader.specs.Filling.{few-bytes, some-bytes, Held, Enough, Texted, Tried};
 use judge::blame;
 use judge::pass;
 use language::Answer;
+use language::DEEPEST;
+use language::LIMIT;
 use language::Place;
+use language::WIDTH;
 use repeats::Repeat;
 use repeats::first_repeat;
 use rooms::Ans;
-use rooms::WIDTH;
 use rooms::copy;
 
-// The longest document that is read, in bytes.
-pub const LIMIT: usize = 32768;
+// Rooms of our own are cleared first, so documents of few and of some bytes have smaller ones. Those for more than few bytes have three rows for eight bytes: enough for
+// all but the densest documents, which are read once more.
+const FEW: usize = 1024;
 
-// How many containers may stand one inside another.
-pub const DEEPEST: usize = 32;
+const SOME: usize = 8192;
 
 // The first n words of a table, stored in another.
 fn copy_words(words: &[u32], n: usize, table: &mut [u32])
@@ -63,7 +65,7 @@ fn answer(
     Answer::Accepted(n, m)
 }
 
-// The answer for a document within the limit, by rooms of our own that are large enough for all of them.
+// The answer by rooms of our own that are large enough for any document of so many bytes.
 fn judged(
     doc: &[u8],
     rows: &mut [u32],
@@ -83,14 +85,96 @@ fn judged(
     }
 }
 
+// The answer by rooms of our own for one row a byte.
+fn densely(doc: &[u8], table: &mut [u32], text: &mut [u8]) -> Answer
+    requires { ⌜ length (now doc) ≤ limit ⌝ }
+    ensures { λ r. ⌜ Answered (now (doc .entry)) (now (table .entry)) (now (text .entry)) r (now (table .exit)) (now (text .exit)) ⌝ }
+{
+    let mut rows = [0u32; WIDTH * LIMIT];
+    let mut bytes = [0u8; LIMIT];
+    judged(&*doc, &mut rows, &mut bytes, table, text)
+}
+
+// The answer for a document whose rows and text stand in rooms of our own, if the rows have room there; if not, it is read once more.
+fn settled(
+    doc: &[u8],
+    rows: &[u32],
+    bytes: &[u8],
+    n: usize,
+    m: usize,
+    table: &mut [u32],
+    text: &mut [u8],
+) -> Answer
+    requires { ⌜ Tried (now doc) (now rows) (now bytes) n m ⌝ }
+    ensures { λ r. ⌜ Answered (now (doc .entry)) (now (table .entry)) (now (text .entry)) r (now (table .exit)) (now (text .exit)) ⌝ }
+{
+    if rows.len() < WIDTH * n {
+        return densely(&*doc, table, text);
+    }
+    answer(&*doc, &*rows, &*bytes, n, m, table, text)
+}
+
+// The answer by rooms of our own whose rows may be too few.
+fn sparsely(
+    doc: &[u8],
+    rows: &mut [u32],
+    bytes: &mut [u8],
+    table: &mut [u32],
+    text: &mut [u8],
+) -> Answer
+    requires { ⌜ Texted (now doc) (now rows) (now bytes) ⌝ }
+    ensures { λ r. ⌜ Answered (now (doc .entry)) (now (table .entry)) (now (text .entry)) r (now (table .exit)) (now (text .exit)) ⌝ }
+{
+    match pass(&*doc, rows, bytes, DEEPEST) {
+        Ans::No(p) => {
+            let number = blame(&*doc, rows, bytes, p);
+            Answer::Refused(number, Place(p))
+        }
+        Ans::Ok(c) => settled(&*doc, &*rows, &*bytes, c.row, c.text, table, text),
+    }
+}
+
+// The same for documents of three sizes.
+fn of_few_bytes(doc: &[u8], table: &mut [u32], text: &mut [u8]) -> Answer
+    requires { ⌜ length (now doc) ≤ few-bytes ⌝ }
+    ensures { λ r. ⌜ Answered (now (doc .entry)) (now (table .entry)) (now (text .entry)) r (now (table .exit)) (now (text .exit)) ⌝ }
+{
+    let mut rows = [0u32; WIDTH * FEW];
+    let mut bytes = [0u8; FEW];
+    judged(&*doc, &mut rows, &mut bytes, table, text)
+}
+
+fn of_some_bytes(doc: &[u8], table: &mut [u32], text: &mut [u8]) -> Answer
+    requires { ⌜ length (now doc) ≤ some-bytes ⌝ }
+    ensures { λ r. ⌜ Answered (now (doc .entry)) (now (table .entry)) (now (text .entry)) r (now (table .exit)) (now (text .exit)) ⌝ }
+{
+    let mut rows = [0u32; WIDTH * (3 * SOME / 8)];
+    let mut bytes = [0u8; SOME];
+    sparsely(&*doc, &mut rows, &mut bytes, table, text)
+}
+
+fn of_many_bytes(doc: &[u8], table: &mut [u32], text: &mut [u8]) -> Answer
+    requires { ⌜ length (now doc) ≤ limit ⌝ }
+    ensures { λ r. ⌜ Answered (now (doc .entry)) (now (table .entry)) (now (text .entry)) r (now (table .exit)) (now (text .exit)) ⌝ }
+{
+    let mut rows = [0u32; WIDTH * (3 * LIMIT / 8)];
+    let mut bytes = [0u8; LIMIT];
+    sparsely(&*doc, &mut rows, &mut bytes, table, text)
+}
+
 // Reads a document into the rooms lent; a refusal leaves them as they came.
 pub fn read(doc: &[u8], table: &mut [u32], text: &mut [u8]) -> Answer
     ensures { λ r. ⌜ Answered (now (doc .entry)) (now (table .entry)) (now (text .entry)) r (now (table .exit)) (now (text .exit)) ⌝ }
 {
-    if LIMIT < doc.len() {
+    let n = doc.len();
+    if LIMIT < n {
         return Answer::Refused(1, Place(0));
     }
-    let mut rows = [0u32; 229376];
-    let mut bytes = [0u8; 32768];
-    judged(&*doc, &mut rows, &mut bytes, table, text)
+    if n <= FEW {
+        return of_few_bytes(&*doc, table, text);
+    }
+    if n <= SOME {
+        return of_some_bytes(&*doc, table, text);
+    }
+    of_many_bytes(&*doc, table, text)
 }

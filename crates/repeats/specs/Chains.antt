@@ -10,6 +10,7 @@ use lib.ListN.{length, getD, set, length-set}
 use lib.Seq.{getD-set-same, getD-set-other}
 use Rattle.language.specs.Kind.{KEY}
 use Rattle.language.specs.Tree.{width}
+use Rattle.language.specs.Answered.{limit}
 use Rattle.repeats.specs.Keys.{Tells, tells-map, kindOf, Keyed, Same, markOf, mark-low, same-mark}
 
 -- row k is a key's, and before row n
@@ -133,7 +134,7 @@ module _ (rows text links : List ℕ) (head i : ℕ) (w : Walkable rows text lin
 -- n rows, whose keys have their texts in the room
 pub record Table (rows text : List ℕ) (n : ℕ) : Type 0 where
   pub long : width * n ≤ length rows
-  pub few : n ≤ 32768
+  pub few : n ≤ limit
   pub keyed : (k : ℕ) → KeyBefore rows n k → Keyed rows text k
 
 pub table-first : {rows text : List ℕ} (n i : ℕ) → Table rows text n → i < n → Table rows text (i + 1)

@@ -12,6 +12,7 @@ use borrow.Author.Tests.{eqb-true, eqb-false}
 use borrow.Author.Needs.{needs}
 use lib.Seq.{slice, slice-cons, slice-empty, length-slice}
 use Rattle.language.specs.Tree.{width}
+use Rattle.language.specs.Answered.{limit}
 
 -- an answer that tells whether A holds
 abbrev pub Tells : Type 0 → Bool → Type 0
@@ -58,7 +59,7 @@ pub record Keyed (rows text : List ℕ) (i : ℕ) : Type 0 where
   pub room : width * i + width ≤ length rows
   pub ordered : fromOf rows i ≤ toOf rows i
   pub fits : toOf rows i ≤ length text
-  pub few : i < 100000
+  pub few : i < limit
 
 pub record Same (rows text : List ℕ) (i k : ℕ) : Type 0 where
   pub objects : objectOf rows i ≡ objectOf rows k

@@ -75,7 +75,7 @@ module _ (rows text : List ℕ) where
           let y : Stands rows (width * r) (rowList k a e x (x + length s) p (r + 1)) = rw z at h in
           ap (λ (j : ℕ). getD rows j 0) (sym (add-zero (width * r))) ∙ stands-word rows (width * r) (rowList k a e x (x + length s) p (r + 1)) 0 (omega arith) y
 
-  pub key-word : (r p x k a e : ℕ) (s : List ℕ) → k ≡ KEY → Stands rows (width * r) (leafRow r p x k a e s) → (j : ℕ) → j < 7
+  pub key-word : (r p x k a e : ℕ) (s : List ℕ) → k ≡ KEY → Stands rows (width * r) (leafRow r p x k a e s) → (j : ℕ) → j < width
       → getD rows (width * r + j) 0 ≡ getD (rowList KEY a e x (x + length s) p (r + 1)) j 0
   key-word r p x k a e s q h j l =
       let y : Stands rows (width * r) (rowList KEY a e x (x + length s) p (r + 1)) = subst (λ (j : ℕ). Stands rows (width * r) (leafRow r p x j a e s)) q h in

@@ -9,6 +9,7 @@ use lib.ListN.{length, getD, take, drop, length-append, length-take}
 use lib.Seq.{sets, sets-eq, drop-at}
 use Rattle.language.specs.Kind.{KEY}
 use Rattle.language.specs.Tree.{Tree, leaf, node, Forest, none, more, width, size, sizes, textOf, textsOf, rowList, rowsOf, rowss, Repeats}
+use Rattle.language.specs.Answered.{limit}
 use Rattle.spans.specs.Formed.{Sound, sound-leaf, sound-node, Sounds, sound-none, sound-more}
 use Rattle.rooms.specs.Forest.{length-rows}
 use Rattle.repeats.specs.declared.Repeat.{Repeat}
@@ -79,7 +80,7 @@ module _ (rows text : List ℕ) where
     text-long : 0 + length (textOf t) ≤ length text
     text-long = omega (arith, ap length (k .is), length-append (textOf t) (k .rest))
 
-    pub tree-table : size t ≤ 32768 → Table rows text (size t)
+    pub tree-table : size t ≤ limit → Table rows text (size t)
     tree-table l =
         record {
           long = rows-long;

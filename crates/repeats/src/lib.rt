@@ -10,7 +10,8 @@ ghost use Rattle.repeats.specs.Chains.{Met, Walkable, Noting, Noted, Tab
 ghost use Rattle.repeats.specs.Later.{Names, Later, lesser, Turning, Turned, Starting};
 ghost use Rattle.repeats.specs.Twice.{FirstRepeat};
 use language::Kind;
-use rooms::WIDTH;
+use language::LIMIT;
+use language::WIDTH;
 
 // Where the first key stands that is the same as an earlier one of its object, if there is one.
 pub enum Repeat {
@@ -191,7 +192,7 @@ fn among_all(rows: &[u32], text: &[u8], n: usize) -> Repeat
     ensures { λ r. ⌜ Names (Later (now (rows .entry)) (now (text .entry)) n) r ⌝ }
 {
     let mut heads = [0u32; 4096];
-    let mut links = [0u32; 32768];
+    let mut links = [0u32; LIMIT];
     repeated(&*rows, &*text, &mut heads, &mut links, n)
 }
 

@@ -7,7 +7,7 @@ use lib.Seq.{sets}
 use Rattle.exact.specs.Out.{Out, ok, soft, bad}
 use Rattle.exact.specs.Lines.{reached}
 use Rattle.language.specs.Tree.{Tree, after, width, size, textOf, rowsOf}
-use Rattle.language.specs.Answered.{limit}
+use Rattle.language.specs.Answered.{limit, deepest}
 use Rattle.rooms.specs.declared.Cursor.{Cursor}
 use Rattle.rooms.specs.declared.Step.{Step}
 use Rattle.rooms.specs.declared.Step.the-variants.{Byte, Over}
@@ -17,6 +17,14 @@ use Rattle.rooms.specs.declared.Far.{Far}
 use Rattle.rooms.specs.declared.Far.the-variants.{Upto, Not}
 use Rattle.rooms.specs.declared.Block.{Block}
 use Rattle.rooms.specs.declared.Block.the-variants.{Done, Bad}
+
+-- what the numbers of one document are below: places, rows, counts, and a sum of a few of them
+abbrev pub ample : ℕ
+ample = 4 * limit
+
+-- the last column where anything of a document stands, also with one container more than may stand inside another
+abbrev pub columns : ℕ
+columns = 2 * (deepest + 1)
 
 -- a byte was there, and the next cursor stands behind it; or the document is at its end
 unfoldable pub Stepped : List ℕ → Cursor → Step → Type 0
@@ -73,8 +81,8 @@ Blocks doc c parent o (Bad p) rows rows' text text' = o ≡ bad p
 
 -- the numbers of a row fit
 pub record Small (first after from to next : ℕ) : Type 0 where
-  pub first-fits : first < 100000
-  pub after-fits : after < 100000
-  pub from-fits : from < 100000
-  pub to-fits : to < 100000
-  pub next-fits : next < 100000
+  pub first-fits : first < ample
+  pub after-fits : after < ample
+  pub from-fits : from < ample
+  pub to-fits : to < ample
+  pub next-fits : next < ample

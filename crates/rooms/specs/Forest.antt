@@ -10,7 +10,7 @@ use lib.Seq.{sets}
 use lib.Dec.{leb}
 use Rattle.notation.specs.Class.{pick}
 use Rattle.exact.specs.Out.{Out, ok, soft, bad, fmap}
-use Rattle.language.specs.Tree.{Tree, leaf, node, Forest, none, more, forest, count, size, sizes, textOf, textsOf, rowsOf, rowss, rowList}
+use Rattle.language.specs.Tree.{width, Tree, leaf, node, Forest, none, more, forest, count, size, sizes, textOf, textsOf, rowsOf, rowss, rowList}
 use Rattle.rooms.specs.Stores.{sets-append, row-behind}
 
 infixl 20 _then_
@@ -52,18 +52,18 @@ rowss-then r p x (u ∷ ts) t =
     (sym (append-assoc (rowsOf r p x u) (rowss (r + size u) p (x + length (textOf u)) f) (rowsOf (r + (size u + sizes f)) p (x + length (textOf u ++ textsOf f)) t)))
 
 -- seven words a row
-leaf-length : (y : Bool) (l m : List ℕ) → length l ≡ 7 → length m ≡ 7 → length (pick y l m) ≡ 7
+leaf-length : (y : Bool) (l m : List ℕ) → length l ≡ width → length m ≡ width → length (pick y l m) ≡ width
 leaf-length true l m h k = h
 leaf-length false l m h k = k
 
 mutual
   unfolding rowsOf size
 
-  pub length-rows : (r p x : ℕ) (t : Tree) → length (rowsOf r p x t) ≡ 7 * size t
+  pub length-rows : (r p x : ℕ) (t : Tree) → length (rowsOf r p x t) ≡ width * size t
   length-rows r p x (leaf k a e s) = leaf-length (leb k 3) (rowList k a e 0 0 p (r + 1)) (rowList k a e x (x + length s) p (r + 1)) refl refl
   length-rows r p x (node k a e c ts) = let h = length-rowss (r + 1) r x ts in omega arith
 
-  pub length-rowss : (r p x : ℕ) (ts : Forest) → length (rowss r p x ts) ≡ 7 * sizes ts
+  pub length-rowss : (r p x : ℕ) (ts : Forest) → length (rowss r p x ts) ≡ width * sizes ts
   length-rowss r p x none = refl
   length-rowss r p x (more t ts) =
       let a = length-rows r p x t in
@@ -74,13 +74,13 @@ mutual
 -- THE ROOMS, after one tree more below the row r
 module _ (r x : ℕ) (rows₀ text₀ : List ℕ) where
   pub table-then : (rows rows' : List ℕ) (done : List Tree) (t : Tree) (i j : ℕ) → i ≡ r + 1 + sizes (forest done) → j ≡ x + length (textsOf (forest done))
-      → rows ≡ sets rows₀ (7 * (r + 1)) (rowss (r + 1) r x (forest done)) → rows' ≡ sets rows (7 * i) (rowsOf i r j t)
-      → rows' ≡ sets rows₀ (7 * (r + 1)) (rowss (r + 1) r x (forest (done then t)))
+      → rows ≡ sets rows₀ (width * (r + 1)) (rowss (r + 1) r x (forest done)) → rows' ≡ sets rows (width * i) (rowsOf i r j t)
+      → rows' ≡ sets rows₀ (width * (r + 1)) (rowss (r + 1) r x (forest (done then t)))
   table-then rows rows' done t i j hi hj h k =
       let f = forest done in
-      let l : length (rowss (r + 1) r x f) ≡ 7 * sizes f = length-rowss (r + 1) r x f in
-      let m : 7 * (r + 1) + length (rowss (r + 1) r x f) ≡ 7 * i = omega arith in
-      let s = sets-append rows₀ (7 * (r + 1)) (rowss (r + 1) r x f) (rowsOf i r j t) in
+      let l : length (rowss (r + 1) r x f) ≡ width * sizes f = length-rowss (r + 1) r x f in
+      let m : width * (r + 1) + length (rowss (r + 1) r x f) ≡ width * i = omega arith in
+      let s = sets-append rows₀ (width * (r + 1)) (rowss (r + 1) r x f) (rowsOf i r j t) in
       let q : rowss (r + 1) r x (forest (done then t)) ≡ rowss (r + 1) r x f ++ rowsOf i r j t = rw (hi, hj) (rowss-then (r + 1) r x done t) in
       rw (k, h, q, s, m)
 
@@ -89,8 +89,8 @@ module _ (r x : ℕ) (rows₀ text₀ : List ℕ) where
   room-then text text' done t j hj h k = let s = sets-append text₀ x (textsOf (forest done)) (textOf t) in rw (k, h, hj, texts-then done t, s)
 
   -- the container's own row comes last
-  pub table-node : (rows rows' : List ℕ) (ts : Forest) (k a e c p n : ℕ) → n ≡ r + 1 + sizes ts → rows ≡ sets rows₀ (7 * (r + 1)) (rowss (r + 1) r x ts)
-      → rows' ≡ sets rows (7 * r) (rowList k a e 0 c p n) → rows' ≡ sets rows₀ (7 * r) (rowsOf r p x (node k a e c ts))
+  pub table-node : (rows rows' : List ℕ) (ts : Forest) (k a e c p n : ℕ) → n ≡ r + 1 + sizes ts → rows ≡ sets rows₀ (width * (r + 1)) (rowss (r + 1) r x ts)
+      → rows' ≡ sets rows (width * r) (rowList k a e 0 c p n) → rows' ≡ sets rows₀ (width * r) (rowsOf r p x (node k a e c ts))
   unfolding rowsOf
   table-node rows rows' ts k a e c p n hn h g =
-      rw (g, h, hn) (row-behind rows₀ (7 * r) (7 * (r + 1)) (rowList k a e 0 c p (r + 1 + sizes ts)) (rowss (r + 1) r x ts) (omega arith))
+      rw (g, h, hn) (row-behind rows₀ (width * r) (width * (r + 1)) (rowList k a e 0 c p (r + 1 + sizes ts)) (rowss (r + 1) r x ts) (omega arith))

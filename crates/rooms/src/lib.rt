@@ -7,8 +7,9 @@ ghost use lib.Seq.{sets, slice};
 ghost use Rattle.exact.specs.Place.{peek, common};
 ghost use Rattle.exact.specs.Block.{lead};
 ghost use Rattle.language.specs.Tree.{width, rowList};
-ghost use Rattle.rooms.specs.Contract.{Stepped, Small};
+ghost use Rattle.rooms.specs.Contract.{ample, Stepped, Small};
 use language::Kind;
+use language::WIDTH;
 
 // Where a reader stands: the byte, the row and the text byte that come next.
 pub struct Cursor {
@@ -41,8 +42,39 @@ pub enum Block {
     Bad(usize),
 }
 
-// How many words a row has.
-pub const WIDTH: usize = 7;
+// An answer made anew, field by field: one that a callee wrote and that is handed on whole is read back in wide words, which waits for its narrow stores.
+impl Ans {
+    pub fn anew(self) -> Ans
+        ensures { λ r. ⌜ r ≡ self ⌝ }
+    {
+        match self {
+            Ans::Ok(n) => Ans::Ok(n),
+            Ans::No(p) => Ans::No(p),
+        }
+    }
+}
+
+impl Far {
+    pub fn anew(self) -> Far
+        ensures { λ r. ⌜ r ≡ self ⌝ }
+    {
+        match self {
+            Far::Upto(n, far) => Far::Upto(n, far),
+            Far::Not(p) => Far::Not(p),
+        }
+    }
+}
+
+impl Block {
+    pub fn anew(self) -> Block
+        ensures { λ r. ⌜ r ≡ self ⌝ }
+    {
+        match self {
+            Block::Done(n, far, e) => Block::Done(n, far, e),
+            Block::Bad(p) => Block::Bad(p),
+        }
+    }
+}
 
 // The words of a row.
 pub struct Words {
@@ -149,7 +181,7 @@ pub fn put_byte(text: &mut [u8], i: usize, v: u8)
 
 // The document's bytes from a to e, stored from x on, where all of them have room.
 fn copy_whole(doc: &[u8], a: usize, e: usize, text: &mut [u8], x: usize)
-    requires { ⌜ (a ≤ e) × (e ≤ length (now doc)) × (x + e < 100000) × (x + e ≤ a + length (now text)) ⌝ }
+    requires { ⌜ (a ≤ e) × (e ≤ length (now doc)) × (x + e < ample) × (x + e ≤ a + length (now text)) ⌝ }
     ensures { λ _. ⌜ now (text .exit) ≡ sets (now (text .entry)) x (slice a e (now (doc .entry))) ⌝ }
 {
     let mut i = a;
@@ -161,7 +193,7 @@ fn copy_whole(doc: &[u8], a: usize, e: usize, text: &mut [u8], x: usize)
 
 // The same where some may have none.
 fn copy_part(doc: &[u8], a: usize, e: usize, text: &mut [u8], x: usize)
-    requires { ⌜ (a ≤ e) × (e ≤ length (now doc)) × (x + e < 100000) ⌝ }
+    requires { ⌜ (a ≤ e) × (e ≤ length (now doc)) × (x + e < ample) ⌝ }
     ensures { λ _. ⌜ now (text .exit) ≡ sets (now (text .entry)) x (slice a e (now (doc .entry))) ⌝ }
 {
     let mut i = a;
@@ -173,7 +205,7 @@ fn copy_part(doc: &[u8], a: usize, e: usize, text: &mut [u8], x: usize)
 
 // The document's bytes from a to e, stored from x on.
 pub fn copy(doc: &[u8], a: usize, e: usize, text: &mut [u8], x: usize)
-    requires { ⌜ (a ≤ e) × (e ≤ length (now doc)) × (x + e < 100000) ⌝ }
+    requires { ⌜ (a ≤ e) × (e ≤ length (now doc)) × (x + e < ample) ⌝ }
     ensures { λ _. ⌜ now (text .exit) ≡ sets (now (text .entry)) x (slice a e (now (doc .entry))) ⌝ }
 {
     if text.len() <= x {
@@ -188,7 +220,7 @@ pub fn copy(doc: &[u8], a: usize, e: usize, text: &mut [u8], x: usize)
 
 // The words of a row, where some may have no room.
 fn put_part(rows: &mut [u32], i: usize, w: Words)
-    requires { ⌜ i < 700000 ⌝ }
+    requires { ⌜ i < width * ample ⌝ }
     ensures { λ _. ⌜ now (rows .exit) ≡ sets (now (rows .entry)) i (rowList (w .kind) (w .first) (w .after) (w .from) (w .to) (w .parent) (w .next)) ⌝ }
 {
     put(rows, i, w.kind);
@@ -202,7 +234,7 @@ fn put_part(rows: &mut [u32], i: usize, w: Words)
 
 // The words of a row: one test, then plain stores.
 pub fn put_row(rows: &mut [u32], row: usize, w: Words)
-    requires { ⌜ row < 100000 ⌝ }
+    requires { ⌜ row < ample ⌝ }
     ensures { λ _. ⌜ now (rows .exit) ≡ sets (now (rows .entry)) (width * row) (rowList (w .kind) (w .first) (w .after) (w .from) (w .to) (w .parent) (w .next)) ⌝ }
 {
     let i = WIDTH * row;

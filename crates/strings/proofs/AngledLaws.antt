@@ -20,7 +20,7 @@ use Rattle.rooms.specs.declared.Ans.{Ans}
 use Rattle.rooms.specs.declared.Ans.the-variants.{Ok, No}
 use Rattle.rooms.specs.declared.Far.{Far}
 use Rattle.rooms.specs.declared.Far.the-variants.{Upto, Not}
-use Rattle.rooms.specs.Contract.{Ready, Answers}
+use Rattle.rooms.specs.Contract.{ample, Ready, Answers}
 use Rattle.strings.specs.Bytes.{insideR, angledR, inlineBytesR, pairsR}
 use Rattle.strings.specs.Settled.{spaceNext, settled, inside-settled}
 use Rattle.strings.specs.Contract.{DigitAt, Texts}
@@ -107,7 +107,7 @@ module _ (doc : List ℕ) (c : Cursor) (ready : Ready doc c) (b : ℕ) (look : b
           unfolding PairsAt
           paired = rw x at k
 
-          pub paired-small : m .at < 99999
+          pub paired-small : m .at + 1 < ample
           paired-small = let i = paired .texted .spelt .inside in omega (arith, ready .small)
 
           ended : angledR (c .at) (drop (c .at) doc)

@@ -7,9 +7,9 @@ use native.Mathlib.Numerals.{add-one}
 use native.Mathlib.Omega.{arith}
 use lib.ListN.{length, drop, getD}
 use lib.Seq.{slice, slice-cons, length-slice}
-use lib.Dec.{leb}
+use lib.Dec.{leb, eqb}
 use borrow.Author.Needs.{needs}
-use borrow.Author.Tests.{le-leb, lt-leb}
+use borrow.Author.Tests.{eqb-true, eqb-false, le-leb, lt-leb}
 use Rattle.exact.specs.Class.{or, is}
 use Rattle.exact.specs.Out.{ok}
 use Rattle.exact.specs.Place.{peek, byte-peek, alt-peek, runEnd, run-end, run-more}
@@ -24,20 +24,25 @@ use Rattle.strings.specs.Keys.{bareR, nameR, keyR}
 use Rattle.strings.specs.Inside.{RunTo, Copied, Close, Leafed}
 use Rattle.strings.specs.Contract.{Texts}
 use Rattle.strings.proofs.DigitLaws.{other}
-use Rattle.strings.proofs.PlainLaws.{class-in, Passing, passing-first, pass-over, pass-stop, pass-more, copied}
+use Rattle.strings.proofs.PlainLaws.{class-in, passing-first, pass-over, pass-stop, pass-more, copied}
 use Rattle.strings.proofs.LeafLaws.{text-close, spanned-bad, spanned-read}
 
 -- ---- a byte of a bare key
 
 module _ (b : ℕ) where
-  pub key-dash : b ≡ 45 → true ≡ is keybyte b
-  key-dash e = rw e refl
+  dash : b ≡ 45 → true ≡ is keybyte b
+  dash e = rw e refl
 
-  pub key-under : b ≡ 95 → true ≡ is keybyte b
-  key-under e = rw e refl
+  under : b ≡ 95 → true ≡ is keybyte b
+  under e = rw e refl
 
-  pub key-below : (b ≡ 45 → ⊥) → b < 48 → false ≡ is keybyte b
-  key-below n h = rw (lt-leb 97 b (omega arith), lt-leb 65 b (omega arith), lt-leb 48 b h, lt-leb 95 b (omega arith), other 45 b n) refl
+  pub key-below : b < 48 → eqb b 45 ≡ is keybyte b
+  key-below h = by (eqb b 45) refl
+    where
+      by : (x : Bool) → eqb b 45 ≡ x → x ≡ is keybyte b
+      by true e = dash (eqb-true b 45 e)
+      by false e =
+          rw (lt-leb 97 b (omega arith), lt-leb 65 b (omega arith), lt-leb 48 b h, lt-leb 95 b (omega arith), other 45 b (eqb-false b 45 e)) refl
 
   pub key-digit : 48 ≤ b → b ≤ 57 → true ≡ is keybyte b
   key-digit h k = rw (lt-leb 97 b (omega arith), lt-leb 65 b (omega arith), le-leb 48 b h, le-leb b 57 k) refl
@@ -48,9 +53,13 @@ module _ (b : ℕ) where
   pub key-upper : 65 ≤ b → b ≤ 90 → true ≡ is keybyte b
   key-upper h k = rw (lt-leb 97 b (omega arith), le-leb 65 b h, le-leb b 90 k) refl
 
-  pub key-behind : 90 < b → (b ≡ 95 → ⊥) → b < 97 → false ≡ is keybyte b
-  key-behind h n k =
-      rw (lt-leb 97 b k, le-leb 65 b (omega arith), lt-leb b 90 h, le-leb 48 b (omega arith), lt-leb b 57 (omega arith), other 95 b n, other 45 b (λ e. omega arith)) refl
+  pub key-behind : 90 < b → b < 97 → eqb b 95 ≡ is keybyte b
+  key-behind h k = by (eqb b 95) refl
+    where
+      by : (x : Bool) → eqb b 95 ≡ x → x ≡ is keybyte b
+      by true e = under (eqb-true b 95 e)
+      by false e =
+          rw (lt-leb 97 b k, le-leb 65 b (omega arith), lt-leb b 90 h, le-leb 48 b (omega arith), lt-leb b 57 (omega arith), other 95 b (eqb-false b 95 e), other 45 b (λ z. omega arith)) refl
 
   pub key-lower : 97 ≤ b → leb b 122 ≡ is keybyte b
   key-lower h =
@@ -60,18 +69,14 @@ module _ (b : ℕ) where
       both true = refl
       both false = refl
 
-pub ruleset keybytes = (key-dash, key-under, key-below, key-digit, key-between, key-upper, key-behind, key-lower, needs)
+pub ruleset keybytes = (key-lower, key-below, key-digit, key-between, key-upper, key-behind, needs)
 
 -- ---- a run of them
 
-module _ (doc : List ℕ) (at e : ℕ) (p : Passing keybyte doc at e) (l : e < length doc) (x : Bool) (k : x ≡ is keybyte (getD doc e 0)) where
-  pub keys-stop : x ≡ false → RunTo keybyte doc at e
-  keys-stop n = pass-stop keybyte doc at e p refl l (sym k ∙ n)
+pub key-ends : is keybyte 256 ≡ false
+key-ends = refl
 
-  pub keys-more : x ≡ true → Passing keybyte doc at (e + 1)
-  keys-more n = pass-more keybyte doc at e p l (sym k ∙ n)
-
-pub ruleset keyruns = (passing-first, pass-over, keys-stop, keys-more, copied, needs)
+pub ruleset keyruns = (passing-first, pass-over, pass-stop, pass-more, key-ends, copied, needs)
 
 -- ---- a bare key
 
@@ -84,7 +89,7 @@ module _ (doc : List ℕ) (c : Cursor) (ready : Ready doc c) (b : ℕ) (look : b
   unfolding nameR
   unnamed t = alt-peek doc (c .at) keybyte refl bareR quotedR ∙ rw (← look, ← k, t) refl
 
-  module _ (n : Cursor) (T T' : List ℕ) (cop : Copied keybyte doc c n T T') (t : x ≡ true) where
+  module _ (n : Cursor) (T T' : List ℕ) (cop : Copied (RunTo keybyte) doc c n T T') (t : x ≡ true) where
     bare-key : (c .at < n .at) × (bareR (c .at) (drop (c .at) doc) ≡ ok (slice (c .at) (n .at) doc) (n .at) (drop (n .at) doc))
     unfolding bareR
     bare-key =

@@ -1,7 +1,7 @@
 -- The loop over hex pairs, and `<..>` around them: laws for each turn and each return.
 use mathlib.Core.Path.{_≡_, refl, sym, ap, _∙_}
 use mathlib.Core.List.{List, [], _∷_, _++_}
-use Prim.Native.Nat.{ℕ, zero, suc, _-_, _<_}
+use Prim.Native.Nat.{ℕ, zero, suc, _+_, _-_, _<_}
 use native.Mathlib.Omega.{arith}
 use lib.ListN.{length, drop, length-append}
 use borrow.Author.Needs.{needs}
@@ -14,7 +14,7 @@ use Rattle.rooms.specs.declared.Cursor.{Cursor}
 use Rattle.rooms.specs.declared.Ans.{Ans}
 use Rattle.rooms.specs.declared.Ans.the-variants.{Ok, No}
 use Rattle.rooms.specs.declared.Far.the-variants.{Upto, Not}
-use Rattle.rooms.specs.Contract.{Ready}
+use Rattle.rooms.specs.Contract.{ample, Ready}
 use Rattle.strings.specs.declared.hex.Next.{Next}
 use Rattle.strings.specs.declared.hex.Next.the-variants.{Begins, Stops}
 use Rattle.strings.specs.Bytes.{pairR, furtherR, further-ll, pairsR, pairsOn}
@@ -76,7 +76,7 @@ module _ (doc : List ℕ) (s n : Cursor) (T₀ T : List ℕ) (w : Within pairsR 
     pairs-by : pairsR (n .at) (drop (n .at) doc) ≡ fmap (got .0 ∷_) (manyP (m .at) (drop (m .at) doc))
     pairs-by = pairs-as (n .at) (drop (n .at) doc) ∙ ap (λ o. bind o (λ v a t. fmap (v ∷_) (manyP a t))) (got .2)
 
-    pub pair-small : m .at < 99999
+    pub pair-small : m .at + 1 < ample
     pair-small = let i = text .spelt .inside in omega (arith, w .ready .small)
 
     module _ (f : Next) (k : Furthers doc (m .at) f) where

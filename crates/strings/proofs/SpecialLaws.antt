@@ -11,7 +11,8 @@ use borrow.Author.Tests.{le-leb, lt-leb}
 use Rattle.exact.specs.Class.{is}
 use Rattle.exact.specs.Place.{peek, alt-is, alt-not}
 use Rattle.language.specs.Characters.{utf8}
-use Rattle.characters.specs.Char.{charR}
+use Rattle.language.specs.Answered.{limit}
+use Rattle.utf8.specs.Char.{charR}
 use Rattle.characters.specs.Reads.{Stands, ReadAt}
 use Rattle.characters.specs.declared.Reading.{Reading}
 use Rattle.characters.specs.declared.Read.{Read}
@@ -19,7 +20,7 @@ use Rattle.characters.specs.declared.Read.the-variants.{Scalar, Not}
 use Rattle.rooms.specs.declared.Cursor.{Cursor}
 use Rattle.rooms.specs.declared.Ans.{Ans}
 use Rattle.rooms.specs.declared.Ans.the-variants.{Ok, No}
-use Rattle.rooms.specs.Contract.{Ready}
+use Rattle.rooms.specs.Contract.{ample, Ready}
 use Rattle.strings.specs.Quoted.{escapeR, singleEscapeR}
 use Rattle.strings.specs.Inside.{Quote, double, single, plainOf, escapesR, specialR, Special}
 use Rattle.strings.specs.Contract.{Texts}
@@ -38,7 +39,7 @@ module _ (doc : List ℕ) (at : ℕ) (r : Read) (v : ℕ) (n : Reading) (is-scal
   pub scalar-inside : n .at ≤ length doc
   scalar-inside = stands .inside
 
-  pub scalar-small : (x : ℕ) → length doc ≤ 32768 → x ≤ at → x + n .at < 100000
+  pub scalar-small : (x : ℕ) → length doc ≤ limit → x ≤ at → x + n .at < ample
   scalar-small x l m = let h = stands .ahead in let k = stands .inside in omega arith
 
 module _ (q : ℕ) (doc : List ℕ) (c : Cursor) (ready : Ready doc c) (spot : Special q doc (c .at)) (other : peek doc (c .at) ≡ 92 → ⊥) where

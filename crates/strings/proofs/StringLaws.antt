@@ -1,44 +1,27 @@
 -- The loop over the pieces of a string: laws for each turn and each return.
 use mathlib.Core.Path.{_≡_, refl, sym, ap, _∙_}
 use mathlib.Core.List.{List, [], _++_, append-nil}
-use mathlib.Core.Bool.{true, false}
 use Prim.Native.Nat.{ℕ, _+_, _-_, _≤_, _<_}
 use native.Mathlib.Nat.{add-zero}
 use native.Mathlib.Omega.{arith}
 use lib.ListN.{length, drop, length-append}
 use lib.Seq.{sets, slice, length-slice}
 use borrow.Author.Needs.{needs}
-use Rattle.exact.specs.Class.{is, only, sub, apart}
-use Rattle.exact.specs.Out.{ok, bind, fmap, Reader, Tame}
+use Rattle.exact.specs.Out.{ok, bind, fmap, Reader}
 use Rattle.exact.specs.Place.{peek, peek-in}
-use Rattle.language.specs.Characters.{ascii}
 use Rattle.rooms.specs.declared.Cursor.{Cursor}
 use Rattle.rooms.specs.declared.Ans.{Ans}
 use Rattle.rooms.specs.declared.Ans.the-variants.{Ok, No}
 use Rattle.rooms.specs.Contract.{Ready}
-use Rattle.strings.specs.Quoted.{pieceS, escape-ll, singleEscape-ll}
-use Rattle.strings.specs.Rest.{fmap-none, fmap-join, rest-run, rest-at, rest-close, between-rest}
-use Rattle.strings.specs.Inside.{Quote, double, single, plainOf, escapesR, textR, leftR, specialR, Copied, Special, Within}
+use Rattle.strings.specs.Rest.{fmap-none, fmap-join, rest-at, rest-close, between-rest}
+use Rattle.strings.specs.Inside.{Quote, plainOf, escapesR, textR, leftR, specialR, CleanTo, Copied, Special, Within}
 use Rattle.strings.specs.Contract.{Texts}
-use Rattle.strings.proofs.PlainLaws.{run-behind}
+use Rattle.strings.proofs.CleanLaws.{sides}
 use Rattle.strings.proofs.TextLaws.{room-join, text-refused, text-taken, text-refusal}
 
 -- behind the quote
 abbrev behind : Cursor → Cursor
 behind c = record { at = c .at + 1; row = c .row; text = c .text }
-
--- what holds of both quotes
-record Sides (q : ℕ) : Type 0 where
-  low : sub (plainOf q) ascii ≡ true
-  dark : apart (plainOf q) (only 92) ≡ true
-  shut : apart (only q) (pieceS (plainOf q) .first) ≡ true
-  small : q < 256
-  ending : is (plainOf q) 256 ≡ false
-  tame : Tame 1 (escapesR q)
-
-sides : {q : ℕ} → Quote q → Sides q
-sides double = record { low = refl; dark = refl; shut = refl; small = omega arith; ending = refl; tame = escape-ll .exact .moves }
-sides single = record { low = refl; dark = refl; shut = refl; small = omega arith; ending = refl; tame = singleEscape-ll .exact .moves }
 
 -- nothing is read yet, and a text more, of v
 pub within-none : (r : Reader (List ℕ)) (doc : List ℕ) (s : Cursor) (T : List ℕ) → Ready doc s → Within r doc s s T T
@@ -69,20 +52,17 @@ module _ (q : ℕ) (doc : List ℕ) (quote : Quote q) where
       (record { small = ready .small; inside = omega arith; fewRows = omega (arith, ready .fewRows); fewText = omega (arith, ready .fewText) })
 
   module _ (s n : Cursor) (T₀ T : List ℕ) (w : Within (leftR q) doc s n T₀ T) where
-    -- plain bytes
-    module _ (e : Cursor) (T₁ : List ℕ) (k : Copied (plainOf q) doc n e T T₁) where
-      within-plain : Within (leftR q) doc s e T₀ T₁
-      within-plain =
+    -- the bytes that stand for themselves
+    module _ (e : Cursor) (T₁ : List ℕ) (k : Copied (CleanTo q) doc n e T T₁) where
+      within-clean : Within (leftR q) doc s e T₀ T₁
+      within-clean =
           let l : length (slice (n .at) (e .at) doc) ≡ e .at - n .at = length-slice (n .at) (e .at) doc (k .run .inside) in
-          extend (leftR q) doc s n T₀ T w e (slice (n .at) (e .at) doc) T₁ run-on (k .run .inside) (k .row) (omega (arith, k .end)) (omega (arith, k .run .from)) (k .room)
-        where
-          run-on : leftR q (n .at) (drop (n .at) doc) ≡ fmap (slice (n .at) (e .at) doc ++_) (leftR q (e .at) (drop (e .at) doc))
-          run-on = rw (k .run .is) (rest-run q (escapesR q) (plainOf q) (sides quote .tame) (sides quote .low) (sides quote .dark) doc (n .at))
+          extend (leftR q) doc s n T₀ T w e (slice (n .at) (e .at) doc) T₁ (k .run .reads) (k .run .inside) (k .row) (omega (arith, k .end)) (omega (arith, k .run .from)) (k .room)
 
       pub ready-behind : Ready doc e
-      ready-behind = within-plain .ready
+      ready-behind = within-clean .ready
 
-module _ (q : ℕ) (doc : List ℕ) (quote : Quote q) (s n e : Cursor) (T₀ T T₁ : List ℕ) (w : Within (leftR q) doc s n T₀ T) (k : Copied (plainOf q) doc n e T T₁) (b : ℕ)
+module _ (q : ℕ) (doc : List ℕ) (quote : Quote q) (s n e : Cursor) (T₀ T T₁ : List ℕ) (w : Within (leftR q) doc s n T₀ T) (k : Copied (CleanTo q) doc n e T T₁) (b : ℕ)
     (look : b ≡ peek doc (e .at)) where
   -- a piece, and the next turn
   module _ (m : b ≡ q → ⊥) (a : Ans) (T₂ : List ℕ) (h : Texts doc e (specialR q (e .at) (drop (e .at) doc)) a T₁ T₂) where
@@ -92,24 +72,24 @@ module _ (q : ℕ) (doc : List ℕ) (quote : Quote q) (s n e : Cursor) (T₀ T T
     pub within-turn : (i : Cursor) → a ≡ Ok i → Within (leftR q) doc s i T₀ T₂
     within-turn i x =
         let t = text-taken doc e _ T₁ T₂ a i x h in
-        extend (leftR q) doc s e T₀ T₁ (within-plain q doc quote s n T₀ T w e T₁ k) i (t .value) T₂ (piece-at ∙ ap (λ o. bind o (λ v a t. fmap (v ++_) (leftR q a t))) (t .is)) (t .spelt .inside) (t .spelt .row) (t .spelt .end)
+        extend (leftR q) doc s e T₀ T₁ (within-clean q doc quote s n T₀ T w e T₁ k) i (t .value) T₂ (piece-at ∙ ap (λ o. bind o (λ v a t. fmap (v ++_) (leftR q a t))) (t .is)) (t .spelt .inside) (t .spelt .row) (t .spelt .end)
         (t .spelt .few) (t .spelt .room)
 
     pub turn-less : (i : Cursor) → a ≡ Ok i → length doc - i .at < length doc - n .at
     turn-less i x = let t = text-taken doc e _ T₁ T₂ a i x h in omega (arith, t .spelt .ahead, t .spelt .inside, k .run .from)
 
--- behind the plain bytes no plain byte stands
-pub special-at : (q : ℕ) (doc : List ℕ) (n e : Cursor) (T T₁ : List ℕ) (b : ℕ) → Quote q → Copied (plainOf q) doc n e T T₁ → b ≡ peek doc (e .at) → (b ≡ q → ⊥) → Special q doc (e .at)
-special-at q doc n e T T₁ b quote k look m = record { dark = run-behind (plainOf q) doc (n .at) (e .at) (sides quote .ending) (k .run); other = λ h. m (look ∙ h) }
+-- behind them no plain byte stands
+pub special-at : (q : ℕ) (doc : List ℕ) (n e : Cursor) (T T₁ : List ℕ) (b : ℕ) → Copied (CleanTo q) doc n e T T₁ → b ≡ peek doc (e .at) → (b ≡ q → ⊥) → Special q doc (e .at)
+special-at q doc n e T T₁ b k look m = record { dark = k .run .dark; other = λ h. m (look ∙ h) }
 
 -- the whole string
-module _ (q : ℕ) (doc : List ℕ) (quote : Quote q) (c n e : Cursor) (T₀ T T₁ : List ℕ) (w : Within (leftR q) doc (behind c) n T₀ T) (k : Copied (plainOf q) doc n e T T₁) (b : ℕ)
+module _ (q : ℕ) (doc : List ℕ) (quote : Quote q) (c n e : Cursor) (T₀ T T₁ : List ℕ) (w : Within (leftR q) doc (behind c) n T₀ T) (k : Copied (CleanTo q) doc n e T T₁) (b : ℕ)
     (look : b ≡ peek doc (e .at)) (first : q ≡ peek doc (c .at)) where
   abbrev String : Ans → List ℕ → Type 0
   String a T' = Texts doc c (textR q (c .at) (drop (c .at) doc)) a T₀ T'
 
   here : Within (leftR q) doc (behind c) e T₀ T₁
-  here = within-plain q doc quote (behind c) n T₀ T w e T₁ k
+  here = within-clean q doc quote (behind c) n T₀ T w e T₁ k
 
   so-far : textR q (c .at) (drop (c .at) doc) ≡ fmap (here .done ++_) (leftR q (e .at) (drop (e .at) doc))
   so-far = between-rest q (escapesR q) (plainOf q) (sides quote .tame) (sides quote .small) doc (c .at) first ∙ here .is

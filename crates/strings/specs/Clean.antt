@@ -9,7 +9,7 @@ use Rattle.language.specs.Tree.{leaf}
 use Rattle.language.specs.Characters.{utf8, ascii}
 use Rattle.language.specs.Strings.{hexdigit, hexval, hexNumber, Code, lettered, standsFor, Escape, SingleEscape, Between, Quoted, Spanned, String, keybyte, Key, lowhex, Pair, Pairs, InlineBytes}
 use Rattle.exact.specs.Class.{Class, only, sub, _to_}
-use Rattle.characters.specs.Clean.{Clean, ret-clean, here-clean, byte-clean, char-clean, seq-clean, alt-clean, star-clean, plus-clean, such-clean, word-clean}
+use Rattle.utf8.specs.Clean.{Clean, ret-clean, here-clean, byte-clean, char-clean, seq-clean, alt-clean, star-clean, plus-clean, such-clean, word-clean}
 use Rattle.strings.specs.Quoted.{unquoted, unsingle}
 
 spanned-clean : (kind : ℕ) {A : Lang (List ℕ)} → Clean A → Clean (Spanned kind A)

@@ -11,7 +11,7 @@ use Rattle.exact.specs.Out.{Reader, fmap}
 use Rattle.exact.specs.Place.{peek, runEnd}
 use Rattle.language.specs.Tree.{width, rowList}
 use Rattle.rooms.specs.declared.Cursor.{Cursor}
-use Rattle.rooms.specs.Contract.{Ready}
+use Rattle.rooms.specs.Contract.{ample, Ready}
 use Rattle.strings.specs.Quoted.{escapeR, singleEscapeR, pieceR, betweenR}
 use Rattle.strings.specs.Rest.{restR}
 
@@ -42,9 +42,33 @@ pub record RunTo (c : Class) (doc : List ℕ) (at e : ℕ) : Type 0 where
   pub from : at ≤ e
   pub inside : e ≤ length doc
 
--- they are copied, and n stands behind them
-pub record Copied (k : Class) (doc : List ℕ) (c n : Cursor) (text text' : List ℕ) : Type 0 where
-  pub run : RunTo k doc (c .at) (n .at)
+-- they go on up to e at least
+pub record Passing (c : Class) (doc : List ℕ) (at e : ℕ) : Type 0 where
+  pub same : runEnd c doc at ≡ runEnd c doc e
+  pub from : at ≤ e
+  pub inside : e ≤ length doc
+
+-- .. and end there, if those are fewer than 8
+pub record Near (c : Class) (doc : List ℕ) (at e : ℕ) : Type 0 where
+  pub passing : Passing c doc at e
+  pub ending : e - at < 8 → RunTo c doc at e
+
+-- what is left of a string from `at` on is the bytes up to e, and what is left from e on
+pub record CleanUpto (q : ℕ) (doc : List ℕ) (at e : ℕ) : Type 0 where
+  pub reads : leftR q at (drop at doc) ≡ fmap (slice at e doc ++_) (leftR q e (drop e doc))
+  pub from : at ≤ e
+  pub inside : e ≤ length doc
+
+-- .. where no plain byte stands
+pub record CleanTo (q : ℕ) (doc : List ℕ) (at e : ℕ) : Type 0 where
+  pub reads : leftR q at (drop at doc) ≡ fmap (slice at e doc ++_) (leftR q e (drop e doc))
+  pub from : at ≤ e
+  pub inside : e ≤ length doc
+  pub dark : is (plainOf q) (peek doc e) ≡ false
+
+-- the bytes of a run are copied, and n stands behind them
+pub record Copied (Run : List ℕ → ℕ → ℕ → Type 0) (doc : List ℕ) (c n : Cursor) (text text' : List ℕ) : Type 0 where
+  pub run : Run doc (c .at) (n .at)
   pub row : n .row ≡ c .row
   pub end : n .text ≡ c .text + (n .at - c .at)
   pub room : text' ≡ sets text (c .text) (slice (c .at) (n .at) doc)
@@ -66,11 +90,11 @@ pub record Within (r : Reader (List ℕ)) (doc : List ℕ) (s n : Cursor) (text 
 
 -- two cursors within the limits of a row
 pub record Close (c n : Cursor) : Type 0 where
-  pub from : c .at < 99999
-  pub to-at : n .at < 99999
-  pub row : c .row < 99999
-  pub text : c .text < 99999
-  pub to-text : n .text < 99999
+  pub from : c .at + 1 < ample
+  pub to-at : n .at + 1 < ample
+  pub row : c .row + 1 < ample
+  pub text : c .text + 1 < ample
+  pub to-text : n .text + 1 < ample
 
 -- the row of a text that was read from c up to n, and the cursor behind it
 pub record Leafed (c n : Cursor) (parent kind : ℕ) (r : Cursor) (rows rows' : List ℕ) : Type 0 where

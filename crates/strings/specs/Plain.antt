@@ -9,8 +9,8 @@ use Rattle.exact.specs.Class.{clash, or, Class, is, within, _to_, sub, inside, 
 use Rattle.exact.specs.Out.{ok, bad}
 use Rattle.exact.specs.Run.{runL}
 use Rattle.language.specs.Characters.{ascii}
-use Rattle.characters.specs.Utf8.{table, live, full, Classes, found, next, start, done, charR, charS}
-use Rattle.characters.specs.States.{low-byte}
+use Rattle.utf8.specs.Utf8.{table, live, full, Classes, found, next, start, done, charR, charS}
+use Rattle.utf8.specs.States.{low-byte}
 
 ascii-low : (b : ℕ) → is ascii b ≡ true → b ≤ 127
 ascii-low b e = by (or-of (within (10 to 10) b) (or (within (32 to 126) b) false) e)

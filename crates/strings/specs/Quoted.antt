@@ -14,7 +14,7 @@ use Rattle.exact.specs.Out.{Reader}
 use Rattle.exact.specs.Lang.{Lang, retR, byteR}
 use Rattle.exact.specs.Comb.{seqR, altR, manyR}
 use Rattle.exact.specs.Ll.{Shape, Ll, ret-ll, byte-ll, seq-ll, alt-ll, star-ll, relax, wordR, word-ll, byte₁}
-use Rattle.characters.specs.Char.{charR, charS, char-ll}
+use Rattle.utf8.specs.Char.{charR, charS, char-ll}
 use Rattle.strings.specs.Code.{codeR, code-ll}
 use Rattle.strings.specs.Spans.{solid, spannedR, spanned-ll}
 

@@ -15,7 +15,7 @@ use Rattle.exact.specs.Lang.{retR, byteR}
 use Rattle.exact.specs.Comb.{seqR, manyR, alt-tame}
 use Rattle.exact.specs.Place.{peek, There, byte-there, none-there, there, run, runEnd, many-run, run-end, peek-cons, raise-fmap}
 use Rattle.language.specs.Characters.{ascii}
-use Rattle.characters.specs.Char.{charS, char-ll}
+use Rattle.utf8.specs.Char.{charS, char-ll}
 use Rattle.strings.specs.Quoted.{pieceR, pieceS, betweenR}
 use Rattle.strings.specs.Turns.{many-turn}
 use Rattle.strings.specs.Plain.{char-first, char-plain, char-none}

@@ -1,10 +1,10 @@
 // The escapes of quoted strings: what may stand behind a backslash, and the bytes that it stands for.
 ghost use mathlib.Core.Path.{_≡_};
-ghost use Prim.Native.Nat.{ℕ, _+_, _≤_, _<_};
-ghost use lib.ListN.{length, drop};
+ghost use Prim.Native.Nat.{ℕ, _+_, _%_, _≤_, _<_};
+ghost use lib.ListN.{length, drop, set};
 ghost use Rattle.exact.specs.Place.{peek};
 ghost use Rattle.language.specs.Strings.{hexdigit, scalar};
-ghost use Rattle.rooms.specs.Contract.{Ready};
+ghost use Rattle.rooms.specs.Contract.{ample, Ready};
 ghost use Rattle.strings.specs.Contract.{digitOf, DigitAt, lettering, Letter, Digits, Halts, CodeAt, Stored, Texts};
 ghost use Rattle.strings.specs.Quoted.{escapeR, singleEscapeR};
 use rooms::Ans;
@@ -84,7 +84,7 @@ fn ended(doc: &[u8], at: usize, v: u32, e: usize) -> Coded
 
 // Five digits that end at e make v. A sixth is read only where a scalar value results.
 fn sixth(doc: &[u8], at: usize, v: u32, e: usize) -> Coded
-    requires { ⌜ length (now doc) < 100000 ⌝ }
+    requires { ⌜ length (now doc) < ample ⌝ }
     requires { ⌜ Digits (now doc) at e v × (e ≡ at + 5) ⌝ }
     ensures { λ r. ⌜ CodeAt (now (doc .entry)) at r ⌝ }
 {
@@ -101,7 +101,7 @@ fn sixth(doc: &[u8], at: usize, v: u32, e: usize) -> Coded
 
 // The digits of `\u{..}` that stand at `at`.
 fn code(doc: &[u8], at: usize) -> Coded
-    requires { ⌜ (length (now doc) < 100000) × (at ≤ length (now doc)) ⌝ }
+    requires { ⌜ (length (now doc) < ample) × (at ≤ length (now doc)) ⌝ }
     ensures { λ r. ⌜ CodeAt (now (doc .entry)) at r ⌝ }
 {
     let mut v: u32 = 0;
@@ -117,21 +117,28 @@ fn code(doc: &[u8], at: usize) -> Coded
     sixth(&*doc, at, v, e)
 }
 
+// A tail byte in UTF-8, of the last six bits of v.
+fn put_tail(text: &mut [u8], x: usize, v: u32)
+    ensures { λ _. ⌜ now (text .exit) ≡ set (now (text .entry)) x (128 + v % 64) ⌝ }
+{
+    put_byte(text, x, (128 + v % 64) as u8);
+}
+
 // The four bytes of a scalar value past 65535 in UTF-8.
 fn put_four(text: &mut [u8], x: usize, v: u32) -> usize
-    requires { ⌜ (x < 100000) × (65535 < v) × (v < 0x110000) ⌝ }
+    requires { ⌜ (x < ample) × (65535 < v) × (v < 0x110000) ⌝ }
     ensures { λ r. ⌜ Stored (now (text .entry)) (now (text .exit)) x v r ⌝ }
 {
     put_byte(text, x, (240 + v / 262144) as u8);
-    put_byte(text, x + 1, (128 + v / 4096 % 64) as u8);
-    put_byte(text, x + 2, (128 + v / 64 % 64) as u8);
-    put_byte(text, x + 3, (128 + v % 64) as u8);
+    put_tail(text, x + 1, v / 4096);
+    put_tail(text, x + 2, v / 64);
+    put_tail(text, x + 3, v);
     x + 4
 }
 
 // The bytes of a scalar value in UTF-8, stored from x on; the place behind them.
 fn put_scalar(text: &mut [u8], x: usize, v: u32) -> usize
-    requires { ⌜ (x < 100000) × (v < 0x110000) ⌝ }
+    requires { ⌜ (x < ample) × (v < 0x110000) ⌝ }
     ensures { λ r. ⌜ Stored (now (text .entry)) (now (text .exit)) x v r ⌝ }
 {
     if v <= 127 {
@@ -140,13 +147,13 @@ fn put_scalar(text: &mut [u8], x: usize, v: u32) -> usize
     }
     if v <= 2047 {
         put_byte(text, x, (192 + v / 64) as u8);
-        put_byte(text, x + 1, (128 + v % 64) as u8);
+        put_tail(text, x + 1, v);
         return x + 2;
     }
     if v <= 65535 {
         put_byte(text, x, (224 + v / 4096) as u8);
-        put_byte(text, x + 1, (128 + v / 64 % 64) as u8);
-        put_byte(text, x + 2, (128 + v % 64) as u8);
+        put_tail(text, x + 1, v / 64);
+        put_tail(text, x + 2, v);
         return x + 3;
     }
     put_four(text, x, v)

@@ -1,9 +1,9 @@
 // Hex pairs: those of inline bytes, and those of a hex line, behind which a line comment may begin.
 ghost use mathlib.Core.Path.{_≡_};
-ghost use Prim.Native.Nat.{ℕ, _≤_, _<_};
+ghost use Prim.Native.Nat.{ℕ, _+_, _≤_, _<_};
 ghost use lib.ListN.{length, drop};
 ghost use Rattle.language.specs.Strings.{lowhex};
-ghost use Rattle.rooms.specs.Contract.{Ready, Answers};
+ghost use Rattle.rooms.specs.Contract.{ample, Ready, Answers};
 ghost use Rattle.strings.specs.Contract.{digitOf, DigitAt, Texts};
 ghost use Rattle.strings.specs.Bytes.{angledR, inlineBytesR};
 ghost use Rattle.strings.specs.Hexes.{pairTextR, Furthers, PairsAt, Closed};
@@ -74,7 +74,7 @@ pub enum Next {
 }
 
 fn further(doc: &[u8], at: usize) -> Next
-    requires { ⌜ at < 99999 ⌝ }
+    requires { ⌜ at + 1 < ample ⌝ }
     ensures { λ r. ⌜ Furthers (now (doc .entry)) at r ⌝ }
 {
     if digit_at(&*doc, at) < 16 {
@@ -127,7 +127,7 @@ pub fn pairs(doc: &[u8], text: &mut [u8], c: Cursor) -> Far
 
 // `>` at the cursor; where it is refused otherwise.
 fn close(doc: &[u8], n: Cursor, far: usize) -> Ans
-    requires { ⌜ n .at < 99999 ⌝ }
+    requires { ⌜ n .at + 1 < ample ⌝ }
     ensures { λ r. ⌜ Closed (now (doc .entry)) n far r ⌝ }
 {
     if n.look(&*doc) == 62 {

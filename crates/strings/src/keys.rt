@@ -14,15 +14,15 @@ use rooms::Ans;
 use rooms::Cursor;
 use rooms::copy;
 
-// A byte of a bare key: `-`, a digit, a letter or `_`.
+// A byte of a bare key: a letter, a digit, `-` or `_`. Lowercase letters are the most, and come first.
 pub fn is_key(b: u32) -> bool
     ensures { λ r. ⌜ r ≡ is keybyte b ⌝ }
 {
-    if b == 45 {
-        return true;
+    if 97 <= b {
+        return b <= 122;
     }
     if b < 48 {
-        return false;
+        return b == 45;
     }
     if b <= 57 {
         return true;
@@ -33,13 +33,7 @@ pub fn is_key(b: u32) -> bool
     if b <= 90 {
         return true;
     }
-    if b == 95 {
-        return true;
-    }
-    if b < 97 {
-        return false;
-    }
-    b <= 122
+    b == 95
 }
 
 // The place behind the bytes of a bare key that stand at `at`.
@@ -61,7 +55,7 @@ pub fn key_end(doc: &[u8], at: usize) -> usize
 // The bytes of a bare key at the cursor, copied.
 fn bare(doc: &[u8], text: &mut [u8], c: Cursor) -> Cursor
     requires { ⌜ Ready (now doc) c ⌝ }
-    ensures { λ r. ⌜ Copied keybyte (now (doc .entry)) c r (now (text .entry)) (now (text .exit)) ⌝ }
+    ensures { λ r. ⌜ Copied (RunTo keybyte) (now (doc .entry)) c r (now (text .entry)) (now (text .exit)) ⌝ }
 {
     let at = c.at;
     let e = key_end(&*doc, at);

@@ -3,6 +3,7 @@
 mod escapes;
 mod hex;
 mod keys;
+mod plain;
 mod quotes;
 
 pub use hex::inline_bytes;

@@ -1,14 +1,15 @@
-// Quoted strings: plain bytes are passed over and copied in runs, escapes are decoded one at a time.
+// Quoted strings: plain bytes and characters of several bytes are passed over and copied in runs, escapes are decoded one at a time.
 ghost use mathlib.Core.Path.{_≡_};
 ghost use Prim.Native.Nat.{ℕ, _+_, _≤_, _<_};
 ghost use lib.ListN.{length, drop};
 ghost use Rattle.exact.specs.Place.{peek};
 ghost use Rattle.rooms.specs.Contract.{Ready, Answers};
 ghost use Rattle.strings.specs.Contract.{Texts};
-ghost use Rattle.strings.specs.Inside.{Quote, plainOf, textR, specialR, RunTo, Copied, Special, Close, Leafed};
+ghost use Rattle.strings.specs.Inside.{Quote, textR, specialR, CleanTo, Copied, Special, Close, Leafed};
 ghost use Rattle.strings.specs.Quoted.{quotedR, stringR};
 use super::escapes::escape;
 use super::escapes::single_escape;
+use super::plain::clean_end;
 use characters::Read;
 use characters::Reading;
 use language::Kind;
@@ -18,38 +19,13 @@ use rooms::copy;
 use rooms::put_row;
 use rooms::row_of;
 
-// The place behind the plain bytes that stand at `at`: characters below 128 that are neither the quote nor a backslash.
-pub fn plain_end(doc: &[u8], at: usize, quote: u8) -> usize
-    requires { ⌜ (at ≤ length (now doc)) × Quote quote ⌝ }
-    ensures { λ r. ⌜ RunTo (plainOf quote) (now (doc .entry)) at r ⌝ }
-{
-    let mut e = at;
-    while e < doc.len() {
-        let b = doc[e];
-        if b < 32 {
-            return e;
-        }
-        if 126 < b {
-            return e;
-        }
-        if b == quote {
-            return e;
-        }
-        if b == 92 {
-            return e;
-        }
-        e += 1;
-    }
-    e
-}
-
-// The plain bytes at the cursor, copied.
-fn plain(doc: &[u8], text: &mut [u8], c: Cursor, quote: u8) -> Cursor
+// The plain bytes and the characters of several bytes at the cursor, copied.
+fn clean(doc: &[u8], text: &mut [u8], c: Cursor, quote: u8) -> Cursor
     requires { ⌜ Ready (now doc) c × Quote quote ⌝ }
-    ensures { λ r. ⌜ Copied (plainOf quote) (now (doc .entry)) c r (now (text .entry)) (now (text .exit)) ⌝ }
+    ensures { λ r. ⌜ Copied (CleanTo quote) (now (doc .entry)) c r (now (text .entry)) (now (text .exit)) ⌝ }
 {
     let at = c.at;
-    let e = plain_end(&*doc, at, quote);
+    let e = clean_end(&*doc, at, quote);
     copy(&*doc, at, e, text, c.text);
     Cursor {
         at: e,
@@ -110,7 +86,7 @@ fn between(doc: &[u8], text: &mut [u8], c: Cursor, quote: u8) -> Ans
         text: c.text,
     };
     loop {
-        let e = plain(&*doc, text, n, quote);
+        let e = clean(&*doc, text, n, quote);
         if e.look(&*doc) == quote as u32 {
             return Ans::Ok(Cursor {
                 at: e.at + 1,

@@ -11,8 +11,8 @@ use Rattle.language.specs.declared.Answer.the-variants.{Accepted}
 use Rattle.language.specs.Kind.{INTEGER, ARRAY, OBJECT, KEY}
 use Rattle.language.specs.Tree.{Tree, leaf, node, none, more, width, size, sizes, textOf, textsOf, rowsOf, rowss, Repeats, inside, again, has-here, has-later}
 use Rattle.language.specs.Document.{Document}
-use Rattle.language.specs.Answered.{deepest, SYNTAX, END, REPEAT, refusal, Stops, Answered, accepted, stopped, repeated}
-use Rattle.characters.specs.Told.{Answer as Judgement, given, refused-syntax, refused-end}
+use Rattle.language.specs.Answered.{limit, deepest, SYNTAX, END, REPEAT, refusal, Stops, Answered, accepted, stopped, repeated}
+use Rattle.utf8.specs.Told.{Answer as Judgement, given, refused-syntax, refused-end}
 use Rattle.language.specs.Scalars.{plain, minus}
 use Rattle.language.specs.Strings.{hexNumber}
 use Rattle.language.specs.BlockText.{bodyText, bodyEnd}
@@ -43,8 +43,8 @@ use Rattle.blocks.specs.Document.{headR, wholeR, verdict}
 use Rattle.blocks.specs.Judged.{judge, Judged, judged}
 use Rattle.repeats.specs.Flat.{named, flat, flats, Twice, twice-here, twice-later, In, in-here, in-later}
 use Rattle.repeats.specs.Repeating.{repeats-twice}
-use Rattle.questions.specs.Integer.{isInteger, integer, natural, counting, digits, digit, empty}
-use Rattle.questions.specs.Order.{Verdict, compared, orderOf}
+use Rattle.integers.specs.Integer.{isInteger, integer, natural, counting, digits, digit, empty}
+use Rattle.integers.specs.Order.{Verdict, compared, orderOf}
 
 -- a border: a document that is refused with a number and a place; one that gives rows and a text; two integer texts that compare
 pub data Border : Type 0 where
@@ -100,11 +100,11 @@ unfoldable pub reading : List ℕ → Judgement Tree
 unfolding plain minus hexNumber bodyText bodyEnd moreR digitsR exponentR fractionR dottedR afterR unsignedR nanR signedR bodyR plainR pairR furtherR insideR angledR inlineBytesR pairsR bareR nameR keyR escapeR singleEscapeR betweenR quotedR stringR spannedR listedR inlineArrayR inlinePairR inlineObjectR quotesR scalarR containerR valueR textLineR bodyLineR textBodyR leaderTextR openStringR propertyStringR commentedR contentR hexRestR hexLinesR openBytesR leaderCommentR propertyBytesR joinedLineR joinedR orR linesR restR lineR onR propertyR objectR dashedR arrayR bulletR leadR openerR nestedLineR nestedHereR itemR rootR headR wholeR verdict judge
 reading s = judge s
 
-pub at-syntax : (doc : List ℕ) (p : ℕ) → length doc ≤ 32768 → reading doc ≡ refused-syntax p → Says (refuses doc SYNTAX p)
+pub at-syntax : (doc : List ℕ) (p : ℕ) → length doc ≤ limit → reading doc ≡ refused-syntax p → Says (refuses doc SYNTAX p)
 unfolding reading
 at-syntax doc p l e table text = stopped SYNTAX p l (subst (Judged doc) e (judged doc))
 
-pub at-end : (doc : List ℕ) (p : ℕ) → length doc ≤ 32768 → reading doc ≡ refused-end p → Says (refuses doc END p)
+pub at-end : (doc : List ℕ) (p : ℕ) → length doc ≤ limit → reading doc ≡ refused-end p → Says (refuses doc END p)
 unfolding reading
 at-end doc p l e table text = stopped END p l (subst (Judged doc) e (judged doc))
 

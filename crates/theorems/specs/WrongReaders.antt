@@ -9,7 +9,7 @@ use Rattle.language.specs.declared.Answer.the-variants.{Accepted}
 use Rattle.language.specs.Kind.{INTEGER}
 use Rattle.language.specs.Tree.{Tree, leaf, size, textOf, rowsOf}
 use Rattle.language.specs.Answered.{CHAR, SYNTAX, END, ROWS, refusal, number, value, Reads, Answered, accepted, rows}
-use Rattle.characters.specs.Told.{given, refused-syntax, refused-end}
+use Rattle.utf8.specs.Told.{given, refused-syntax, refused-end}
 use Rattle.repeats.specs.Flat.{flat, Twice}
 use Rattle.repeats.specs.Repeating.{repeats-twice}
 use Rattle.theorems.specs.Proved.{one-answer}

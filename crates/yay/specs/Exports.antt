@@ -17,10 +17,11 @@ use Rattle.questions.specs.Walk.{Reply, Finds, foundReply}
 use Rattle.questions.specs.declared.Found.{Found}
 use Rattle.questions.specs.declared.Found.the-variants.{At, Missing, BadRow}
 use Rattle.language.specs.declared.Row.{Row}
+use Rattle.language.specs.Tree.{width}
 use lib.IntN.{ℤ, pos, negsuc}
-use Rattle.questions.specs.declared.Compared.{Compared}
-use Rattle.questions.specs.declared.Compared.the-variants.{Less, Equal, Greater, NotInt}
-use Rattle.questions.specs.Order.{Verdict, compared, comparedVerdict}
+use Rattle.integers.specs.declared.Compared.{Compared}
+use Rattle.integers.specs.declared.Compared.the-variants.{Less, Equal, Greater, NotInt}
+use Rattle.integers.specs.Order.{Verdict, compared, comparedVerdict}
 
 -- an answer that is right, by its number and its two values
 pub record ReadInto (doc table text : List ℕ) (n first second : ℕ) (table' text' : List ℕ) : Type 0 where
@@ -88,24 +89,24 @@ module _ (table : List ℕ) (R : ℕ) (room : List ℕ) (r n : ℕ) (x : n ≡ t
       go true h = absurd (e (x ∙ ap (λ (c : Bool). pick c 0 9) h))
       go false h = refl
 
-  pub text-inside : (j : ℕ) → j < 7 → n ≡ 0 → 7 * r + j < length table
+  pub text-inside : (j : ℕ) → j < width → n ≡ 0 → width * r + j < length table
   unfolding readable good
   text-inside j l e = go (ltb r R) refl (is-readable e)
     where
-      size : (b : Bool) → leb (7 * (r + 1)) (length table) ≡ b → b ≡ true → 7 * r + j < length table
-      size true h k = let z = leb-true (7 * (r + 1)) (length table) h in omega arith
+      size : (b : Bool) → leb (width * (r + 1)) (length table) ≡ b → b ≡ true → width * r + j < length table
+      size true h k = let z = leb-true (width * (r + 1)) (length table) h in omega arith
       size false h k = let z : _≡_ {A = ℕ} 0 1 = cc in absurd (omega arith)
 
       rest : (b c : Bool) → (b && c) ≡ true → b ≡ true
       rest true c h = refl
       rest false c h = h
 
-      go : (b : Bool) → ltb r R ≡ b → ((b && leb (7 * (r + 1)) (length table)) && (hasText (kind table r) && (leb (start table r) (end table r) && leb (end table r) (length room)))) ≡ true
-          → 7 * r + j < length table
-      go true h k = size (leb (7 * (r + 1)) (length table)) refl (rest (leb (7 * (r + 1)) (length table)) _ k)
+      go : (b : Bool) → ltb r R ≡ b → ((b && leb (width * (r + 1)) (length table)) && (hasText (kind table r) && (leb (start table r) (end table r) && leb (end table r) (length room)))) ≡ true
+          → width * r + j < length table
+      go true h k = size (leb (width * (r + 1)) (length table)) refl (rest (leb (width * (r + 1)) (length table)) _ k)
       go false h k = let z : _≡_ {A = ℕ} 0 1 = cc in absurd (omega arith)
 
-  pub text-at : (a b : ℕ) → n ≡ 0 → a ≡ getD table (7 * r + 3) 0 → b ≡ getD table (7 * r + 4) 0 → TextAt table R room r 0 a b
+  pub text-at : (a b : ℕ) → n ≡ 0 → a ≡ getD table (width * r + 3) 0 → b ≡ getD table (width * r + 4) 0 → TextAt table R room r 0 a b
   unfolding word
   text-at a b e p q = record { number-is = sym e ∙ x; from-is = p ∙ sym (ap (λ (c : Bool). pick c (start table r) 0) (is-readable e)); to-is = q ∙ sym (ap (λ (c : Bool). pick c (end table r) 0) (is-readable e)) }
 

@@ -3,11 +3,12 @@ ghost use Rattle.yay.specs.Exports.{ReadInto, FoundAt, ComparedTo, TextA
 ghost use mathlib.Core.Path.{_≡_};
 ghost use Prim.Native.Nat.{_+_, _*_, _<_};
 ghost use lib.ListN.{length, getD};
+ghost use Rattle.language.specs.Tree.{width};
+use integers::Compared;
 use language::Answer;
 use language::Row;
-use questions::Compared;
+use language::WIDTH;
 use questions::Found;
-use rooms::WIDTH;
 
 // 0 with the counts of rows and text bytes; or the number of a refusal with its place and 0.
 #[no_mangle]
@@ -67,7 +68,7 @@ pub extern "C" fn yay_find(
 pub extern "C" fn yay_compare(left: &[u8], right: &[u8], order: &mut i32) -> u32
     ensures { λ r. ⌜ ComparedTo (now (left .entry)) (now (right .entry)) r (now (order .exit)) ⌝ }
 {
-    match questions::compare(&*left, &*right) {
+    match integers::compare(&*left, &*right) {
         Compared::Less => {
             *order = -1;
             0
@@ -89,8 +90,8 @@ pub extern "C" fn yay_compare(left: &[u8], right: &[u8], order: &mut i32) -> u32
 
 // A word of a row, as a number.
 fn word(table: &[u32], row: usize, j: usize) -> usize
-    requires { ⌜ 7 * row + j < length (now table) ⌝ }
-    ensures { λ r. ⌜ r ≡ getD (now (table .entry)) (7 * row + j) 0 ⌝ }
+    requires { ⌜ width * row + j < length (now table) ⌝ }
+    ensures { λ r. ⌜ r ≡ getD (now (table .entry)) (width * row + j) 0 ⌝ }
 {
     table[WIDTH * row + j] as usize
 }

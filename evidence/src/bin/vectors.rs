@@ -1,7 +1,9 @@
 //! Compares the second reader and the slow checker of places with a file of
 //! documents and answers: `vectors ../shared/vectors/base.tsv`.
 
-use evidence::{hex, second::Second, slow, vectors};
+use evidence::second::{Refusal, Second, REPEAT};
+use evidence::vectors::{self, Vector};
+use evidence::{hex, slow};
 use std::process::ExitCode;
 
 fn main() -> ExitCode {
@@ -9,38 +11,25 @@ fn main() -> ExitCode {
         eprintln!("usage: vectors FILE");
         return ExitCode::from(2);
     };
-    let file = match std::fs::read_to_string(&path) {
-        Ok(file) => file,
-        Err(error) => {
-            eprintln!("{path}: {error}");
-            return ExitCode::from(2);
-        }
-    };
-    let list = match vectors::parse(&file) {
+    let list = match vectors::load(&path) {
         Ok(list) => list,
-        Err(line) => {
-            eprintln!("{path}:{line}: no vector");
+        Err(error) => {
+            eprintln!("{error}");
             return ExitCode::from(2);
         }
     };
     let mut second = Second::new();
     let mut wrong = 0;
-    for vector in &list {
-        let answer = vectors::answer(&mut second, &vector.doc);
-        if answer != vector.answer {
-            wrong += 1;
-            println!("{}\n  file:          {}\n  second reader: {answer}", hex::show(&vector.doc), vector.answer);
-        }
-    }
-    for vector in &list {
-        let places = slow::answer(&vector.doc, 32);
-        let agree = match places {
-            Ok(()) => vector.answer.starts_with("ok") || vector.answer.starts_with("no 6"),
-            Err(no) => vector.answer == format!("no {} {}", no.number, no.place),
+    for Vector { doc, meant } in &list {
+        let answer = second.tree(doc).map(|(words, text)| (words.to_vec(), text.to_vec()));
+        let places = slow::answer(doc, 32);
+        let wanted = match meant {
+            Err(Refusal { number: REPEAT, .. }) | Ok(_) => Ok(()),
+            Err(refusal) => Err(*refusal),
         };
-        if !agree {
+        if answer != *meant || places != wanted {
             wrong += 1;
-            println!("{}\n  file:         {}\n  slow checker: {places:?}", hex::show(&vector.doc), vector.answer);
+            println!("{}\n  file {meant:?}\n  second reader {answer:?}\n  slow checker {places:?}", hex::show(doc));
         }
     }
     println!("{} documents, {wrong} differences", list.len());

@@ -2,64 +2,56 @@
 //! all documents over small alphabets mixed with random ones, without end.
 
 use crate::documents::grow::Meant;
-use crate::documents::{deep::deep, grow, mutate::mutate, small, Grown, Rng};
+use crate::documents::{borders::borders, deep::deep, grow, mutate::mutate, small, Grown, Rng};
 use crate::second::{Second, END, LONGEST, REPEAT};
+use crate::vectors::Vector;
 
-/// A document and, for a grown one, what it was grown to mean.
+/// A document and, where it is known apart from the second reader, what it means.
 pub struct Document {
     pub doc: Vec<u8>,
     pub meant: Option<Meant>,
+    /// Whether it is tried in every room.
+    pub every_room: bool,
+}
+
+/// A document of which nothing is known.
+fn unknown(doc: Vec<u8>) -> Document {
+    Document { doc, meant: None, every_room: false }
 }
 
 /// How many documents of an alphabet come before its walk.
 const PER_ALPHABET: usize = 20_000;
 
-/// "Borders" of document 01 that are short.
-const BORDERS: [&[u8]; 20] = [
-    b"",
-    b"1",
-    b"[1, 22]\n",
-    b"[1,2]\n",
-    b"a: 1 \n",
-    b"nulls\n",
-    b"a: nulls\n",
-    b"\"\\u{D800}\"\n",
-    b"\"\\u{110000}\"\n",
-    b"a: 1\na: 2\n",
-    b"k:\nj: 1\n",
-    b"[[[[[[[[[[[[[[[[[[[[[[[[[[[[[[[[[",
-    b"\xEF\xBB\xBF",
-    b"a:\t",
-    b"- -5\n",
-    b"- - 5\n",
-    b"`\n  x\n    y\n\n\n",
-    b"\n",
-    b"\x80",
-    b"#\n",
-];
-
 pub struct Stream {
     rng: Rng,
     /// Documents to come before anything else, the next one last.
-    waiting: Vec<Vec<u8>>,
+    waiting: Vec<Document>,
     vectors: Vec<Vec<u8>>,
     second: Second,
+    /// The alphabet of the small documents; those of the other parts are passed over.
     alphabet: usize,
+    parts: usize,
     index: usize,
     walk: small::Walk,
     begins: bool,
 }
 
 impl Stream {
-    pub fn new(seed: u64, vectors: &[Vec<u8>]) -> Self {
-        let borders = BORDERS.iter().map(|doc| doc.to_vec());
-        let waiting = vectors.iter().rev().cloned().chain(borders.rev()).collect();
+    /// One of `parts` streams: together they have every border and vector and all small documents, and each has its
+    /// own random ones.
+    pub fn new(seed: u64, part: usize, parts: usize, vectors: &[Vector]) -> Self {
+        let known = vectors.iter().map(|vector| (vector.doc.clone(), vector.meant.clone()));
+        let all = borders().into_iter().chain(known).skip(part).step_by(parts);
+        let mut waiting: Vec<_> =
+            all.map(|(doc, meant)| Document { doc, meant: Some(meant), every_room: true }).collect();
+        waiting.reverse();
         Stream {
-            rng: Rng::new(seed),
+            rng: Rng::new(seed.wrapping_mul(parts as u64).wrapping_add(part as u64)),
             waiting,
-            vectors: vectors.to_vec(),
+            vectors: vectors.iter().map(|vector| vector.doc.clone()).collect(),
             second: Second::new(),
-            alphabet: 0,
+            alphabet: part,
+            parts,
             index: 0,
             walk: small::Walk::default(),
             begins: true,
@@ -68,14 +60,14 @@ impl Stream {
 
     /// The next document, without end.
     pub fn document(&mut self) -> Document {
-        if let Some(doc) = self.waiting.pop() {
-            return Document { doc, meant: None };
+        if let Some(document) = self.waiting.pop() {
+            return document;
         }
         if self.rng.once_in(2) {
             return self.random();
         }
         match self.small() {
-            Some(doc) => Document { doc, meant: None },
+            Some(doc) => unknown(doc),
             None => self.random(),
         }
     }
@@ -92,7 +84,7 @@ impl Stream {
                 self.begins = self.second.tree(&doc).map_or_else(|no| matches!(no.number, END | REPEAT), |_| true);
                 return Some(doc);
             }
-            self.alphabet += 1;
+            self.alphabet += self.parts;
             (self.index, self.walk, self.begins) = (0, small::Walk::default(), true);
         }
     }
@@ -101,7 +93,7 @@ impl Stream {
         let mut doc = match self.rng.below(100) {
             0..=29 => {
                 let Grown { doc, meant } = self.grown();
-                return Document { doc, meant: Some(meant) };
+                return Document { doc, meant: Some(meant), every_room: false };
             }
             30..=69 => self.grown().doc,
             70..=84 if !self.vectors.is_empty() => self.vectors[self.rng.below(self.vectors.len())].clone(),
@@ -115,7 +107,7 @@ impl Stream {
         if !self.rng.once_in(8) {
             mutate(&mut self.rng, &mut doc);
         }
-        Document { doc, meant: None }
+        unknown(doc)
     }
 
     /// Mostly small, now and then of some thousand bytes.
@@ -132,7 +124,7 @@ impl Stream {
     fn cut(&mut self) -> Vec<u8> {
         let size = self.rng.below(60);
         let doc = grow(&mut self.rng, size, 6).doc;
-        self.waiting.extend((0..doc.len().min(200)).map(|end| doc[..end].to_vec()));
+        self.waiting.extend((0..doc.len().min(200)).map(|end| unknown(doc[..end].to_vec())));
         doc
     }
 

@@ -2,6 +2,7 @@
 //!
 //! [`read`] fills rooms that the caller lends and allocates nothing; [`Document`] is the same with rooms of its
 //! own. A [`Tree`] answers questions. Every answer is fixed by the project's definitions, for any bytes at all.
+//! Reading takes up to 1.6 MB of stack.
 //!
 //! ```
 //! let doc = b"battery:\n  capacity: 10 400\n";

@@ -30,6 +30,8 @@ use Rattle.inline.proofs.closing.Reads as closing-reads
 use Rattle.inline.proofs.enclose.Reads as enclose-reads
 use Rattle.inline.proofs.label.Reads as label-reads
 use Rattle.inline.proofs.scalar.Reads as scalar-reads
+use Rattle.numbers.proofs.plain_inside.Reads as plain-inside-reads
+use Rattle.rooms.proofs.Ans.anew.Reads as anew-reads
 use Rattle.rooms.proofs.Cursor.look.Reads as look-reads
 use Rattle.inline.proofs.+container+element+member+value.{statement}
 use Rattle.inline.proofs.+container+element+member+value.Tie.{close}
@@ -81,7 +83,7 @@ abbrev member-claims : ℕ → member-lts.Claims
 member-claims t = (label-reads.Asked, label-reads.Learnt, element-below t, element.Post)
 
 abbrev value-claims : ℕ → value-lts.Claims
-value-claims t = (scalar-reads.Asked, scalar-reads.Learnt, look-reads.Asked, look-reads.Learnt, container-below t, container.Post)
+value-claims t = (scalar-reads.Asked, scalar-reads.Learnt, anew-reads.Asked, anew-reads.Learnt, look-reads.Asked, look-reads.Learnt, container-below t, container.Post, plain-inside-reads.Asked, plain-inside-reads.Learnt)
 
 abbrev container-Inv-loop : container-lts.InvT-loop
 container-Inv-loop doc rows₀ text₀ c parent allow object row cur₀ count₀ rows text cur count = Loop object (valueR false allow) doc c rows₀ text₀ rows text cur count × (length rows ≡ length rows₀) × (length text ≡ length text₀)
@@ -240,61 +242,88 @@ member-returns-3 : (t : ℕ) → member-lts.Need-returns-3 (member-claims t) (me
 member-returns-3 t c = search turning
 
 value-scalar-requires : (t : ℕ) → value-lts.Need-scalar-requires (value-claims t) (value-at t) value.Post
-value-scalar-requires t c κs = search choices
+value-scalar-requires t c κs = search needs
+
+value-anew-requires : (t : ℕ) → value-lts.Need-anew-requires (value-claims t) (value-at t) value.Post
+value-anew-requires t c κs = search needs
 
 value-same-length : (t : ℕ) → value-lts.Need-same-length (value-claims t) (value-at t) value.Post
-value-same-length t c = search choices
+value-same-length t c = search needs
 
 value-same-length-2 : (t : ℕ) → value-lts.Need-same-length-2 (value-claims t) (value-at t) value.Post
-value-same-length-2 t c = search choices
+value-same-length-2 t c = search needs
 
 value-returns : (t : ℕ) → value-lts.Need-returns (value-claims t) (value-at t) value.Post
-value-returns t c = search choices
+value-returns t c = rw (c .anew .ensures) (search choices)
 
 value-look-requires : (t : ℕ) → value-lts.Need-look-requires (value-claims t) (value-at t) value.Post
-value-look-requires t c κs = search choices
+value-look-requires t c κs = search needs
 
 value-sub-container : (t : ℕ) → value-lts.Need-sub-container (value-claims t) (value-at t) value.Post
-value-sub-container t c = search choices
+value-sub-container t c = search needs
 
 value-container-requires : (t : ℕ) → value-lts.Need-container-requires (value-claims t) (value-at t) value.Post
 value-container-requires t c κs = search choices
 
-value-same-length-3 : (t : ℕ) → value-lts.Need-same-length-3 (value-claims t) (value-at t) value.Post
-value-same-length-3 t c = search choices
-
-value-same-length-4 : (t : ℕ) → value-lts.Need-same-length-4 (value-claims t) (value-at t) value.Post
-value-same-length-4 t c = search choices
-
-value-returns-2 : (t : ℕ) → value-lts.Need-returns-2 (value-claims t) (value-at t) value.Post
-value-returns-2 t c = search choices
+value-anew-requires-2 : (t : ℕ) → value-lts.Need-anew-requires-2 (value-claims t) (value-at t) value.Post
+value-anew-requires-2 t c κs = search needs
 
 value-sub-container-2 : (t : ℕ) → value-lts.Need-sub-container-2 (value-claims t) (value-at t) value.Post
-value-sub-container-2 t c = search choices
+value-sub-container-2 t c = search needs
 
 value-container-requires-2 : (t : ℕ) → value-lts.Need-container-requires-2 (value-claims t) (value-at t) value.Post
 value-container-requires-2 t c κs = search choices
 
-value-same-length-5 : (t : ℕ) → value-lts.Need-same-length-5 (value-claims t) (value-at t) value.Post
-value-same-length-5 t c = search choices
+value-anew-requires-3 : (t : ℕ) → value-lts.Need-anew-requires-3 (value-claims t) (value-at t) value.Post
+value-anew-requires-3 t c κs = search needs
 
-value-same-length-6 : (t : ℕ) → value-lts.Need-same-length-6 (value-claims t) (value-at t) value.Post
-value-same-length-6 t c = search choices
+value-plain-inside-requires : (t : ℕ) → value-lts.Need-plain-inside-requires (value-claims t) (value-at t) value.Post
+value-plain-inside-requires t c κs = search needs
 
-value-returns-3 : (t : ℕ) → value-lts.Need-returns-3 (value-claims t) (value-at t) value.Post
-value-returns-3 t c = search choices
+value-anew-requires-4 : (t : ℕ) → value-lts.Need-anew-requires-4 (value-claims t) (value-at t) value.Post
+value-anew-requires-4 t c κs = search needs
 
 value-scalar-requires-2 : (t : ℕ) → value-lts.Need-scalar-requires-2 (value-claims t) (value-at t) value.Post
-value-scalar-requires-2 t c κs = search choices
+value-scalar-requires-2 t c κs = search needs
+
+value-anew-requires-5 : (t : ℕ) → value-lts.Need-anew-requires-5 (value-claims t) (value-at t) value.Post
+value-anew-requires-5 t c κs = search needs
+
+value-same-length-3 : (t : ℕ) → value-lts.Need-same-length-3 (value-claims t) (value-at t) value.Post
+value-same-length-3 t c = search needs
+
+value-same-length-4 : (t : ℕ) → value-lts.Need-same-length-4 (value-claims t) (value-at t) value.Post
+value-same-length-4 t c = search needs
+
+value-returns-2 : (t : ℕ) → value-lts.Need-returns-2 (value-claims t) (value-at t) value.Post
+value-returns-2 t c = rw (c .anew2 .ensures) (search choices)
+
+value-same-length-5 : (t : ℕ) → value-lts.Need-same-length-5 (value-claims t) (value-at t) value.Post
+value-same-length-5 t c = search needs
+
+value-same-length-6 : (t : ℕ) → value-lts.Need-same-length-6 (value-claims t) (value-at t) value.Post
+value-same-length-6 t c = search needs
+
+value-returns-3 : (t : ℕ) → value-lts.Need-returns-3 (value-claims t) (value-at t) value.Post
+value-returns-3 t c = rw (c .anew3 .ensures) (search choices)
 
 value-same-length-7 : (t : ℕ) → value-lts.Need-same-length-7 (value-claims t) (value-at t) value.Post
-value-same-length-7 t c = search choices
+value-same-length-7 t c = search needs
 
 value-same-length-8 : (t : ℕ) → value-lts.Need-same-length-8 (value-claims t) (value-at t) value.Post
-value-same-length-8 t c = search choices
+value-same-length-8 t c = search needs
 
 value-returns-4 : (t : ℕ) → value-lts.Need-returns-4 (value-claims t) (value-at t) value.Post
-value-returns-4 t c = search choices
+value-returns-4 t c = rw (c .anew4 .ensures) (search choices)
+
+value-same-length-9 : (t : ℕ) → value-lts.Need-same-length-9 (value-claims t) (value-at t) value.Post
+value-same-length-9 t c = search needs
+
+value-same-length-10 : (t : ℕ) → value-lts.Need-same-length-10 (value-claims t) (value-at t) value.Post
+value-same-length-10 t c = search needs
+
+value-returns-5 : (t : ℕ) → value-lts.Need-returns-5 (value-claims t) (value-at t) value.Post
+value-returns-5 t c = rw (c .anew5 .ensures) (search choices)
 
 pub +container+element+member+value-spec : {M : Type 1} → statement M
 +container+element+member+value-spec =
@@ -364,21 +393,30 @@ pub +container+element+member+value-spec : {M : Type 1} → statement M
     (value-at t)
     value.Post
     (value-scalar-requires t)
+    (value-anew-requires t)
     (value-same-length t)
     (value-same-length-2 t)
     (value-returns t)
     (value-look-requires t)
     (value-sub-container t)
     (value-container-requires t)
+    (value-anew-requires-2 t)
+    (value-sub-container-2 t)
+    (value-container-requires-2 t)
+    (value-anew-requires-3 t)
+    (value-plain-inside-requires t)
+    (value-anew-requires-4 t)
+    (value-scalar-requires-2 t)
+    (value-anew-requires-5 t)
     (value-same-length-3 t)
     (value-same-length-4 t)
     (value-returns-2 t)
-    (value-sub-container-2 t)
-    (value-container-requires-2 t)
     (value-same-length-5 t)
     (value-same-length-6 t)
     (value-returns-3 t)
-    (value-scalar-requires-2 t)
     (value-same-length-7 t)
     (value-same-length-8 t)
     (value-returns-4 t)
+    (value-same-length-9 t)
+    (value-same-length-10 t)
+    (value-returns-5 t)

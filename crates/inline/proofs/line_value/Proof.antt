@@ -39,6 +39,9 @@ returns-2 c = search lining
 plain-requires : tie.Need-plain-requires
 plain-requires c κs = search lining
 
+anew-requires : tie.Need-anew-requires
+anew-requires c κs = search lining
+
 same-length-5 : tie.Need-same-length-5
 same-length-5 c = search lining
 
@@ -46,7 +49,7 @@ same-length-6 : tie.Need-same-length-6
 same-length-6 c = search lining
 
 returns-3 : tie.Need-returns-3
-returns-3 c = search lining
+returns-3 c = rw (c .anew .ensures) (search lining)
 
 pub line-value-spec : {M : Type 1} → statement M
 line-value-spec =
@@ -64,6 +67,7 @@ line-value-spec =
     same-length-4
     returns-2
     plain-requires
+    anew-requires
     same-length-5
     same-length-6
     returns-3)

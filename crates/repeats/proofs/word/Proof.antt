@@ -4,6 +4,7 @@ use Prim.Native.Nat.{_+_, _*_}
 use borrow.Author.Needs.{needs}
 use Rattle.repeats.proofs.word.Statement.{statement}
 use Rattle.repeats.proofs.word.Tie as tie
+use Rattle.language.specs.Tree.{width}
 
 mul-result : tie.Need-mul-result
 mul-result c = search needs
@@ -18,10 +19,10 @@ shared-slice-read-result : tie.Need-shared-slice-read-result
 shared-slice-read-result c = search needs
 
 cast-result : tie.Need-cast-result
-cast-result c = omega (arith, c .shared-slice-known .given (7 * c .before .args .i + c .before .args .j))
+cast-result c = omega (arith, c .shared-slice-known .given (width * c .before .args .i + c .before .args .j))
 
 returns : tie.Need-returns
-returns c = (search needs, omega (arith, c .shared-slice-known .given (7 * c .before .args .i + c .before .args .j)))
+returns c = (search needs, omega (arith, c .shared-slice-known .given (width * c .before .args .i + c .before .args .j)))
 
 pub word-spec : {M : Type 1} → statement M
 word-spec =

@@ -9,6 +9,7 @@ use Rattle.rooms.proofs.put_row.Tie as tie
 use Rattle.rooms.proofs.put_row.Reads as reads
 use Rattle.rooms.proofs.put_row.Lts as lts
 use Rattle.rooms.proofs.put_part.Reads as put-part-reads
+use Rattle.language.specs.Tree.{width}
 
 mul-i : tie.Need-mul-i
 mul-i c = search needs
@@ -91,7 +92,7 @@ same-length-2 c = search needs
 returns-2 : tie.Need-returns-2
 returns-2 c =
     let s = c .before .before .args in
-    stored (s .rows .now) (7 * s .row) (s .w .kind) (s .w .first) (s .w .after) (s .w .from) (s .w .to) (s .w .parent) (s .w .next)
+    stored (s .rows .now) (width * s .row) (s .w .kind) (s .w .first) (s .w .after) (s .w .from) (s .w .to) (s .w .parent) (s .w .next)
 
 pub put-row-spec : {M : Type 1} → statement M
 put-row-spec =

@@ -7,6 +7,7 @@ use Rattle.yay.proofs.word.Statement.{statement}
 use Rattle.yay.proofs.word.Tie as tie
 use Rattle.yay.proofs.word.Reads as reads
 use Rattle.yay.proofs.word.Lts as lts
+use Rattle.language.specs.Tree.{width}
 
 mul-result : tie.Need-mul-result
 mul-result c = search needs
@@ -21,7 +22,7 @@ shared-slice-read-result : tie.Need-shared-slice-read-result
 shared-slice-read-result c = search needs
 
 cast-result : tie.Need-cast-result
-cast-result c = omega (arith, c .shared-slice-known .given (7 * c .before .args .row + c .before .args .j))
+cast-result c = omega (arith, c .shared-slice-known .given (width * c .before .args .row + c .before .args .j))
 
 returns : tie.Need-returns
 returns c = search needs

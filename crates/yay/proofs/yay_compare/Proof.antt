@@ -6,7 +6,7 @@ use Rattle.yay.proofs.yay_compare.Statement.{statement}
 use Rattle.yay.proofs.yay_compare.Tie as tie
 use Rattle.yay.proofs.yay_compare.Reads as reads
 use Rattle.yay.proofs.yay_compare.Lts as lts
-use Rattle.questions.proofs.compare.Reads as compare-reads
+use Rattle.integers.proofs.compare.Reads as compare-reads
 
 compare-requires : tie.Need-compare-requires
 compare-requires c κs = search needs

@@ -1,4 +1,4 @@
-//! Runs the command as a user would, behind YAY_RUNNER where this machine cannot run it itself.
+//! Runs the command as a user would.
 
 use std::io::Write;
 use std::path::PathBuf;
@@ -12,15 +12,7 @@ pub struct Run {
 
 /// Runs `yay` with words and standard input.
 pub fn yay(words: &[&str], input: &[u8]) -> Run {
-    let program = env!("CARGO_BIN_EXE_yay");
-    let mut command = match std::env::var("YAY_RUNNER") {
-        Ok(runner) if !runner.is_empty() => {
-            let mut command = Command::new(runner);
-            command.arg(program);
-            command
-        }
-        _ => Command::new(program),
-    };
+    let mut command = Command::new(env!("CARGO_BIN_EXE_yay"));
     command.args(words).stdin(Stdio::piped()).stdout(Stdio::piped()).stderr(Stdio::piped());
     let mut child = command.spawn().expect("yay starts");
     let (mut pipe, input) = (child.stdin.take().expect("piped"), input.to_vec());

@@ -1,9 +1,9 @@
 -- `ten_above_nine` holds by the contract of `compare`: the answer's verdict is that of P12.
 use mathlib.Core.Path.{ap, _∙_}
 use borrow.Author.Needs.{needs}
-use Rattle.questions.specs.declared.Compared.the-variants.{Greater}
-use Rattle.questions.specs.Ordered.{p12}
-use Rattle.questions.specs.Unique.{verdict-tells}
+use Rattle.integers.specs.declared.Compared.the-variants.{Greater}
+use Rattle.integers.specs.Ordered.{p12}
+use Rattle.integers.specs.Unique.{verdict-tells}
 use Rattle.asked.specs.Above.{isAbove}
 use Rattle.asked.proofs.comparing.ten_above_nine.Statement.{statement}
 use Rattle.asked.proofs.comparing.ten_above_nine.Tie as tie

@@ -10,17 +10,14 @@ returns c = search reading
 shared-slice-read-b : tie.Need-shared-slice-read-b
 shared-slice-read-b c = search needs
 
-cast-t12 : tie.Need-cast-t12
-cast-t12 c = search needs
+cast-t11 : tie.Need-cast-t11
+cast-t11 c = search needs
 
-add-t13 : tie.Need-add-t13
-add-t13 c = search needs
+add-t12 : tie.Need-add-t12
+add-t12 c = search needs
 
 returns-2 : tie.Need-returns-2
 returns-2 c = search reading
-
-slice-aggregate-wide-end : tie.Need-slice-aggregate-wide-end
-slice-aggregate-wide-end c = search needs
 
 wide-end-requires : tie.Need-wide-end-requires
 wide-end-requires c κs = search needs
@@ -46,10 +43,9 @@ scalar-spec =
     (tie.spec
     returns
     shared-slice-read-b
-    cast-t12
-    add-t13
+    cast-t11
+    add-t12
     returns-2
-    slice-aggregate-wide-end
     wide-end-requires
     enum-known-p
     enum-known-n

@@ -10,6 +10,12 @@ look-requires c κs = search needs
 property-string-requires : tie.Need-property-string-requires
 property-string-requires c κs = search needs
 
+property-bytes-requires : tie.Need-property-bytes-requires
+property-bytes-requires c κs = search needs
+
+value-line-requires : tie.Need-value-line-requires
+value-line-requires c κs = search needs
+
 same-length : tie.Need-same-length
 same-length c = search needs
 
@@ -19,9 +25,6 @@ same-length-2 c = search needs
 returns : tie.Need-returns
 returns c = search choosing
 
-property-bytes-requires : tie.Need-property-bytes-requires
-property-bytes-requires c κs = search needs
-
 same-length-3 : tie.Need-same-length-3
 same-length-3 c = search needs
 
@@ -30,9 +33,6 @@ same-length-4 c = search needs
 
 returns-2 : tie.Need-returns-2
 returns-2 c = search choosing
-
-value-line-requires : tie.Need-value-line-requires
-value-line-requires c κs = search needs
 
 same-length-5 : tie.Need-same-length-5
 same-length-5 c = search needs
@@ -49,14 +49,14 @@ on-line-spec =
     (tie.spec
     look-requires
     property-string-requires
+    property-bytes-requires
+    value-line-requires
     same-length
     same-length-2
     returns
-    property-bytes-requires
     same-length-3
     same-length-4
     returns-2
-    value-line-requires
     same-length-5
     same-length-6
     returns-3)

@@ -42,6 +42,7 @@ use Rattle.judge.proofs.look.line_end.Reads as line-end-reads
 use Rattle.judge.proofs.look.moved.Reads as moved-reads
 use Rattle.judge.proofs.look.one_space.Reads as one-space-reads
 use Rattle.judge.proofs.look.starts.Reads as starts-reads
+use Rattle.rooms.proofs.Block.anew.Reads as anew-reads
 use Rattle.rooms.proofs.Cursor.look.Reads as look-reads
 use Rattle.rooms.proofs.greater.Reads as greater-reads
 use Rattle.rooms.proofs.indent.Reads as indent-reads
@@ -118,7 +119,7 @@ property-below t =
     and 3 property-kinds.ps (falls 3 property-kinds.ps _<_ μ-property t) property.Pre
 
 abbrev behind-claims : ℕ → behind-lts.Claims
-behind-claims t = (one-space-reads.Asked, one-space-reads.Learnt, moved-reads.Asked, moved-reads.Learnt, on-line-reads.Asked, on-line-reads.Learnt, line-end-reads.Asked, line-end-reads.Learnt, nested-below t, nested.Post)
+behind-claims t = (one-space-reads.Asked, one-space-reads.Learnt, moved-reads.Asked, moved-reads.Learnt, on-line-reads.Asked, on-line-reads.Learnt, anew-reads.Asked, anew-reads.Learnt, line-end-reads.Asked, line-end-reads.Learnt, nested-below t, nested.Post)
 
 abbrev block-claims : ℕ → block-lts.Claims
 block-claims t = (member-below t, member.Post, greater-reads.Asked, greater-reads.Learnt, further-reads.Asked, further-reads.Learnt, enclose-reads.Asked, enclose-reads.Learnt, moved-reads.Asked, moved-reads.Learnt)
@@ -127,13 +128,13 @@ abbrev bullet-claims : ℕ → bullet-lts.Claims
 bullet-claims t = (member-below t, member.Post, enclose-reads.Asked, enclose-reads.Learnt)
 
 abbrev item-claims : ℕ → item-lts.Claims
-item-claims t = (opener-reads.Asked, opener-reads.Learnt, starts-reads.Asked, starts-reads.Learnt, bullet-below t, bullet.Post, block-below t, block.Post, kept-reads.Asked, kept-reads.Learnt)
+item-claims t = (opener-reads.Asked, opener-reads.Learnt, anew-reads.Asked, anew-reads.Learnt, starts-reads.Asked, starts-reads.Learnt, bullet-below t, bullet.Post, block-below t, block.Post, kept-reads.Asked, kept-reads.Learnt)
 
 abbrev member-claims : ℕ → member-lts.Claims
 member-claims t = (property-below t, property.Post, same-reads.Asked, same-reads.Learnt, moved-reads.Asked, moved-reads.Learnt, item-below t, item.Post)
 
 abbrev nested-claims : ℕ → nested-lts.Claims
-nested-claims t = (indent-reads.Asked, indent-reads.Learnt, moved-reads.Asked, moved-reads.Learnt, nested-line-reads.Asked, nested-line-reads.Learnt, starts-reads.Asked, starts-reads.Learnt, block-below t, block.Post, kept-reads.Asked, kept-reads.Learnt)
+nested-claims t = (indent-reads.Asked, indent-reads.Learnt, moved-reads.Asked, moved-reads.Learnt, nested-line-reads.Asked, nested-line-reads.Learnt, starts-reads.Asked, starts-reads.Learnt, block-below t, block.Post, anew-reads.Asked, anew-reads.Learnt, kept-reads.Asked, kept-reads.Learnt)
 
 abbrev property-claims : ℕ → property-lts.Claims
 property-claims t = (key-row-reads.Asked, key-row-reads.Learnt, look-reads.Asked, look-reads.Learnt, moved-reads.Asked, moved-reads.Learnt, behind-below t, behind.Post)
@@ -150,6 +151,9 @@ behind-moved-requires t c κs = search needs
 behind-on-line-requires : (t : ℕ) → behind-lts.Need-on-line-requires (behind-claims t) (behind-at t) behind.Post
 behind-on-line-requires t c κs = search behind-colon
 
+behind-anew-requires : (t : ℕ) → behind-lts.Need-anew-requires (behind-claims t) (behind-at t) behind.Post
+behind-anew-requires t c κs = search needs
+
 behind-same-length : (t : ℕ) → behind-lts.Need-same-length (behind-claims t) (behind-at t) behind.Post
 behind-same-length t c = search needs
 
@@ -157,7 +161,7 @@ behind-same-length-2 : (t : ℕ) → behind-lts.Need-same-length-2 (behind-claim
 behind-same-length-2 t c = search needs
 
 behind-returns : (t : ℕ) → behind-lts.Need-returns (behind-claims t) (behind-at t) behind.Post
-behind-returns t c = search behind-colon
+behind-returns t c = rw (c .anew .ensures) (search behind-colon)
 
 behind-line-end-requires : (t : ℕ) → behind-lts.Need-line-end-requires (behind-claims t) (behind-at t) behind.Post
 behind-line-end-requires t c κs = search needs
@@ -177,6 +181,9 @@ behind-add-nested t c = search needs
 behind-nested-requires : (t : ℕ) → behind-lts.Need-nested-requires (behind-claims t) (behind-at t) behind.Post
 behind-nested-requires t c κs = (search needs, (search behind-colon, search needs))
 
+behind-anew-requires-2 : (t : ℕ) → behind-lts.Need-anew-requires-2 (behind-claims t) (behind-at t) behind.Post
+behind-anew-requires-2 t c κs = search needs
+
 behind-returns-2 : (t : ℕ) → behind-lts.Need-returns-2 (behind-claims t) (behind-at t) behind.Post
 behind-returns-2 t c = search behind-colon
 
@@ -187,7 +194,7 @@ behind-same-length-4 : (t : ℕ) → behind-lts.Need-same-length-4 (behind-claim
 behind-same-length-4 t c = search needs
 
 behind-returns-3 : (t : ℕ) → behind-lts.Need-returns-3 (behind-claims t) (behind-at t) behind.Post
-behind-returns-3 t c = search behind-colon
+behind-returns-3 t c = rw (c .anew2 .ensures) (search behind-colon)
 
 abbrev block-Inv-loop : block-lts.InvT-loop
 block-Inv-loop doc rows₀ text₀ c parent col allow object row cur₀ far₀ count₀ rows text cur far count = Loop object allow col doc c rows₀ text₀ rows text cur far count × (length rows ≡ length rows₀) × (length text ≡ length text₀)
@@ -303,6 +310,9 @@ bullet-returns-2 t c = search bullet-laws
 item-opener-requires : (t : ℕ) → item-lts.Need-opener-requires (item-claims t) (item-at t) item.Post
 item-opener-requires t c κs = search item-laws
 
+item-anew-requires : (t : ℕ) → item-lts.Need-anew-requires (item-claims t) (item-at t) item.Post
+item-anew-requires t c κs = search needs
+
 item-same-length : (t : ℕ) → item-lts.Need-same-length (item-claims t) (item-at t) item.Post
 item-same-length t c = search needs
 
@@ -310,7 +320,7 @@ item-same-length-2 : (t : ℕ) → item-lts.Need-same-length-2 (item-claims t) (
 item-same-length-2 t c = search needs
 
 item-returns : (t : ℕ) → item-lts.Need-returns (item-claims t) (item-at t) item.Post
-item-returns t c = search item-laws
+item-returns t c = rw (c .anew .ensures) (search item-laws)
 
 item-starts-requires : (t : ℕ) → item-lts.Need-starts-requires (item-claims t) (item-at t) item.Post
 item-starts-requires t c κs = search item-laws
@@ -332,6 +342,9 @@ item-sub-block t c = search needs
 
 item-block-requires : (t : ℕ) → item-lts.Need-block-requires (item-claims t) (item-at t) item.Post
 item-block-requires t c κs = search item-laws
+
+item-anew-requires-2 : (t : ℕ) → item-lts.Need-anew-requires-2 (item-claims t) (item-at t) item.Post
+item-anew-requires-2 t c κs = search needs
 
 item-enum-known-p : (t : ℕ) → item-lts.Need-enum-known-p (item-claims t) (item-at t) item.Post
 item-enum-known-p t c = search needs
@@ -358,7 +371,7 @@ item-same-length-6 : (t : ℕ) → item-lts.Need-same-length-6 (item-claims t) (
 item-same-length-6 t c = search needs
 
 item-returns-3 : (t : ℕ) → item-lts.Need-returns-3 (item-claims t) (item-at t) item.Post
-item-returns-3 t c = search item-laws
+item-returns-3 t c = rw (c .anew2 .ensures) (search item-laws)
 
 item-same-length-7 : (t : ℕ) → item-lts.Need-same-length-7 (item-claims t) (item-at t) item.Post
 item-same-length-7 t c = search needs
@@ -462,6 +475,9 @@ nested-sub-block-2 t c = search needs
 nested-block-requires-2 : (t : ℕ) → nested-lts.Need-block-requires-2 (nested-claims t) (nested-at t) nested.Post
 nested-block-requires-2 t c κs = (search needs, (search nested-laws, search needs))
 
+nested-anew-requires : (t : ℕ) → nested-lts.Need-anew-requires (nested-claims t) (nested-at t) nested.Post
+nested-anew-requires t c κs = search needs
+
 nested-enum-known-p : (t : ℕ) → nested-lts.Need-enum-known-p (nested-claims t) (nested-at t) nested.Post
 nested-enum-known-p t c = search needs
 
@@ -487,7 +503,7 @@ nested-same-length-6 : (t : ℕ) → nested-lts.Need-same-length-6 (nested-claim
 nested-same-length-6 t c = search needs
 
 nested-returns-4 : (t : ℕ) → nested-lts.Need-returns-4 (nested-claims t) (nested-at t) nested.Post
-nested-returns-4 t c = search nested-laws
+nested-returns-4 t c = rw (c .anew .ensures) (search nested-laws)
 
 nested-same-length-7 : (t : ℕ) → nested-lts.Need-same-length-7 (nested-claims t) (nested-at t) nested.Post
 nested-same-length-7 t c = search needs
@@ -555,6 +571,7 @@ pub +behind+block+bullet+item+member+nested+property-spec : {M : Type 1} → sta
     (behind-add-moved t)
     (behind-moved-requires t)
     (behind-on-line-requires t)
+    (behind-anew-requires t)
     (behind-same-length t)
     (behind-same-length-2 t)
     (behind-returns t)
@@ -564,6 +581,7 @@ pub +behind+block+bullet+item+member+nested+property-spec : {M : Type 1} → sta
     (behind-moved-requires-2 t)
     (behind-add-nested t)
     (behind-nested-requires t)
+    (behind-anew-requires-2 t)
     (behind-returns-2 t)
     (behind-same-length-3 t)
     (behind-same-length-4 t)
@@ -616,6 +634,7 @@ pub +behind+block+bullet+item+member+nested+property-spec : {M : Type 1} → sta
     (item-at t)
     item.Post
     (item-opener-requires t)
+    (item-anew-requires t)
     (item-same-length t)
     (item-same-length-2 t)
     (item-returns t)
@@ -626,6 +645,7 @@ pub +behind+block+bullet+item+member+nested+property-spec : {M : Type 1} → sta
     (item-enum-told-2 t)
     (item-sub-block t)
     (item-block-requires t)
+    (item-anew-requires-2 t)
     (item-enum-known-p t)
     (item-opener-requires-2 t)
     (item-kept-requires t)
@@ -675,6 +695,7 @@ pub +behind+block+bullet+item+member+nested+property-spec : {M : Type 1} → sta
     (nested-enum-told-2 t)
     (nested-sub-block-2 t)
     (nested-block-requires-2 t)
+    (nested-anew-requires t)
     (nested-enum-known-p t)
     (nested-nested-line-requires-2 t)
     (nested-kept-requires t)

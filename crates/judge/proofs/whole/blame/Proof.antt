@@ -7,6 +7,9 @@ use Rattle.judge.proofs.whole.blame.Tie as tie
 returns : tie.Need-returns
 returns c = (search blaming, search blaming)
 
+add-check : tie.Need-add-check
+add-check c = search needs
+
 check-requires : tie.Need-check-requires
 check-requires c κs = search needs
 
@@ -60,6 +63,7 @@ blame-spec =
     tie.close
     (tie.spec
     returns
+    add-check
     check-requires
     enum-told
     enum-known-q

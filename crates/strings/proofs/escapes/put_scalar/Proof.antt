@@ -28,17 +28,11 @@ cast-put-byte-2 c = search needs
 put-byte-requires-2 : tie.Need-put-byte-requires-2
 put-byte-requires-2 c κs = search needs
 
-add-put-byte-2 : tie.Need-add-put-byte-2
-add-put-byte-2 c = search needs
+add-put-tail : tie.Need-add-put-tail
+add-put-tail c = search needs
 
-add-put-byte-3 : tie.Need-add-put-byte-3
-add-put-byte-3 c = search needs
-
-cast-put-byte-3 : tie.Need-cast-put-byte-3
-cast-put-byte-3 c = search needs
-
-put-byte-requires-3 : tie.Need-put-byte-requires-3
-put-byte-requires-3 c κs = search needs
+put-tail-requires : tie.Need-put-tail-requires
+put-tail-requires c κs = search needs
 
 add-result-2 : tie.Need-add-result-2
 add-result-2 c = search needs
@@ -49,38 +43,26 @@ same-length-2 c = search needs
 returns-2 : tie.Need-returns-2
 returns-2 c = search stores
 
-add-put-byte-4 : tie.Need-add-put-byte-4
-add-put-byte-4 c = search needs
+add-put-byte-2 : tie.Need-add-put-byte-2
+add-put-byte-2 c = search needs
 
-cast-put-byte-4 : tie.Need-cast-put-byte-4
-cast-put-byte-4 c = search needs
+cast-put-byte-3 : tie.Need-cast-put-byte-3
+cast-put-byte-3 c = search needs
 
-put-byte-requires-4 : tie.Need-put-byte-requires-4
-put-byte-requires-4 c κs = search needs
+put-byte-requires-3 : tie.Need-put-byte-requires-3
+put-byte-requires-3 c κs = search needs
 
-add-put-byte-5 : tie.Need-add-put-byte-5
-add-put-byte-5 c = search needs
+add-put-tail-2 : tie.Need-add-put-tail-2
+add-put-tail-2 c = search needs
 
-add-put-byte-6 : tie.Need-add-put-byte-6
-add-put-byte-6 c = search needs
+put-tail-requires-2 : tie.Need-put-tail-requires-2
+put-tail-requires-2 c κs = search needs
 
-cast-put-byte-5 : tie.Need-cast-put-byte-5
-cast-put-byte-5 c = search needs
+add-put-tail-3 : tie.Need-add-put-tail-3
+add-put-tail-3 c = search needs
 
-put-byte-requires-5 : tie.Need-put-byte-requires-5
-put-byte-requires-5 c κs = search needs
-
-add-put-byte-7 : tie.Need-add-put-byte-7
-add-put-byte-7 c = search needs
-
-add-put-byte-8 : tie.Need-add-put-byte-8
-add-put-byte-8 c = search needs
-
-cast-put-byte-6 : tie.Need-cast-put-byte-6
-cast-put-byte-6 c = search needs
-
-put-byte-requires-6 : tie.Need-put-byte-requires-6
-put-byte-requires-6 c κs = search needs
+put-tail-requires-3 : tie.Need-put-tail-requires-3
+put-tail-requires-3 c κs = search needs
 
 add-result-3 : tie.Need-add-result-3
 add-result-3 c = search needs
@@ -112,24 +94,18 @@ put-scalar-spec =
     add-put-byte
     cast-put-byte-2
     put-byte-requires-2
-    add-put-byte-2
-    add-put-byte-3
-    cast-put-byte-3
-    put-byte-requires-3
+    add-put-tail
+    put-tail-requires
     add-result-2
     same-length-2
     returns-2
-    add-put-byte-4
-    cast-put-byte-4
-    put-byte-requires-4
-    add-put-byte-5
-    add-put-byte-6
-    cast-put-byte-5
-    put-byte-requires-5
-    add-put-byte-7
-    add-put-byte-8
-    cast-put-byte-6
-    put-byte-requires-6
+    add-put-byte-2
+    cast-put-byte-3
+    put-byte-requires-3
+    add-put-tail-2
+    put-tail-requires-2
+    add-put-tail-3
+    put-tail-requires-3
     add-result-3
     same-length-3
     returns-3

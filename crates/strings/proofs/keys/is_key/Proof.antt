@@ -21,13 +21,7 @@ returns-5 c = search keybytes
 returns-6 : tie.Need-returns-6
 returns-6 c = search keybytes
 
-returns-7 : tie.Need-returns-7
-returns-7 c = search keybytes
-
-returns-8 : tie.Need-returns-8
-returns-8 c = search keybytes
-
 pub is-key-spec : {M : Type 1} → statement M
 is-key-spec =
     tie.close
-    (tie.spec returns returns-2 returns-3 returns-4 returns-5 returns-6 returns-7 returns-8)
+    (tie.spec returns returns-2 returns-3 returns-4 returns-5 returns-6)

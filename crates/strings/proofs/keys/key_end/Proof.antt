@@ -2,7 +2,7 @@
 use Prim.Native.Nat.{_-_}
 use lib.ListN.{length}
 use Rattle.language.specs.Strings.{keybyte}
-use Rattle.strings.proofs.PlainLaws.{Passing}
+use Rattle.strings.specs.Inside.{Passing}
 use native.Mathlib.Omega.{arith}
 use Rattle.strings.proofs.KeyLaws.{keyruns}
 use Rattle.strings.proofs.keys.key_end.Statement.{statement}

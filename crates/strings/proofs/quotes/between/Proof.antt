@@ -20,8 +20,8 @@ add-t10 c = search strings
 loop-holds : tie.Need-loop-holds Inv-loop μ-loop
 loop-holds c = search strings
 
-plain-requires : tie.Need-plain-requires Inv-loop μ-loop
-plain-requires c κs = search strings
+clean-requires : tie.Need-clean-requires Inv-loop μ-loop
+clean-requires c κs = search strings
 
 look-requires : tie.Need-look-requires Inv-loop μ-loop
 look-requires c κs = search strings
@@ -36,7 +36,7 @@ returns : tie.Need-returns Inv-loop μ-loop
 returns c = search strings
 
 special-requires : tie.Need-special-requires Inv-loop μ-loop
-special-requires c κs = let k = c .before .before .before .before .before .plain in let l = c .before .before .look in ((search ready-behind, search needs), special-at _ _ _ _ _ _ (l .result) (search needs) (k .ensures) (l .ensures) (c .before .if1 .left))
+special-requires c κs = let k = c .before .before .before .before .before .clean in let l = c .before .before .look in ((search ready-behind, search needs), special-at _ _ _ _ _ _ (l .result) (k .ensures) (l .ensures) (c .before .if1 .left))
 
 enum-known-got : tie.Need-enum-known-got Inv-loop μ-loop
 enum-known-got c = search strings
@@ -64,7 +64,7 @@ between-spec =
     μ-loop
     add-t10
     loop-holds
-    plain-requires
+    clean-requires
     look-requires
     add-t20
     same-length

@@ -1,0 +1,14 @@
+// Integers' texts compared as numbers (document 01, Questions). No public function has a `requires`.
+mod comparing;
+mod integer;
+mod numeral;
+
+pub use comparing::compare;
+
+// How the left integer stands to the right one.
+pub enum Compared {
+    Less,
+    Equal,
+    Greater,
+    NotInt,
+}

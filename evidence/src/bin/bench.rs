@@ -1,0 +1,131 @@
+//! Figures for docs/BENCHMARKS.md: `bench`. To see where time goes, a shape read by the proved reader alone, again and
+//! again: `perf record -g bench SHAPE [SECONDS]`.
+
+use evidence::documents::hostile::HOSTILE;
+use evidence::documents::shapes::SHAPES;
+use evidence::documents::{keys, Rng};
+use evidence::figures::{Bench, Best};
+use evidence::second::Answer;
+use std::process::ExitCode;
+use std::time::{Duration, Instant};
+
+const SIZES: [usize; 3] = [2_000, 8_000, 32_000];
+const HOSTILE_SIZES: [usize; 4] = [4_096, 8_192, 16_384, 32_768];
+/// How much more a byte may cost at 32 KB than at 4 KB, and than at 16 KB, where it would be eight times and twice as
+/// much if the cost were quadratic.
+const GROWTH: (f64, f64) = (3.0, 1.5);
+/// How much more 2,900 keys may cost than judging as many bytes.
+const KEYS: f64 = 100.0;
+
+fn megabytes(bytes: usize, seconds: f64) -> f64 {
+    bytes as f64 / seconds / 1e6
+}
+
+/// Speeds on the shapes of documents people write; how many shapes the readers differ on.
+fn shapes(bench: &mut Bench) -> usize {
+    println!("| Shape | Rows | Text bytes | Proved MB/s | Second MB/s | Ratio | ns a byte at 2 KB | 8 KB | 32 KB |");
+    println!("|---|---:|---:|---:|---:|---:|---:|---:|---:|");
+    let mut differ = 0;
+    for (name, shape) in SHAPES {
+        let docs = SIZES.map(|size| shape(&mut Rng::new(1), size));
+        let Some(Ok(counts)) = bench.both(docs[2].as_bytes()) else {
+            differ += 1;
+            println!("| {name} | THE READERS DIFFER |");
+            continue;
+        };
+        let timed = docs.map(|doc| bench.best(doc.as_bytes()));
+        let Best { bytes, proved, second } = timed[2];
+        print!("| {name} | {} | {} ", counts.rows, counts.text);
+        print!("| {:.0} | {:.0} | {:.2} ", megabytes(bytes, proved), megabytes(bytes, second), second / proved);
+        println!("| {} |", timed.map(|best| format!("{:.2}", best.a_byte())).join(" | "));
+    }
+    differ
+}
+
+/// The cost of a byte on hostile shapes; how many of them cost more than their length, or are answered differently.
+fn hostile(bench: &mut Bench) -> usize {
+    println!("| Hostile shape | Answer | ns a byte at 4 KB | 8 KB | 16 KB | 32 KB | 32 KB to 4 KB | Ratio |");
+    println!("|---|---|---:|---:|---:|---:|---:|---:|");
+    let mut bad = 0;
+    for (name, shape) in HOSTILE {
+        let docs = HOSTILE_SIZES.map(shape);
+        let Some(answer) = bench.both(&docs[3]) else {
+            bad += 1;
+            println!("| {name} | THE READERS DIFFER |");
+            continue;
+        };
+        let timed = docs.map(|doc| bench.best(&doc));
+        let costs = timed.map(|best| best.a_byte());
+        let linear = costs[3] <= GROWTH.0 * costs[0] && costs[3] <= GROWTH.1 * costs[2];
+        bad += usize::from(!linear);
+        print!("| {name} | {} | {} ", said(answer), costs.map(|cost| format!("{cost:.2}")).join(" | "));
+        println!("| {:.2}{} | {:.2} |", costs[3] / costs[0], mark(linear), timed[3].second / timed[3].proved);
+    }
+    bad
+}
+
+fn said(answer: Answer) -> String {
+    answer.map_or_else(|no| format!("{} at {}", no.number, no.place), |counts| format!("{} rows", counts.rows))
+}
+
+fn mark(good: bool) -> &'static str {
+    if good {
+        ""
+    } else {
+        " TOO MUCH"
+    }
+}
+
+/// Flat objects of many keys beside arrays of as many bytes; whether short keys cost more than they may.
+fn repeats(bench: &mut Bench) -> usize {
+    println!("| Keys | How many | µs | As strings of an array, µs | Times | Second reader, µs |");
+    println!("|---|---:|---:|---:|---:|---:|");
+    let mut bad = 0;
+    let lists =
+        [("short ones", keys::short()), ("of one chain", keys::of_one_chain()), ("of one mark", keys::of_one_mark())];
+    for (i, (name, doc)) in lists.iter().enumerate() {
+        let keyed = bench.best(doc.as_bytes());
+        let array = bench.best(keys::as_array(doc).as_bytes());
+        let times = keyed.proved / array.proved;
+        let good = bench.both(doc.as_bytes()).is_some_and(|answer| answer.is_ok()) && (i > 0 || times <= KEYS);
+        bad += usize::from(!good);
+        print!("| {name} | {} | {:.0} | {:.0} ", doc.lines().count(), keyed.proved * 1e6, array.proved * 1e6);
+        println!("| {times:.2}{} | {:.0} |", mark(good), keyed.second * 1e6);
+    }
+    bad
+}
+
+/// The document of a shape by its name.
+fn named(name: &str) -> Option<Vec<u8>> {
+    let shape =
+        SHAPES.iter().find(|shape| shape.0 == name).map(|shape| shape.1(&mut Rng::new(1), SIZES[2]).into_bytes());
+    shape.or_else(|| HOSTILE.iter().find(|shape| shape.0 == name).map(|shape| shape.1(HOSTILE_SIZES[3])))
+}
+
+fn read_for(doc: &[u8], seconds: u64) {
+    let mut bench = Bench::default();
+    let until = Instant::now() + Duration::from_secs(seconds);
+    while Instant::now() < until {
+        let _ = bench.proved(std::hint::black_box(doc));
+    }
+}
+
+fn main() -> ExitCode {
+    let mut words = std::env::args().skip(1);
+    if let Some(name) = words.next() {
+        let seconds = words.next().and_then(|seconds| seconds.parse().ok()).unwrap_or(5);
+        let Some(doc) = named(&name) else {
+            eprintln!("bench: {name} is no shape");
+            return ExitCode::from(2);
+        };
+        read_for(&doc, seconds);
+        return ExitCode::SUCCESS;
+    }
+    let mut bench = Bench::default();
+    let mut bad = shapes(&mut bench);
+    println!();
+    bad += hostile(&mut bench);
+    println!();
+    bad += repeats(&mut bench);
+    ExitCode::from(u8::from(bad > 0))
+}
