@@ -1,7 +1,7 @@
 # The README's commands, and what they need.
 SHELL := bash
 .SHELLFLAGS := -eo pipefail -c
-.PHONY: test evidence compare soak bench figures linked run
+.PHONY: test ci evidence compare soak bench figures linked run
 .DEFAULT_GOAL := test
 
 # What cargo builds outlives target/, which `rt ci` removes.
@@ -13,21 +13,24 @@ VECTORS := evidence/vectors/base.tsv
 
 include people.mk
 
-# What needs no proof comes first. Then `rt ci` removes target/ and proves every crate, tries every must-fail edit and
-# runs every program. The library can be made only behind it, when all but its own crate is proved already, and what
-# links the library only behind that. So rt ci's last line is kept, outside target/, and said again when all is done.
-# Crates and edits take very different times: four at once leave no processor idle.
-test: evidence
-	@mkdir -p build
-	RT_JOBS=4 rt ci 2>&1 | tee build/ci.out
+# `rt ci` removes target/ and proves every crate, tries every must-fail edit and runs every program; what needs no proof is
+# tried beside it. The library can be made only behind it, when all but its own crate is proved already, and what links the
+# library only behind that. So rt ci's last line is kept, outside target/, and said again when all is done.
+test:
+	$(MAKE) -j2 evidence ci
 	$(MAKE) people-test compare
 	@tail -n 1 build/ci.out | grep -xE '[0-9]+ passed, 0 failed'
 
+# Crates and edits take very different times: four at once leave no processor idle.
+ci:
+	@mkdir -p build
+	RT_JOBS=4 rt ci 2>&1 | tee build/ci.out
+
 # The second reader and the slow checker of places agree with each other and with the vectors.
 evidence:
-	cargo build $(EVIDENCE) && cargo test $(EVIDENCE)
+	nice cargo build $(EVIDENCE) && nice cargo test $(EVIDENCE)
 	$(BUILT)/vectors $(VECTORS)
-	$(BUILT)/places 2000 7
+	nice $(BUILT)/places 2000 7
 
 # The proved reader agrees with the second reader, on a million documents and more.
 compare: linked

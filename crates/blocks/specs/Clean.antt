@@ -5,21 +5,15 @@ use mathlib.Core.Bool.{true}
 use Prim.Native.Nat.{ℕ, zero, suc}
 use Rattle.notation.specs.Lang.{Lang, Begins, End}
 use Rattle.language.specs.Tree.{Tree, field, entry, blockArray, blockObject}
-use Rattle.language.specs.Characters.{Feed, Space, Allowed}
+use Rattle.language.specs.Characters.{Allowed}
 use Rattle.language.specs.Blocks.{Lines, ValueLine, Property, Object, Dashed, Array, Open, Nested, Item}
 use Rattle.language.specs.Document.{RootLine, Root, Whole, Document}
 use Rattle.exact.specs.Class.{only}
 use Rattle.utf8.specs.Clean.{Clean, ret-clean, here-clean, byte-clean, seq-clean, alt-clean, star-clean, map-clean, indented-clean, word-clean, clean-begins, end-clean}
 use Rattle.characters.specs.Comments.{comment-clean, optionalComment-clean}
 use Rattle.strings.specs.Clean.{key-clean}
-use Rattle.blocks.specs.ValueClean.{value-clean}
-use Rattle.blocktext.specs.Clean.{openString-clean, propertyString-clean, openBytes-clean, propertyBytes-clean, joined-clean}
-
-feed-clean : Clean Feed
-feed-clean = byte-clean (only 10) refl
-
-space-clean : Clean Space
-space-clean = byte-clean (only 32) refl
+use Rattle.inline.specs.Clean.{value-clean}
+use Rattle.blocktext.specs.Clean.{openString-clean, propertyString-clean, openBytes-clean, propertyBytes-clean, joined-clean, space-clean, feed-clean}
 
 lines-clean : {X : Type 0} (n : ℕ) {A : Lang X} → Clean A → Clean (Lines n A)
 lines-clean n c = seq-clean c λ v. seq-clean (star-clean (indented-clean n c)) λ vs. ret-clean (v ∷ vs)

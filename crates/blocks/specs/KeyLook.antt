@@ -8,7 +8,7 @@ use lib.ListN.{length}
 use Rattle.language.specs.Kind.{KEY}
 use Rattle.language.specs.Tree.{Tree, leaf}
 use Rattle.language.specs.Strings.{keybyte}
-use Rattle.exact.specs.Class.{pick, clash, Class, and, or, is, and-of, none, only, only-eq}
+use Rattle.exact.specs.Class.{pick, clash, Class, and, or, is, and-of, only, only-eq, apart-no}
 use Rattle.exact.specs.Out.{Out, Reader, bind, reach, count, behind, Tame, Firm, reach-from, f-ok, f-bad, ok, soft, bad}
 use Rattle.exact.specs.Lang.{retR, byteR}
 use Rattle.exact.specs.Comb.{seqR, many-bytes}
@@ -18,7 +18,6 @@ use Rattle.strings.specs.Spans.{spannedR}
 use Rattle.strings.specs.Quoted.{quotedR}
 use Rattle.strings.specs.Keys.{bareR, nameR, keyR, keyS, key-ll}
 use Rattle.blocktext.specs.Joined.{quotes}
-use Rattle.blocks.specs.First.{refuted}
 use Rattle.blocks.specs.Look.{Test, Stop, Decided, Ordered}
 
 -- the bytes of a bare key that a text begins with, and what is behind them
@@ -82,7 +81,7 @@ unfolding keyR nameR spannedR
 key-quoted at b s e =
     ap
     (λ (c : Bool). bind (pick c (bareR at (b ∷ s)) (quotedR at (b ∷ s))) (λ v a. retR (leaf KEY at a v) a))
-    (refuted (is keybyte b) (λ x. none quotes keybyte b refl e x))
+    (apart-no quotes keybyte b refl e)
 
 -- no key
 pub key-none : (at b : ℕ) (s : List ℕ) → is keyFirst b ≡ false → keyR at (b ∷ s) ≡ bad at

@@ -5,7 +5,6 @@ pub mod Rest
 pub mod Through
 pub mod Plain
 pub mod Look
-pub mod Sound
 pub mod KeyLook
 pub mod LineLook
 pub mod Values
@@ -20,6 +19,5 @@ pub mod Root
 pub mod Document
 pub mod Straight
 pub mod Vectors
-pub mod ValueClean
 pub mod Clean
 pub mod Judged

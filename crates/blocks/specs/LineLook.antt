@@ -10,7 +10,7 @@ use Rattle.language.specs.Kind.{KEY}
 use Rattle.language.specs.Tree.{Tree, leaf}
 use Rattle.language.specs.Strings.{keybyte}
 use Rattle.language.specs.Inline.{LineValue}
-use Rattle.exact.specs.Class.{Starts, pick, clash, _to_, Class, or, is, none, inside, only, only-eq}
+use Rattle.exact.specs.Class.{Starts, pick, clash, _to_, Class, or, is, none, inside, only, only-eq, apart-no}
 use Rattle.exact.specs.Out.{Out, Reader, bind, reach, margin, Tamed, Tame, Firm, shrinks, placed, reach-from, f-ok, f-bad, bad, t-ok, t-soft, t-bad}
 use Rattle.exact.specs.Lang.{Lang, None, Exact, retR}
 use Rattle.exact.specs.Comb.{Seq}
@@ -19,7 +19,7 @@ use Rattle.blocktext.specs.Joined.{quotes}
 use Rattle.blocks.specs.First.{Opens, refuted}
 use Rattle.blocks.specs.Through.{Through, stay, on}
 use Rattle.blocks.specs.Plain.{plainbyte, value-plain}
-use Rattle.blocks.specs.Sound.{Read, read-ok, read-soft, read-bad, read, early-bad, word-moves}
+use Rattle.exact.specs.Sound.{Read, read-ok, read-soft, read-bad, read, early-bad, word-moves}
 use Rattle.blocks.specs.Look.{Stands, refused, past, Place, aside, same, Beside}
 use Rattle.blocks.specs.KeyLook.{keyFirst, keys, unkeyed, colon, keyed, keyStop, dashed, dashed-is, blockLook, key-bare, key-quoted, key-none, key-end}
 
@@ -101,7 +101,7 @@ module _ {T : Tree → Lang Tree} {d : ℕ} {base : Reader Tree} {tR : Tree → 
 pub quoted-stands : {e : ℕ} (q : List ℕ → Reader Tree) → ((v : List ℕ) → Tame e (q v)) → ((v : List ℕ) (a : ℕ) (t : List ℕ) → q v a (58 ∷ t) ≡ bad a)
     → (at b : ℕ) (s : List ℕ) → is quotes b ≡ true → Stands (blockLook at (b ∷ s)) (keyStop at (b ∷ s)) (bind (quotedR at (b ∷ s)) q)
 quoted-stands q m shut at b s e =
-    rw (refuted (is (only 45) b) (λ x. none quotes (only 45) b refl e x), key-quoted at b s e) (go (quoted-ll .firm at (b ∷ s)))
+    rw (apart-no quotes (only 45) b refl e, key-quoted at b s e) (go (quoted-ll .firm at (b ∷ s)))
   where
     behind : (v : List ℕ) (a : ℕ) (t : List ℕ) → Stands (colon t) a (q v a t)
     behind v a [] = past refl (reach-from (m v .tame a []))
@@ -122,7 +122,7 @@ pub beside : {base r : Reader Tree} → Tame 0 base → Tame 0 r → ((at b : �
 beside {base} {r} m₀ m alike stands = record { tame₀ = m₀; tame = m; place = go }
   where
     dry : (b : ℕ) (s : List ℕ) → is keyFirst b ≡ true → margin (b ∷ s) ≡ 0
-    dry b s e = ap (λ (x : Bool). pick x (suc (margin s)) 0) (refuted (is (only 32) b) (λ x. none (only 32) keyFirst b refl x e))
+    dry b s e = ap (λ (x : Bool). pick x (suc (margin s)) 0) (apart-no keyFirst (only 32) b refl e)
 
     go : (at : ℕ) (s : List ℕ) → Place (blockLook at s) (keyStop at s) at s (base at s) (r at s)
     go at [] = aside (ap keyed (key-end at)) (ap reach (key-end at))

@@ -9,7 +9,7 @@ use Rattle.language.specs.Strings.{keybyte}
 use Rattle.language.specs.Inline.{LineValue}
 use Rattle.language.specs.BlockText.{OpenString, part}
 use Rattle.language.specs.Blocks.{Open, Joined}
-use Rattle.exact.specs.Class.{pick, is, apart, only, none, is-right}
+use Rattle.exact.specs.Class.{pick, is, only, is-right, apart-no}
 use Rattle.exact.specs.Out.{Out, Reader, bind, Firm, reach-from, f-ok, f-bad}
 use Rattle.exact.specs.Lang.{Lang, within-none, Exact, weaken}
 use Rattle.exact.specs.Comb.{Seq, seq-tame, Alt, altR}
@@ -22,15 +22,11 @@ use Rattle.blocktext.specs.LineEnd.{lineEndR, lineEnd-ll}
 use Rattle.blocktext.specs.BlockStrings.{openStringR, openString-exact, openString-opens}
 use Rattle.blocktext.specs.BlockBytes.{openBytesR, openBytes-exact, openBytes-opens}
 use Rattle.blocktext.specs.Joined.{quotes, joinedLineR, joinedMoreR, joinedMore-exact, joinedR, joined-exact, joined-opens, joined-shuts}
-use Rattle.blocks.specs.First.{refuted, Opens, alt-opens, first-exact, alt-swap, alt-group}
+use Rattle.blocks.specs.First.{Opens, alt-opens, first-exact, alt-swap, alt-group}
 use Rattle.blocks.specs.Look.{Stands, refused, Beside}
 use Rattle.blocks.specs.KeyLook.{keyFirst, keyStop, blockLook}
 use Rattle.blocks.specs.LineLook.{quoted-stands, beside}
 use Rattle.blocks.specs.ValueLine.{Ending, lineR, line-exact, line-opens, line-more, line-alike, line-stands}
-
--- no key begins with it
-not-key : (c b : ℕ) → apart keyFirst (only c) ≡ true → is keyFirst b ≡ true → is (only c) b ≡ false
-not-key c b h e = refuted (is (only c) b) (λ x. none keyFirst (only c) b h e x)
 
 -- AN OPEN BLOCK STRING OR BLOCK BYTES at c by their first byte, else a line of one value
 unfoldable pub openerR : (Tree → Reader Tree) → ℕ → ℕ → Reader Tree
@@ -69,7 +65,7 @@ module _ {B : Tree → Lang Tree} {q : Tree → Reader Tree} (e : Ending B q) wh
       (tame-any (opener-exact 0 c .moves))
       (tame-any (opener-exact k c .moves))
       (λ at b s h. ap (λ o. pick (is (only 96) b) (openStringR c at (b ∷ s)) (pick (is (only 62) b) (openBytesR c at (b ∷ s)) o)) (line-alike e k at b s h))
-      (λ at b s h. rw (not-key 96 b refl h, not-key 62 b refl h) (line-stands e at b s h))
+      (λ at b s h. rw (apart-no keyFirst (only 96) b refl h, apart-no keyFirst (only 62) b refl h) (line-stands e at b s h))
 
 -- NESTED CONTENT'S LINE: an open block string by its first byte, else joined strings
 unfoldable pub nestedLineR : ℕ → Reader Tree
@@ -106,7 +102,7 @@ module _ (m : ℕ) where
     where
       by : (x : Bool) → is keybyte b ≡ x → Stands (blockLook at (b ∷ s)) (keyStop at (b ∷ s)) (joinedR m at (b ∷ s))
       by true x =
-          refused at (joined-shuts m .not at b s (refuted (is quotes b) (λ y. none keybyte quotes b refl x y))) (reach-from (key-ll .exact .moves .tame at (b ∷ s)))
+          refused at (joined-shuts m .not at b s (apart-no keybyte quotes b refl x)) (reach-from (key-ll .exact .moves .tame at (b ∷ s)))
       by false x = joined-quoted at b s (is-right keybyte quotes b x h)
 
   pub nestedLine-beside : Beside blockLook keyStop (nestedLineR m) (nestedLineR m)
@@ -116,4 +112,4 @@ module _ (m : ℕ) where
       (tame-any (nestedLine-exact .moves))
       (tame-any (nestedLine-exact .moves))
       (λ at b s h. refl)
-      (λ at b s h. rw (not-key 96 b refl h) (joined-stands at b s h))
+      (λ at b s h. rw (apart-no keyFirst (only 96) b refl h) (joined-stands at b s h))

@@ -1,15 +1,15 @@
 -- OR: of two readers the one that is not refused, else the further refusal. It is exact where one of the two always loses, and keeps ONE MORE. Assumes nothing.
-use mathlib.Core.Path.{_≡_, refl, sym, ap, _∙_}
+use mathlib.Core.Path.{_≡_, refl, ap}
 use mathlib.Core.List.{List}
 use mathlib.Core.Logic.{_⊎_, inl, inr}
 use Prim.Native.Nat.{ℕ, _+_, _≤_, max}
 use native.Mathlib.Omega.{arith}
 use lib.ListN.{length}
 use Rattle.exact.specs.Verdict.{Tail, Res, Verdict, join, acc, stop, takes, stops}
-use Rattle.exact.specs.Out.{Out, Reader, finish, reach, margin, Tamed, Tame, shrinks, ok, soft, bad, t-ok, t-soft, t-bad}
+use Rattle.exact.specs.Out.{Out, Reader, finish, margin, Tamed, Tame, shrinks, ok, soft, bad, t-ok, t-soft, t-bad}
 use Rattle.exact.specs.Lang.{Lang, Follow, Exact}
 use Rattle.exact.specs.Comb.{Alt, both, bothR, both-exact, Loses}
-use Rattle.exact.specs.More.{view, Step, OneMore, Which, Meet, meet-loses, both-more, both-new, first, Onward, level, deeper}
+use Rattle.exact.specs.More.{view, OneMore, Which, Meet, meet-loses, both-more, both-new, first, Onward, step-same}
 
 abbrev pub merge : {X : Type 0} → Out X → Out X → Out X
 merge (bad p) (bad q) = bad (max p q)
@@ -107,23 +107,6 @@ or-exact {A = A} {B} {r = r} {q} apart ea eb =
     }
 
 -- ONE MORE
-unview : {X : Type 0} (o : Out X) (p : ℕ) → view o ≡ bad p → o ≡ bad p
-unview (ok v a t) p e = let z : _≡_ {A = ℕ} 0 1 = cc in absurd (omega arith)
-unview (soft q v a t) p e = let z : _≡_ {A = ℕ} 0 1 = cc in absurd (omega arith)
-unview (bad q) p e = e
-
-reach-view : {X : Type 0} (o : Out X) → reach (view o) ≡ reach o
-reach-view (ok v a t) = omega arith
-reach-view (soft p v a t) = omega arith
-reach-view (bad p) = refl
-
-pub step-view : {X : Type 0} {at : ℕ} {s : List ℕ} {o₀ o₁ o₂ : Out X} (u₀ u₁ u₂ : Out X) → view u₀ ≡ view o₀ → view u₁ ≡ view o₁ → view u₂ ≡ view o₂
-    → Step at s o₀ o₁ o₂ → Step at s u₀ u₁ u₂
-step-view u₀ u₁ u₂ x y z (level e f) = level (x ∙ (e ∙ sym y)) (x ∙ (f ∙ sym z))
-step-view {o₁ = o₁} u₀ u₁ u₂ x y z (deeper p e l b) =
-    let h : reach u₁ ≡ reach o₁ = sym (reach-view u₁) ∙ (ap reach y ∙ reach-view o₁) in
-    deeper p (unview u₀ p (x ∙ ap view e)) l (omega arith)
-
 module _ {X : Type 0} {w : ℕ → List ℕ → Which} {p q : ℕ → List ℕ → ℕ} where
   -- both were there
   pub or-more : {r₀ r₁ r₂ q₀ q₁ q₂ : Reader X} → OneMore r₀ r₁ r₂ → OneMore q₀ q₁ q₂ → Meet w p q r₀ q₀ → Meet w p q r₁ q₁ → Meet w p q r₂ q₂
@@ -135,7 +118,10 @@ module _ {X : Type 0} {w : ℕ → List ℕ → Which} {p q : ℕ → List ℕ �
         tame₁ = or-tame (x .tame₁) (y .tame₁);
         tame₂ = or-tame (x .tame₂) (y .tame₂);
         climbs = λ at s.
-            step-view
+            step-same
+            _
+            _
+            _
             (merge (r₀ at s) (q₀ at s))
             (merge (r₁ at s) (q₁ at s))
             (merge (r₂ at s) (q₂ at s))
@@ -155,7 +141,10 @@ module _ {X : Type 0} {w : ℕ → List ℕ → Which} {p q : ℕ → List ℕ �
         tame₁ = or-tame (x .tame₁) y₁;
         tame₂ = or-tame (x .tame₂) y₂;
         climbs = λ at s.
-            step-view
+            step-same
+            _
+            _
+            _
             (r₀ at s)
             (merge (r₁ at s) (q₁ at s))
             (merge (r₂ at s) (q₂ at s))

@@ -72,7 +72,7 @@ float-bytes spaced =
     (seq-bytes (digits-bytes spaced) λ ds. seq-bytes (exponent-bytes spaced) λ x. ret-bytes (ds ++ x)))
     λ w. seq-bytes here-bytes λ e. ret-bytes (leaf FLOAT a e (m ++ w))
 
-pub plain-bytes : (spaced : Bool) → Bytes plainbyte (Plain spaced)
+plain-bytes : (spaced : Bool) → Bytes plainbyte (Plain spaced)
 plain-bytes spaced = alt-bytes keywords-bytes (alt-bytes (integer-bytes spaced) (float-bytes spaced))
 
 -- THE OTHER LINE VALUES begin with bytes that no bare key has

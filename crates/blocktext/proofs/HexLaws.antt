@@ -11,6 +11,7 @@ use lib.Dec.{lit<}
 use Rattle.exact.specs.Class.{is, only}
 use Rattle.exact.specs.Out.{Out, bind, fmap, ok, soft, bad, Tame}
 use Rattle.exact.specs.Lang.{retR, byteR}
+use Rattle.exact.specs.Answers.{map-fmap}
 use Rattle.exact.specs.Comb.{seqR, mapR}
 use Rattle.exact.specs.Ll.{wordR}
 use Rattle.exact.specs.Block.{lead}
@@ -42,7 +43,6 @@ use Rattle.blocktext.specs.Leaves.{Begun, Rowed, Further, Furthers, went
 use Rattle.blocktext.specs.Parts.{closes, Closed, Unclosed, no-end, no-close, Closing, Parted, PartAt, below-first, further-plus}
 use Rattle.blocktext.specs.HexLooks.{comment-reach, bare-closed, bare-open, pairs-bad, pairs-closed, pairs-open}
 use Rattle.blocktext.proofs.LineLaws.{spaced-of}
-use Rattle.blocktext.proofs.StringLaws.{map-is}
 use Rattle.blocktext.proofs.PartLaws.{closing, Parting, part-first, part-on, part-small, part-done, part-stop}
 
 -- ---- the rest of a hex line
@@ -362,7 +362,7 @@ module _ (doc : List ℕ) (c : Cursor) (col : ℕ) (i : Asked doc c 62 col) wher
           (property-tail
           ∙ (ap (λ o. bind o (λ _. seqR (byteR (is (only 10))) λ _. mapR (bytesTree (c .at)) (plusR (hexLineR col) (hexLinesR col)))) (closed .is)
           ∙ (ap (λ o. bind o (λ _. mapR (bytesTree (c .at)) (plusR (hexLineR col) (hexLinesR col)))) (byte-is doc (n .at) 10 (peek doc (n .at)) (omega arith) refl (closed .feed))
-          ∙ map-is (bytesTree (c .at)) (plusR (hexLineR col) (hexLinesR col) (n .at + 1) (drop (n .at + 1) doc)))))
+          ∙ map-fmap (bytesTree (c .at)) (plusR (hexLineR col) (hexLinesR col) (n .at + 1) (drop (n .at + 1) doc)))))
           (lit< tt)
           refl
           (sym (add-zero (c .text)))

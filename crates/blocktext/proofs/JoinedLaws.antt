@@ -10,6 +10,7 @@ use lib.Dec.{lit<}
 use Rattle.exact.specs.Class.{is, clash, or-of, within, range-of, _to_, nothing}
 use Rattle.exact.specs.Out.{Out, Reader, bind, fmap, ok, soft, bad, Tame, Firm, f-ok, f-bad}
 use Rattle.exact.specs.Lang.{None, within-bar, weaken}
+use Rattle.exact.specs.Answers.{map-fmap}
 use Rattle.exact.specs.Comb.{mapR}
 use Rattle.exact.specs.Block.{ind, lead, indentedR, indented-exact, ind-fails}
 use Rattle.exact.specs.Lines.{reached}
@@ -37,7 +38,6 @@ use Rattle.blocktext.specs.declared.quotes.Next.{Next}
 use Rattle.blocktext.specs.declared.quotes.Next.the-variants.{Line, Over}
 use Rattle.blocktext.specs.Leaves.{Begun, Rowed, Further, Furthers, went, stopped, block-of}
 use Rattle.blocktext.specs.Parts.{Parted, PartAt, further-plus}
-use Rattle.blocktext.proofs.StringLaws.{map-is}
 use Rattle.blocktext.proofs.PartLaws.{Parting, part-on, part-done, part-stop}
 
 -- ---- where a further line begins
@@ -242,7 +242,7 @@ module _ (doc : List ℕ) (c : Cursor) (col : ℕ) (i : Ready doc c) (low : col 
         (first .bytes)
         (ap (λ o. bind o (joinedMoreR col (c .at)))
         (firm-ok (joinedLineR (c .at) (drop (c .at) doc)) (first .far) (part (first .bytes) (n .at)) (n .at + 1) (drop (n .at + 1) doc) (joinedLine-ll .firm (c .at) (drop (c .at) doc)) (first .reads))
-        ∙ map-is (joinedTree (c .at) (part (first .bytes) (n .at))) (plusR (indentedR col joinedLineR) (furtherR quotes col joinedLineR) (n .at + 1) (drop (n .at + 1) doc)))
+        ∙ map-fmap (joinedTree (c .at) (part (first .bytes) (n .at))) (plusR (indentedR col joinedLineR) (furtherR quotes col joinedLineR) (n .at + 1) (drop (n .at + 1) doc)))
         (lit< tt)
         (first .room)
         (first .end)

@@ -10,6 +10,7 @@ use borrow.Author.Needs.{needs}
 use Rattle.exact.specs.Class.{is, only}
 use Rattle.exact.specs.Out.{Out, bind, fmap, ok, soft, bad}
 use Rattle.exact.specs.Lang.{retR, byteR}
+use Rattle.exact.specs.Answers.{map-fmap}
 use Rattle.exact.specs.Comb.{seqR, mapR}
 use Rattle.exact.specs.Place.{peek, peek-in, byte-is, byte-not, alt-is, alt-not}
 use Rattle.language.specs.Kind.{STRING}
@@ -37,11 +38,6 @@ pub fmap-same : {X Y : Type 0} (f g : X → Y) (o : Out X) → ((x : X) → f x 
 fmap-same f g (ok v a t) h = ap (λ y. ok y a t) (h v)
 fmap-same f g (soft p v a t) h = ap (λ y. soft p y a t) (h v)
 fmap-same f g (bad p) h = refl
-
-pub map-is : {X Y : Type 0} (f : X → Y) (o : Out X) → bind o (λ x. retR (f x)) ≡ fmap f o
-map-is f (ok v a t) = refl
-map-is f (soft p v a t) = refl
-map-is f (bad p) = refl
 
 -- ---- the body below the LF at e
 module _ (doc : List ℕ) (c : Cursor) (e x col : ℕ) (i : Begun doc c e x col) (g : Extent) (b : BodyAt doc e col g) where
@@ -119,7 +115,7 @@ module _ (doc : List ℕ) (col at : ℕ) (h : peek doc at ≡ 96) where
 module _ (tree : ℕ → List Line → Tree) (doc : List ℕ) (col e : ℕ) where
   below-is : peek doc e ≡ 10 → belowR tree col e (drop e doc) ≡ fmap (tree e) (bodyR col (e + 1) (drop (e + 1) doc))
   below-is h =
-      ap (λ o. bind o (λ _. mapR (tree e) (bodyR col))) (byte-is doc e 10 (peek doc e) (omega arith) refl h) ∙ map-is (tree e) (bodyR col (e + 1) (drop (e + 1) doc))
+      ap (λ o. bind o (λ _. mapR (tree e) (bodyR col))) (byte-is doc e 10 (peek doc e) (omega arith) refl h) ∙ map-fmap (tree e) (bodyR col (e + 1) (drop (e + 1) doc))
 
   below-not : (peek doc e ≡ 10 → ⊥) → belowR tree col e (drop e doc) ≡ bad e
   below-not h = ap (λ o. bind o (λ _. mapR (tree e) (bodyR col))) (byte-not doc e 10 (peek doc e) (omega arith) refl h)

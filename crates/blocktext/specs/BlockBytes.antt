@@ -12,10 +12,10 @@ use Rattle.language.specs.BlockText.{Part, partBytes, partEnd, HexRest, HexLine
 use Rattle.exact.specs.Class.{is, only, starts-none}
 use Rattle.exact.specs.Out.{Reader}
 use Rattle.exact.specs.Lang.{Exact, within-same, weaken, byteR, byte-exact}
-use Rattle.exact.specs.Comb.{seqR, mapR, seq-exact, map-exact}
+use Rattle.exact.specs.Comb.{seqR, mapR, seq-exact, map-exact, optionR}
 use Rattle.exact.specs.Ll.{Shape, Ll, seq-ll, relax, wordR, word-ll, byte₁}
 use Rattle.exact.specs.More.{Goes, Shuts, byte-goes, seq-goes}
-use Rattle.characters.specs.Comments.{pieceS, commentR, comment-ll, optionR, option-ll}
+use Rattle.characters.specs.Comments.{pieceS, commentR, comment-ll, option-ll}
 use Rattle.blocktext.specs.Follow.{beyond}
 use Rattle.blocktext.specs.Opens.{Opens, byte-opens, seq-opens}
 use Rattle.blocktext.specs.Led.{ledR, led-exact, led-opens, led-shuts, led-goes}

@@ -12,10 +12,10 @@ use Rattle.language.specs.BlockText.{Line, blank, bodyText, bodyEnd, BodyLine, 
 use Rattle.exact.specs.Class.{is, only, starts-none}
 use Rattle.exact.specs.Out.{Reader}
 use Rattle.exact.specs.Lang.{Exact, within-same, weaken, byteR}
-use Rattle.exact.specs.Comb.{seqR, mapR, seq-exact, manyR}
+use Rattle.exact.specs.Comb.{seqR, mapR, seq-exact, manyR, optionR}
 use Rattle.exact.specs.Ll.{Shape, Ll, ret-ll, seq-ll, star-ll, relax, byte₁}
 use Rattle.exact.specs.More.{Goes, Shuts, byte-goes}
-use Rattle.characters.specs.Comments.{pieceR, pieceS, piece-ll, optionR, option-ll}
+use Rattle.characters.specs.Comments.{pieceR, pieceS, piece-ll, option-ll}
 use Rattle.blocktext.specs.Follow.{beyond}
 use Rattle.blocktext.specs.Opens.{Opens}
 use Rattle.blocktext.specs.Led.{ledR, led-exact, led-opens, led-shuts, led-goes}

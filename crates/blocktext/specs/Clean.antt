@@ -15,10 +15,10 @@ use Rattle.characters.specs.Comments.{piece-clean, comment-clean, option-clean,
 use Rattle.strings.specs.Clean.{quoted-clean, pairs-clean}
 use Rattle.blocktext.specs.LineEnd.{LineEnd}
 
-space-clean : Clean Space
+pub space-clean : Clean Space
 space-clean = byte-clean (only 32) refl
 
-feed-clean : Clean Feed
+pub feed-clean : Clean Feed
 feed-clean = byte-clean (only 10) refl
 
 lineEnd-clean : {X : Type 0} (f : ℕ → X) → Clean (LineEnd f)

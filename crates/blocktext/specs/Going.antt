@@ -1,15 +1,15 @@
 -- A LOOP OVER LINES: as many as there are, by a look, as code reads them one after the other. Assumes nothing.
 use mathlib.Core.Path.{_≡_, refl, sym, ap, subst, _∙_}
-use mathlib.Core.List.{List, [], _∷_, _++_, append-assoc, append-nil}
+use mathlib.Core.List.{List, [], _∷_, _++_, append-nil}
 use mathlib.Core.Bool.{Bool, true, false}
 use Prim.Native.Nat.{ℕ, zero, suc, _+_, _-_, _≤_, _<_, max}
 use native.Mathlib.Omega.{arith}
 use lib.ListN.{length, drop, length-drop}
 use Rattle.exact.specs.Class.{pick}
 use Rattle.exact.specs.Out.{Out, Reader, raise, bind, fmap, Tame, Tamed, forward, ok, soft, bad, t-ok, t-soft, t-bad}
+use Rattle.exact.specs.Answers.{raise-fmap, fmap-none, fmap-join}
 use Rattle.exact.specs.Block.{starG, manyG}
 use Rattle.exact.specs.Lines.{reached}
-use Rattle.exact.specs.Place.{raise-fmap}
 
 -- what was seen to begin before a place raises nothing that is said from there on
 raise-twice : {X : Type 0} (p q : ℕ) (o : Out X) → raise p (raise q o) ≡ raise q (raise p o)
@@ -42,21 +42,11 @@ pub record Going {X : Type 0} (g : List ℕ → Bool) (w : List ℕ → ℕ) (r 
   pub enough : length doc ≤ fuel + a
 
 module _ {X : Type 0} (g : List ℕ → Bool) (w : List ℕ → ℕ) (r : Reader X) (doc : List ℕ) where
-  fmap-nil : (o : Out (List X)) → o ≡ fmap ([] ++_) o
-  fmap-nil (ok v a t) = refl
-  fmap-nil (soft p v a t) = refl
-  fmap-nil (bad p) = refl
-
-  fmap-snoc : (vs : List X) (v : X) (o : Out (List X)) → fmap (vs ++_) (fmap (v ∷_) o) ≡ fmap ((vs ++ v ∷ []) ++_) o
-  fmap-snoc vs v (ok x a t) = ap (λ l. ok l a t) (sym (append-assoc vs (v ∷ []) x))
-  fmap-snoc vs v (soft p x a t) = ap (λ l. soft p l a t) (sym (append-assoc vs (v ∷ []) x))
-  fmap-snoc vs v (bad p) = refl
-
   pub going-first : (at : ℕ) → Going g w r doc at at []
   going-first at =
       record {
         fuel = length (drop at doc);
-        is = fmap-nil (manyG g w r at (drop at doc));
+        is = sym (fmap-none (manyG g w r at (drop at doc)));
         enough = let l = length-drop at doc in omega arith;
       }
 
@@ -84,7 +74,7 @@ module _ {X : Type 0} (g : List ℕ → Bool) (w : List ℕ → ℕ) (r : Reader
         by (suc n) x i =
             record {
               fuel = n;
-              is = i ∙ (ap (fmap (vs ++_)) turned ∙ fmap-snoc vs v (starG g w r n b (drop b doc)));
+              is = i ∙ (ap (fmap (vs ++_)) turned ∙ fmap-join vs (v ∷ []) (starG g w r n b (drop b doc)));
               enough = omega arith;
             }
           where

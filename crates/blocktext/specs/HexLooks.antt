@@ -7,7 +7,7 @@ use native.Mathlib.Omega.{arith}
 use lib.ListN.{length, drop}
 use Rattle.language.specs.Strings.{lowhex}
 use Rattle.language.specs.BlockText.{part}
-use Rattle.exact.specs.Class.{pick, clash, is, only, only-no, only-is, none}
+use Rattle.exact.specs.Class.{pick, clash, is, only, only-is, none}
 use Rattle.exact.specs.Out.{Out, Reader, raise, bind, reach, reach-from, Tame, Tamed, forward, ok, soft, bad, t-ok}
 use Rattle.exact.specs.Lang.{retR, byteR}
 use Rattle.exact.specs.Comb.{seqR, seq-tame}
@@ -17,6 +17,7 @@ use Rattle.exact.specs.Block.{lead}
 use Rattle.exact.specs.Lines.{reached}
 use Rattle.exact.specs.Place.{peek, There, there, byte-there, none-there, byte-is, alt-peek}
 use Rattle.characters.specs.Comments.{commentR, comment-ll, optionalCommentR}
+use Rattle.characters.specs.Pieces.{comment-none}
 use Rattle.strings.specs.Bytes.{pairR, pair-ll, pairsR}
 use Rattle.blocktext.specs.LineEnd.{lineEndR}
 use Rattle.blocktext.specs.HexLines.{commentedR, contentR, hexRestR}
@@ -32,13 +33,6 @@ module _ (doc : List ℕ) (at : ℕ) where
   content-comment : peek doc at ≡ 35 → contentR at (drop at doc) ≡ bind (commentR at (drop at doc)) (λ _. retR [])
   content-comment h = content-peek ∙ ap (λ b. pick (is lowhex b) (commentedR at (drop at doc)) (bind (commentR at (drop at doc)) (λ _. retR []))) h
 
-  shut-comment : (peek doc at ≡ 35 → ⊥) → commentR at (drop at doc) ≡ bad at
-  shut-comment h = by (there doc at)
-    where
-      by : There doc at → commentR at (drop at doc) ≡ bad at
-      by (byte-there k) = rw k (rw (only-no 35 (peek doc at) h) refl)
-      by (none-there k z) = rw k refl
-
   shut-pairs : is lowhex (peek doc at) ≡ false → pairsR at (drop at doc) ≡ bad at
   unfolding pairsR pairR
   shut-pairs h = by (there doc at)
@@ -53,7 +47,7 @@ module _ (doc : List ℕ) (at : ℕ) where
     where
       by : (x : Bool) → is lowhex (peek doc at) ≡ x → pick x (commentedR at (drop at doc)) (bind (commentR at (drop at doc)) (λ _. retR [])) ≡ commentedR at (drop at doc)
       by true e = refl
-      by false e = ap (λ o. bind o (λ _. retR [])) (shut-comment h) ∙ sym (ap (λ o. bind o (λ ps. seqR optionalCommentR λ _. retR ps)) (shut-pairs e))
+      by false e = ap (λ o. bind o (λ _. retR [])) (comment-none doc at h) ∙ sym (ap (λ o. bind o (λ ps. seqR optionalCommentR λ _. retR ps)) (shut-pairs e))
 
 -- HOW FAR a further pair would begin, a line comment behind the pairs goes
 spaced-tame : Tame 2 (seqR (wordR (32 ∷ [])) λ _. commentR)

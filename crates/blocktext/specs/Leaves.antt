@@ -1,15 +1,15 @@
 -- THE LEAF of a block that is read line by line: its row, the text of its further lines, and what they make of the block. Assumes nothing.
 use mathlib.Core.Path.{_≡_, refl, sym, ap, subst, _∙_}
-use mathlib.Core.List.{List, [], _∷_, _++_}
+use mathlib.Core.List.{List, _∷_, _++_}
 use mathlib.Core.Bool.{false}
-use Prim.Native.Nat.{ℕ, zero, suc, _+_, _*_, _≤_, _<_}
+use Prim.Native.Nat.{ℕ, _+_, _*_, _≤_, _<_}
 use native.Mathlib.Omega.{arith}
 use lib.ListN.{length, drop, length-append}
 use lib.Seq.{sets}
 use lib.Dec.{leb}
 use borrow.Author.Tests.{lt-leb}
 use Rattle.exact.specs.Out.{Out, fmap, ok, soft, bad}
-use Rattle.exact.specs.Lines.{reached}
+use Rattle.exact.specs.Lines.{soft-reached}
 use Rattle.language.specs.Kind.{TRUE}
 use Rattle.language.specs.Tree.{Tree, leaf, after, width, size, textOf, rowsOf, rowList}
 use Rattle.language.specs.Answered.{limit}
@@ -52,10 +52,6 @@ pub data Furthers {X : Type 0} (doc : List ℕ) (c : Cursor) (parent kind : ℕ)
   went : Further doc c parent kind o ends bytes from x r rows rows' text text' → Furthers doc c parent kind o ends bytes from x r rows rows' text text'
   stopped : (p : ℕ) → r ≡ Bad p → o ≡ bad p → Furthers doc c parent kind o ends bytes from x r rows rows' text text'
 
-far-reached : {X : Type 0} (far : ℕ) (v : X) (a : ℕ) (t : List ℕ) → 0 < far → soft far v a t ≡ reached far v a t
-far-reached zero v a t l = absurd (omega arith)
-far-reached (suc f) v a t l = refl
-
 -- THE BLOCK: a first line of text t, which stands in the room from the cursor on, and the further lines
 pub block-of : {X : Type 0} (doc : List ℕ) (c : Cursor) (parent kind : ℕ) (o : Out X) (ends : X → ℕ) (bytes : X → List ℕ) (from x : ℕ) (r : Block) (R R' T₀ T T' : List ℕ)
     (whole : Out Tree) (t : List ℕ) → whole ≡ fmap (λ v. leaf kind (c .at) (ends v) (t ++ bytes v)) o → TRUE < kind → T ≡ sets T₀ (c .text) t → x ≡ c .text + length t
@@ -76,7 +72,7 @@ block-of doc c parent kind o ends bytes from x r R R' T₀ T T' whole t h k s e 
       taken =
           record {
             tree = leaf kind (c .at) (ends v) (t ++ bytes v);
-            is = h ∙ (ap (fmap (λ v. leaf kind (c .at) (ends v) (t ++ bytes v))) (f .reads) ∙ far-reached (f .far) (leaf kind (c .at) (ends v) (t ++ bytes v)) (f .at) (drop (f .at) doc) (omega (arith, f .ahead, f .few)));
+            is = h ∙ (ap (fmap (λ v. leaf kind (c .at) (ends v) (t ++ bytes v))) (f .reads) ∙ soft-reached (f .far) (leaf kind (c .at) (ends v) (t ++ bytes v)) (f .at) (drop (f .at) doc) (omega (arith, f .ahead, f .few)));
             span =
                 record {
                   ahead = omega (arith, f .few);

@@ -16,7 +16,6 @@ pub mod Clean
 pub mod Vectors
 pub mod Going
 pub mod Spaces
-pub mod Words
 pub mod Pieces
 pub mod Placed
 pub mod Contract

@@ -4,9 +4,9 @@ use mathlib.Core.List.{List, _++_}
 use mathlib.Core.Bool.{false}
 use Prim.Native.Nat.{ℕ}
 use Rattle.notation.specs.Lang.{Lang, Here, here, Byte, byte, Seq, Alt, one, two}
-use Rattle.exact.specs.Class.{Starts, Class, clash, is, starts-left, starts-right}
+use Rattle.exact.specs.Class.{Starts, Class, is, starts-left, starts-right}
 use Rattle.exact.specs.Out.{Reader}
-use Rattle.exact.specs.Ll.{Shape, Begun, by-first, by-null, Ll}
+use Rattle.exact.specs.Ll.{Shape, Ll, begun-starts}
 
 -- every word begins with a byte of the class
 pub record Opens {X : Type 0} (c : Class) (A : Lang X) : Type 0 where
@@ -35,8 +35,4 @@ alt-opens {X} {c} {d} {A} {B} h k = record { opens = go }
     go at s v at′ t (two x) = starts-right c d s (k .opens at s v at′ t x)
 
 pub ll-opens : {X : Type 0} {σ : Shape} {A : Lang X} {r : Reader X} → σ .null ≡ false → Ll σ A r → Opens (σ .first) A
-ll-opens {X} {σ} n l = record { opens = λ at s v at′ t x. go s t (l .begun at s v at′ t x) }
-  where
-    go : (s t : List ℕ) → Begun σ s t → Starts (is (σ .first)) s
-    go s t (by-first z) = z
-    go s t (by-null m z) = absurd (clash m n)
+ll-opens {σ = σ} n l = record { opens = λ at s v at′ t x. begun-starts σ n (l .begun at s v at′ t x) }

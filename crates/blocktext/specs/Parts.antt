@@ -1,18 +1,18 @@
 -- A LINE OF A BLOCK THAT ADDS BYTES, a hex line or one of joined strings, and the lines below it: what code promises of them. Assumes nothing.
-use mathlib.Core.Path.{_≡_, refl, sym, ap, subst, _∙_}
-use mathlib.Core.List.{List, [], _∷_, _++_, append-assoc}
+use mathlib.Core.Path.{_≡_, sym, ap, subst, _∙_}
+use mathlib.Core.List.{List, _∷_, _++_, append-assoc}
 use mathlib.Core.Bool.{Bool, true, false}
 use Prim.Native.Nat.{ℕ, zero, suc, _+_, _≤_, _<_}
 use native.Mathlib.Omega.{arith}
 use lib.ListN.{length, drop, length-append}
 use lib.Seq.{sets}
 use Rattle.exact.specs.Class.{pick, is, only}
-use Rattle.exact.specs.Out.{Out, Reader, bind, fmap, raise, Tame, ok, soft, bad}
-use Rattle.exact.specs.Lang.{retR}
+use Rattle.exact.specs.Out.{Out, Reader, bind, fmap, raise, Tame, ok, bad}
+use Rattle.exact.specs.Answers.{raise-fmap, map-fmap}
 use Rattle.exact.specs.Comb.{mapR}
 use Rattle.exact.specs.Block.{manyG}
 use Rattle.exact.specs.Lines.{reached}
-use Rattle.exact.specs.Place.{peek, raise-fmap}
+use Rattle.exact.specs.Place.{peek}
 use Rattle.language.specs.BlockText.{Part, part, partBytes, partEnd}
 use Rattle.characters.specs.declared.Skip.{Skip}
 use Rattle.characters.specs.declared.Skip.the-variants.{End, Bad}
@@ -65,16 +65,11 @@ PartAt doc c o (No p) text text' = o ≡ bad p
 
 -- LINES BELOW: what the first was seen to begin raises nothing
 module _ {X Y : Type 0} (g : List ℕ → Bool) (w : List ℕ → ℕ) (r : Reader X) (tame : Tame 1 r) where
-  fmap-is : (f : List X → Y) (o : Out (List X)) → bind o (λ vs. retR (f vs)) ≡ fmap f o
-  fmap-is f (ok v a t) = refl
-  fmap-is f (soft p v a t) = refl
-  fmap-is f (bad p) = refl
-
   pub below-first : {U : Type 0} (f : U → List X → Y) (q : ℕ) (u : U) (a : ℕ) (t : List ℕ) → q ≤ a
       → bind (reached q u a t) (λ u. mapR (f u) (manyG g w r)) ≡ fmap (f u) (manyG g w r a t)
-  below-first f zero u a t l = fmap-is (f u) (manyG g w r a t)
+  below-first f zero u a t l = map-fmap (f u) (manyG g w r a t)
   below-first f (suc q) u a t l =
-      ap (raise (suc q)) (fmap-is (f u) (manyG g w r a t))
+      ap (raise (suc q)) (map-fmap (f u) (manyG g w r a t))
       ∙ (raise-fmap (f u) (suc q) (manyG g w r a t) ∙ ap (fmap (f u)) (many-raised g w r tame (suc q) a t l))
 
 -- ONE LINE AND THOSE BELOW IT

@@ -6,8 +6,7 @@ use mathlib.Core.Bool.{Bool, true, false}
 use Prim.Native.Nat.{ℕ, zero, suc, _+_, _-_, _*_, _/_, _%_, _≤_, _<_}
 use native.Mathlib.Omega.{arith}
 use lib.ListN.{length, getD, drop, take, length-append, length-drop, List·getD-append}
-use lib.Seq.{slice, take-append-seam, take-nil, getD-drop}
-use native.Mathlib.Nat.{zero-add, suc-add}
+use lib.Seq.{slice, take-append-seam, getD-drop}
 use lib.Dec.{leb}
 use borrow.Author.Tests.{leb-true, leb-false}
 use Rattle.notation.specs.Lang.{Lang, Seq, _>>=_, _>>_, Star, nil, cons, Plus, Byte, byte, Ret, ret, Map, cat}
@@ -16,21 +15,17 @@ use Rattle.language.specs.BlockText.{line}
 use Rattle.exact.specs.Class.{Class, pick, clash, is, only, only-eq, only-is, nothing, _to_, or-of, range-of, within}
 use Rattle.exact.specs.Out.{Out, Reader, raise, bind, fmap, Tame, Tamed, Firm, f-ok, f-bad, shrinks, forward, rest-of, placed, ok, soft, bad, t-ok, t-soft, t-bad}
 use Rattle.exact.specs.Lang.{None, Exact, within-bar, weaken, retR, byteR}
+use Rattle.exact.specs.Answers.{map-fmap}
 use Rattle.exact.specs.Comb.{seqR, mapR, starR, manyR}
 use Rattle.exact.specs.Ll.{Shape, Ll, ret-ll, seq-ll, star-ll, relax, byte₁}
 use Rattle.exact.specs.More.{ll-shuts}
-use Rattle.exact.specs.Place.{peek, peek-cons}
+use Rattle.exact.specs.Place.{peek, peek-cons, slice-at}
+use Rattle.exact.specs.Sound.{word-read}
 use Rattle.characters.specs.Comments.{pieceR, pieceS, piece-ll, piecesR}
 use Rattle.blocktext.specs.Plus.{plusR}
-use Rattle.blocktext.specs.Words.{word-read}
 
 abbrev pub solidR : Reader (List ℕ)
 solidR = mapR cat (plusR pieceR (manyR (is (pieceS .first)) pieceR))
-
-slice-at : (d n : ℕ) (l : List ℕ) → take n (drop d l) ≡ slice d (d + n) l
-slice-at zero n l = rw zero-add
-slice-at (suc d) n [] = rw (take-nil n, take-nil (suc d + n)) refl
-slice-at (suc d) n (x ∷ l) = rw (suc-add d n) (slice-at d n l)
 
 -- FUEL: as many turns as there are bytes are enough
 module _ {X : Type 0} (f : ℕ → Bool) (r : Reader X) (tame : Tame 1 r) where
@@ -53,11 +48,6 @@ module _ {X : Type 0} (f : ℕ → Bool) (r : Reader X) (tame : Tame 1 r) where
 piece-tame : Tame 1 pieceR
 piece-tame = piece-ll .exact .moves
 
-ret-map : {X Y : Type 0} (g : X → Y) (o : Out X) → bind o (λ x. retR (g x)) ≡ fmap g o
-ret-map g (ok v a t) = refl
-ret-map g (soft p v a t) = refl
-ret-map g (bad p) = refl
-
 begun : (at b : ℕ) (s : List ℕ) → is (pieceS .first) b ≡ true → piecesR at (b ∷ s) ≡ solidR at (b ∷ s)
 begun at b s e = rw e (ap (λ o. bind o (λ ps. retR (cat ps))) (by (pieceR at (b ∷ s)) (piece-tame .tame at (b ∷ s))))
   where
@@ -67,12 +57,12 @@ begun at b s e = rw e (ap (λ o. bind o (λ ps. retR (cat ps))) (by (pieceR at (
     by : (o : Out (List ℕ)) → Tamed 1 at (b ∷ s) o
         → bind o (λ v a t. fmap (v ∷_) (starR f pieceR (length s) a t)) ≡ bind o (λ v a t. bind (starR f pieceR (length t) a t) (λ vs. retR (v ∷ vs)))
     by (ok v a t) (t-ok x) =
-        ap (fmap (v ∷_)) (star-fuel f pieceR piece-tame (length s) (length t) a t (omega (arith, shrinks x)) (omega arith)) ∙ sym (ret-map (v ∷_) (starR f pieceR (length t) a t))
+        ap (fmap (v ∷_)) (star-fuel f pieceR piece-tame (length s) (length t) a t (omega (arith, shrinks x)) (omega arith)) ∙ sym (map-fmap (v ∷_) (starR f pieceR (length t) a t))
     by (soft p v a t) (t-soft _ x l) =
         ap
         (raise p)
         (ap (fmap (v ∷_)) (star-fuel f pieceR piece-tame (length s) (length t) a t (omega (arith, shrinks x)) (omega arith))
-        ∙ sym (ret-map (v ∷_) (starR f pieceR (length t) a t)))
+        ∙ sym (map-fmap (v ∷_) (starR f pieceR (length t) a t)))
     by (bad p) x = refl
 
 -- THE ANSWER for one or more, by that for as many as there are

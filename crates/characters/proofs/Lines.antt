@@ -196,8 +196,8 @@ module _ (doc : List ℕ) (at i : ℕ) (a : Along doc at i) where
       pub lines-less : length doc - m < length doc - i
       lines-less = let g = piece-ahead doc i n (ends-of doc i (pieceR i (drop i doc)) r n e h) in omega (arith, s .behind, s .inside)
 
-pub lines-first : (doc : List ℕ) (at i : ℕ) → Smooth doc at i → Along doc at i
-lines-first doc at i s = s .on at (along-first doc at)
+pub lines-first : (doc : List ℕ) (at m i : ℕ) → Smooth doc at m → Smooth doc m i → Along doc at i
+lines-first doc at m i s t = t .on at (s .on at (along-first doc at))
 
 pub ruleset lines = (lines-over, lines-end, lines-bad, lines-on, lines-in, lines-less, lines-first, needs)
 

@@ -6,7 +6,7 @@ use Prim.Native.Nat.{ℕ}
 use Rattle.exact.specs.Class.{Class, is, only}
 use Rattle.exact.specs.Out.{Reader}
 use Rattle.exact.specs.Lang.{Lang, retR, byteR}
-use Rattle.exact.specs.Comb.{seqR, mapR, altR, manyR, cat}
+use Rattle.exact.specs.Comb.{seqR, mapR, manyR, cat, optionR}
 use Rattle.exact.specs.Ll.{Shape, Ll, ret-ll, retS, byte₁, seq-ll, alt-ll, altS, star-ll, relax, wordR, word-ll}
 use Rattle.language.specs.Characters.{dark, Piece, Comment, Option, LineComment}
 use Rattle.utf8.specs.Char.{charR, charS, char-ll}
@@ -59,9 +59,6 @@ pub lineComment-clean : Clean LineComment
 lineComment-clean = seq-clean (word-clean (32 ∷ 32 ∷ []) refl) λ _. comment-clean
 
 -- AN A, OR NOTHING
-abbrev pub optionR : Class → Reader (List ℕ) → Reader (List ℕ)
-optionR c r = altR (is c) r (retR [])
-
 abbrev pub optionS : Shape → Shape
 optionS σ = altS σ retS
 

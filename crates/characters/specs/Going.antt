@@ -1,7 +1,7 @@
 -- What a loop over the bytes of a character of 128 or more learns: where it ends and that a scalar value is spelt there, or the byte that refuses it.
 -- Assumes nothing.
 use mathlib.Core.Path.{_≡_, refl, sym, ap, subst, _∙_}
-use mathlib.Core.List.{List, [], _∷_, _++_, append-assoc, append-nil}
+use mathlib.Core.List.{List, [], _∷_, _++_, append-nil}
 use mathlib.Core.Logic.{_⊎_, inl, inr}
 use mathlib.Core.Bool.{Bool, true, false}
 use Prim.Native.Nat.{ℕ, suc, _+_, _≤_, _<_}
@@ -13,7 +13,8 @@ use lib.Seq.{drop-cons, drop-append-le, take-suc, length-take-le, slice, slice-e
 use lib.Dec.{leb}
 use borrow.Author.Tests.{leb-true, le-leb, lt-leb, eq-eqb, ne-eqb}
 use Rattle.exact.specs.Class.{Class, pick, clash, is, or-of}
-use Rattle.exact.specs.Out.{Out, fmap, ok, soft, bad}
+use Rattle.exact.specs.Out.{Out, fmap, ok, bad}
+use Rattle.exact.specs.Answers.{fmap-none, fmap-join}
 use Rattle.exact.specs.Run.{steps, runL}
 use Rattle.language.specs.Characters.{ascii, character, utf8, wide}
 use Rattle.utf8.specs.Utf8.{At, leads, follow, kind, lively, finished, live, full, next, start, done, dead, one-more, two-more, after-c2, after-e0, after-ed, after-ef, after-ef-b7, after-f0, after-f1, after-f4, plane-end, last, char-inside, charR}
@@ -75,17 +76,7 @@ module _ (c d : Class) where
       by true e = ap (fmap (b ∷_)) (run-same s (follow leads b) (suc at) (inr (followed (λ c σ. leb 1 (left-of σ)) leads b refl e .2)))
       by false e = refl
 
--- a piece more in front
-fmap-nil : (o : Out (List ℕ)) → fmap ([] ++_) o ≡ o
-fmap-nil (ok v a t) = refl
-fmap-nil (soft p v a t) = refl
-fmap-nil (bad p) = refl
-
-fmap-snoc : (w : List ℕ) (b : ℕ) (o : Out (List ℕ)) → fmap (w ++_) (fmap (b ∷_) o) ≡ fmap ((w ++ b ∷ []) ++_) o
-fmap-snoc w b (ok v a t) = ap (λ l. ok l a t) (sym (append-assoc w (b ∷ []) v))
-fmap-snoc w b (soft p v a t) = ap (λ l. soft p l a t) (sym (append-assoc w (b ∷ []) v))
-fmap-snoc w b (bad p) = refl
-
+-- a byte more
 slice-snoc : (doc : List ℕ) (at i : ℕ) → at ≤ i → i < length doc → slice at (suc i) doc ≡ slice at i doc ++ getD doc i 0 ∷ []
 slice-snoc doc at i h l =
     let n = length-take-le i doc (omega arith) in
@@ -160,7 +151,7 @@ going-first doc at =
       inside = refl;
       behind = omega arith;
       bytes = ap (steps (next ascii) full live start) (slice-empty at doc);
-      same = sym (fmap-nil (charR ascii at (drop at doc))) ∙ ap (λ w. fmap (w ++_) (charR ascii at (drop at doc))) (sym (slice-empty at doc));
+      same = sym (fmap-none (charR ascii at (drop at doc))) ∙ ap (λ w. fmap (w ++_) (charR ascii at (drop at doc))) (sym (slice-empty at doc));
     }
 
 module _ (doc : List ℕ) (at i s : ℕ) (g : Going doc at i s) where
@@ -193,7 +184,7 @@ module _ (doc : List ℕ) (at i s : ℕ) (g : Going doc at i s) where
         stopped
         (fmap (getD doc i 0 ∷_) (runL (next ascii) full live (drop (suc i) doc) (next ascii (g .state) (getD doc i 0)) (suc i)))
         (rw (byte-next, code-live (next ascii (g .state) (getD doc i 0)) (λ k. z (sym to-code ∙ k))) refl)
-        ∙ (fmap-snoc (slice at i doc) (getD doc i 0) (runL (next ascii) full live (drop (suc i) doc) (next ascii (g .state) (getD doc i 0)) (suc i))
+        ∙ (fmap-join (slice at i doc) (getD doc i 0 ∷ []) (runL (next ascii) full live (drop (suc i) doc) (next ascii (g .state) (getD doc i 0)) (suc i))
         ∙ ap (λ w. fmap (w ++_) (runL (next ascii) full live (drop (suc i) doc) (next ascii (g .state) (getD doc i 0)) (suc i))) (sym (slice-snoc doc at i (g .behind) l)))
 
     bytes-by : steps (next ascii) full live start (slice at (suc i) doc) ≡ next ascii (g .state) (getD doc i 0)

@@ -10,6 +10,7 @@ use borrow.Author.Tests.{le-leb, lt-leb}
 use Rattle.exact.specs.Class.{Class, pick, clash, is, only, left, right, is-right, and-of}
 use Rattle.exact.specs.Out.{Out, ok, soft, bad, bind, fmap, reach, reach-from, Tamed, tamed-bind, tamed-fmap, forward, t-ok, t-soft, t-bad}
 use Rattle.exact.specs.Lang.{retR, ret-exact}
+use Rattle.exact.specs.Answers.{map-fmap}
 use Rattle.exact.specs.Comb.{seqR, seq-tame, manyR, starR, cat}
 use Rattle.exact.specs.Run.{runL, run-exact}
 use Rattle.exact.specs.Place.{peek, run, runEnd, run-end, many-run, byte-is, byte-not, alt-is, alt-not}
@@ -125,11 +126,6 @@ pub record Along (doc : List ℕ) (at i : ℕ) : Type 0 where
   pub same : piecesR at (drop at doc) ≡ fmap joined (starR (is first-byte) pieceR turns i (drop i doc))
   pub enough : length doc ≤ turns + i
   pub behind : at ≤ i
-
-map-fmap : {X Y : Type 0} (g : X → Y) (o : Out X) → bind o (λ x. retR (g x)) ≡ fmap g o
-map-fmap g (ok v a t) = refl
-map-fmap g (soft p v a t) = refl
-map-fmap g (bad p) = refl
 
 fmap-cons : (g : List (List ℕ) → List ℕ) (v : List ℕ) (o : Out (List (List ℕ))) → fmap g (fmap (v ∷_) o) ≡ fmap (λ vs. g (v ∷ vs)) o
 fmap-cons g v (ok vs a t) = refl

@@ -88,8 +88,8 @@ fn smooth_end(doc: &[u8], at: usize) -> usize
     requires { ⌜ at ≤ length (now doc) ⌝ }
     ensures { λ r. ⌜ Smooth (now (doc .entry)) at r ⌝ }
 {
-    let mut i = blocks_end(&*doc, at);
-    let mut last = i;
+    let mut i = at;
+    let mut last = at;
     while i < doc.len() {
         let b = doc[i];
         if b < 32 {
@@ -106,12 +106,13 @@ fn smooth_end(doc: &[u8], at: usize) -> usize
     last
 }
 
-// The pieces from `at` on, as many as there are.
+// The pieces from `at` on, as many as there are. Blocks are looked for once: behind them there are spaces at a block's end, a wide character or the line's end.
 pub fn pieces(doc: &[u8], at: usize) -> Skip
     requires { ⌜ at ≤ length (now doc) ⌝ }
     ensures { λ r. ⌜ Skips (now (doc .entry)) at (piecesR at (drop at (now (doc .entry)))) r ⌝ }
 {
-    let mut i = smooth_end(&*doc, at);
+    let far = blocks_end(&*doc, at);
+    let mut i = smooth_end(&*doc, far);
     while i < doc.len() {
         match piece(&*doc, i) {
             Skip::Bad(p) => {

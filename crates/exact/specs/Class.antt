@@ -74,6 +74,13 @@ none (r ∷ c) d b e x y = go (and-of (apart₂ r d) (apart c d) e) (or-of (with
     go u (inl z) ih = none₂ r d b (u .0) z y
     go u (inr z) ih = ih (u .1) z
 
+pub apart-no : (c d : Class) (b : ℕ) → apart c d ≡ true → is c b ≡ true → is d b ≡ false
+apart-no c d b h e = by (is d b) refl
+  where
+    by : (x : Bool) → is d b ≡ x → x ≡ false
+    by true x = absurd (none c d b h e x)
+    by false x = refl
+
 pub left : (c d : Class) (b : ℕ) → is c b ≡ true → is (c ++ d) b ≡ true
 left [] d b e = absurd (clash e refl)
 left (r ∷ c) d b e = go (within r b) e (left c d b)

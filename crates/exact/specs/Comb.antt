@@ -8,7 +8,7 @@ use native.Mathlib.Omega.{arith}
 use lib.ListN.{length, take, drop}
 pub use Rattle.notation.specs.Lang.{Seq, _>>=_, _>>_, Map, Alt, one, two, Star, nil, cons, cat}
 use Rattle.exact.specs.Verdict.{Tail, Res, Begins, either, Verdict, same, join, union, early, early-end, acc, stop, stops}
-use Rattle.exact.specs.Class.{Starts, pick, clash, apart}
+use Rattle.exact.specs.Class.{Starts, pick, clash, apart, Class, is}
 use Rattle.exact.specs.Out.{Out, Reader, raise, bind, fmap, finish, finish-raise, finish-bind, finish-fmap, reach, count, behind, Tamed, Tame, moves-none, tamed-less, tamed-pick, tamed-fmap, tamed-bind, ok, soft, bad, t-ok, t-soft, t-bad}
 use Rattle.exact.specs.Lang.{Lang, Then, Follow, bar, Fits, fits-bar, Exact, within-none, within-same, weaken, Ret, retR, ret-then, ret-exact, byteR, ret}
 
@@ -111,6 +111,10 @@ flip P Q t w (inr x) = inl x
 abbrev pub altR : {X : Type 0} → (ℕ → Bool) → Reader X → Reader X → Reader X
 altR f r q at [] = q at []
 altR f r q at (b ∷ s) = pick (f b) (r at (b ∷ s)) (q at (b ∷ s))
+
+-- one, or nothing
+abbrev pub optionR : Class → Reader (List ℕ) → Reader (List ℕ)
+optionR c r = altR (is c) r (retR [])
 
 pub alt-tame : {X : Type 0} {d : ℕ} {r q : Reader X} (f : ℕ → Bool) → Tame d r → Tame d q → Tame d (altR f r q)
 alt-tame {d = d} {r} {q} f m n = record { tame = go }

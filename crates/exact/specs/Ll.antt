@@ -69,7 +69,7 @@ seqS σ τ =
       follow = τ .follow ++ when (τ .null) (σ .follow);
     }
 
-need-and : (a b : Bool) → need (and a b) ≤ need a + need b
+pub need-and : (a b : Bool) → need (and a b) ≤ need a + need b
 need-and true b = omega arith
 need-and false b = omega arith
 
@@ -80,6 +80,12 @@ first-of false c t e x = absurd (clash e refl)
 and-true : (a b : Bool) → a ≡ true → b ≡ true → and a b ≡ true
 and-true true b p q = q
 and-true false b p q = p
+
+pub begun-seq : (σ τ : Shape) {s m t : List ℕ} → Begun σ s m → Begun τ m t → Begun (seqS σ τ) s t
+begun-seq σ τ {s} (by-first z) w = by-first (starts-left (σ .first) (when (σ .null) (τ .first)) s z)
+begun-seq σ τ {s} (by-null n z) (by-first w) =
+    by-first (starts-right (σ .first) (when (σ .null) (τ .first)) s (first-of (σ .null) (τ .first) s n (subst (λ (l : List ℕ). Starts (is (τ .first)) l) (sym z) w)))
+begun-seq σ τ (by-null n z) (by-null n′ w) = by-null (and-true (σ .null) (τ .null) n n′) (z ∙ w)
 
 module _ {X Y : Type 0} {σ τ : Shape} {A : Lang X} {B : X → Lang Y} {r : Reader X} {q : X → Reader Y} (e : apart (τ .first) (σ .follow) ≡ true)
     (la : Ll σ A r) (lb : (x : X) → Ll τ (B x) (q x)) where
@@ -93,13 +99,7 @@ module _ {X Y : Type 0} {σ τ : Shape} {A : Lang X} {B : X → Lang Y} {r : Rea
           g (starts-right (τ .follow) (when (τ .null) (σ .follow)) t (first-of (τ .null) (σ .follow) t n (subst (λ (l : List ℕ). Starts (is (σ .follow)) l) z f)))
 
   seq-begun : (at : ℕ) (s : List ℕ) (v : Y) (at′ : ℕ) (t : List ℕ) → Seq A B at s v at′ t → Begun (seqS σ τ) s t
-  seq-begun at s v at′ t x = go (x .rest) (la .begun at s (x .value) (x .middle) (x .rest) (x .first)) (lb (x .value) .begun (x .middle) (x .rest) v at′ t (x .second))
-    where
-      go : (m : List ℕ) → Begun σ s m → Begun τ m t → Begun (seqS σ τ) s t
-      go m (by-first z) w = by-first (starts-left (σ .first) (when (σ .null) (τ .first)) s z)
-      go m (by-null n z) (by-first w) =
-          by-first (starts-right (σ .first) (when (σ .null) (τ .first)) s (first-of (σ .null) (τ .first) s n (subst (λ (l : List ℕ). Starts (is (τ .first)) l) (sym z) w)))
-      go m (by-null n z) (by-null n′ w) = by-null (and-true (σ .null) (τ .null) n n′) (z ∙ w)
+  seq-begun at s v at′ t x = begun-seq σ τ (la .begun at s (x .value) (x .middle) (x .rest) (x .first)) (lb (x .value) .begun (x .middle) (x .rest) v at′ t (x .second))
 
   pub seq-ll : Ll (seqS σ τ) (Seq A B) (seqR r q)
   seq-ll =
@@ -122,6 +122,15 @@ module _ {X Y : Type 0} {σ τ : Shape} {A : Lang X} {B : X → Lang Y} {r : Rea
 abbrev pub altS : Shape → Shape → Shape
 altS σ τ = record { null = τ .null; first = σ .first ++ τ .first; follow = (σ .follow ++ τ .follow) ++ when (τ .null) (σ .first) }
 
+-- what is never empty begins with a byte of its class
+pub begun-starts : (σ : Shape) {s t : List ℕ} → σ .null ≡ false → Begun σ s t → Starts (is (σ .first)) s
+begun-starts σ n (by-first z) = z
+begun-starts σ n (by-null m z) = absurd (clash m n)
+
+pub begun-two : (σ τ : Shape) {s t : List ℕ} → Begun τ s t → Begun (altS σ τ) s t
+begun-two σ τ {s} (by-first z) = by-first (starts-right (σ .first) (τ .first) s z)
+begun-two σ τ (by-null m z) = by-null m z
+
 pub need-le : (a : Bool) → need a ≤ 1
 need-le true = omega arith
 need-le false = omega arith
@@ -132,11 +141,7 @@ need-false false e = omega arith
 
 module _ {X : Type 0} {σ τ : Shape} {A B : Lang X} {r q : Reader X} (n : σ .null ≡ false) (e : apart (τ .first) (σ .first) ≡ true) (la : Ll σ A r) (lb : Ll τ B q) where
   alt-starts : (at : ℕ) (s : List ℕ) (v : X) (at′ : ℕ) (t : List ℕ) → A at s v at′ t → Starts (is (σ .first)) s
-  alt-starts at s v at′ t x = go (la .begun at s v at′ t x)
-    where
-      go : Begun σ s t → Starts (is (σ .first)) s
-      go (by-first z) = z
-      go (by-null m z) = absurd (clash m n)
+  alt-starts at s v at′ t x = begun-starts σ n (la .begun at s v at′ t x)
 
   alt-avoids : (at : ℕ) (s : List ℕ) (v : X) (at′ : ℕ) (t : List ℕ) → B at s v at′ t → (Starts (is (altS σ τ .follow)) t → ⊥) → Starts (is (σ .first)) s → ⊥
   alt-avoids at s v at′ t x g f = go (lb .begun at s v at′ t x)
@@ -153,11 +158,7 @@ module _ {X : Type 0} {σ τ : Shape} {A B : Lang X} {r q : Reader X} (n : σ .n
 
   alt-begun : (at : ℕ) (s : List ℕ) (v : X) (at′ : ℕ) (t : List ℕ) → Alt A B at s v at′ t → Begun (altS σ τ) s t
   alt-begun at s v at′ t (one x) = by-first (starts-left (σ .first) (τ .first) s (alt-starts at s v at′ t x))
-  alt-begun at s v at′ t (two x) = go (lb .begun at s v at′ t x)
-    where
-      go : Begun τ s t → Begun (altS σ τ) s t
-      go (by-first z) = by-first (starts-right (σ .first) (τ .first) s z)
-      go (by-null m z) = by-null m z
+  alt-begun at s v at′ t (two x) = begun-two σ τ (lb .begun at s v at′ t x)
 
   pub alt-ll : Ll (altS σ τ) (Alt A B) (altR (is (σ .first)) r q)
   alt-ll =
@@ -193,11 +194,9 @@ starS σ = record { null = true; first = σ .first; follow = σ .follow ++ σ .f
 
 module _ {X : Type 0} {σ : Shape} {A : Lang X} {r : Reader X} (n : σ .null ≡ false) (e : apart (σ .first) (σ .follow) ≡ true) (la : Ll σ A r) where
   star-starts : (at : ℕ) (s : List ℕ) (v : X) (at′ : ℕ) (t : List ℕ) → A at s v at′ t → Starts (is (σ .first)) s × (Starts (is (σ .follow)) s → ⊥)
-  star-starts at s v at′ t x = go (la .begun at s v at′ t x)
-    where
-      go : Begun σ s t → Starts (is (σ .first)) s × (Starts (is (σ .follow)) s → ⊥)
-      go (by-first z) = (z, λ y. starts-none (σ .first) (σ .follow) s e z y)
-      go (by-null m z) = absurd (clash m n)
+  star-starts at s v at′ t x =
+      let z = begun-starts σ n (la .begun at s v at′ t x) in
+      (z, λ y. starts-none (σ .first) (σ .follow) s e z y)
 
   star-begun : (at : ℕ) (s : List ℕ) (v : List X) (at′ : ℕ) (t : List ℕ) → Star A at s v at′ t → Begun (starS σ) s t
   star-begun at s v at′ t nil = by-null refl refl
@@ -231,18 +230,18 @@ module _ {X : Type 0} {σ : Shape} {A : Lang X} {r : Reader X} (n : σ .null ≡
           firm-pick (is (σ .first) b) (firm-bind (λ v a t. fmap (v ∷_) (starR (is (σ .first)) r n a t)) (la .firm at (b ∷ s)) (λ v a t. firm-fmap (v ∷_) (firm-star n a t))) f-ok
 
 -- less is said
+pub begun-inside : (σ τ : Shape) {s t : List ℕ} → σ .null ≡ τ .null → sub (σ .first) (τ .first) ≡ true → Begun σ s t → Begun τ s t
+begun-inside σ τ {s} n e (by-first z) = by-first (starts-inside (σ .first) (τ .first) s e z)
+begun-inside σ τ n e (by-null m z) = by-null (sym n ∙ m) z
+
 pub relax : {X : Type 0} {σ : Shape} (τ : Shape) {A : Lang X} {r : Reader X} → σ .null ≡ τ .null → sub (σ .first) (τ .first) ≡ true → sub (σ .follow) (τ .follow) ≡ true
     → Ll σ A r → Ll τ A r
 relax {X} {σ} τ {A} n e g la =
     record {
       exact = weaken (need (τ .null)) (bar (Starts (is (τ .follow)))) (rw n (omega arith)) (within-bar _ _ (λ t x. starts-inside (σ .follow) (τ .follow) t g x)) (la .exact);
-      begun = λ at s v at′ t x. go s t (la .begun at s v at′ t x);
+      begun = λ at s v at′ t x. begun-inside σ τ n e (la .begun at s v at′ t x);
       firm = la .firm;
     }
-  where
-    go : (s t : List ℕ) → Begun σ s t → Begun τ s t
-    go s t (by-first z) = by-first (starts-inside (σ .first) (τ .first) s e z)
-    go s t (by-null m z) = by-null (sym n ∙ m) z
 
 abbrev pub hereR : Reader ℕ
 hereR at s = ok at at s

@@ -14,7 +14,7 @@ use Rattle.exact.specs.Class.{Starts, pick, clash, Class, is, apart, non
 use Rattle.exact.specs.Out.{Out, Reader, raise, bind, fmap, finish, reach, margin, Tamed, Tame, forward, margin-kept, tamed-less, tamed-fmap, reach-raise, reach-from, reach-bind, ok, soft, bad, t-ok, t-soft, t-bad}
 use Rattle.exact.specs.Lang.{Lang, Then, fits-bar, byteR, byte-tame, End, endR, end-verdict, end-begins, end}
 use Rattle.exact.specs.Comb.{seqR, seq-tame, altR, alt-tame, both, bothR, Loses, tamed-both, starR, manyR, starR-tame, star-tame}
-use Rattle.exact.specs.Ll.{Shape, Begun, Ll, need-false, hereR, by-first, by-null}
+use Rattle.exact.specs.Ll.{Shape, Ll, need-false, hereR, begun-starts}
 use Rattle.exact.specs.Block.{starG, manyG, starG-tame′, starG-tame, indentedR}
 
 -- an answer up to what makes no difference: that ok is soft as far as its own place
@@ -285,18 +285,10 @@ ll-shuts {X} {σ} {A} {r} n l =
         closed end y = y
 
     no : (at b : ℕ) (t : List ℕ) → is (σ .first) b ≡ false → (w : X) → Then A End at (b ∷ t) w → ⊥
-    no at b t e w x = go (l .begun at (b ∷ t) (x .value) (x .next) (x .rest) (x .first))
-      where
-        go : Begun σ (b ∷ t) (x .rest) → ⊥
-        go (by-first z) = clash z e
-        go (by-null z _) = clash z n
+    no at b t e w x = clash (begun-starts σ n (l .begun at (b ∷ t) (x .value) (x .next) (x .rest) (x .first))) e
 
     none-at : (at : ℕ) (w : X) → Then A End at [] w → ⊥
-    none-at at w x = go (l .begun at [] (x .value) (x .next) (x .rest) (x .first))
-      where
-        go : Begun σ [] (x .rest) → ⊥
-        go (by-first z) = z
-        go (by-null z _) = clash z n
+    none-at at w x = begun-starts σ n (l .begun at [] (x .value) (x .next) (x .rest) (x .first))
 
     stop-cons : (at b : ℕ) (s : List ℕ) → is (σ .first) b ≡ false → {f : Res X} → Verdict (Then A End at) at (b ∷ s) f → f ≡ stop at
     stop-cons at b s e (takes w x u) = absurd (no at b s e w x)
@@ -399,11 +391,18 @@ past-both (soft p v a t) (bad q) = omega arith
 past-both (soft p v a t) (ok v′ a′ t′) = omega arith
 past-both (soft p v a t) (soft q v′ a′ t′) = omega arith
 
--- the same as one of the two answers, where that is one that goes no less far
-step-same : {X : Type 0} {at : ℕ} {s : List ℕ} (o₀ o₁ o₂ u₀ u₁ u₂ : Out X) → view u₀ ≡ view o₀ → view u₁ ≡ view o₁ → view u₂ ≡ view o₂ → reach o₁ ≤ reach u₁
+reach-view : {X : Type 0} (o : Out X) → reach (view o) ≡ reach o
+reach-view (ok v a t) = omega arith
+reach-view (soft p v a t) = omega arith
+reach-view (bad p) = refl
+
+-- for answers that give the same and go as far
+pub step-same : {X : Type 0} {at : ℕ} {s : List ℕ} (o₀ o₁ o₂ u₀ u₁ u₂ : Out X) → view u₀ ≡ view o₀ → view u₁ ≡ view o₁ → view u₂ ≡ view o₂
     → Step at s o₀ o₁ o₂ → Step at s u₀ u₁ u₂
-step-same o₀ o₁ o₂ u₀ u₁ u₂ x y z l (level e f) = level (x ∙ (e ∙ sym y)) (x ∙ (f ∙ sym z))
-step-same o₀ o₁ o₂ u₀ u₁ u₂ x y z l (deeper n e m b) = deeper n (seen (bad n) u₀ (ap view (sym e) ∙ sym x)) m (omega arith)
+step-same o₀ o₁ o₂ u₀ u₁ u₂ x y z (level e f) = level (x ∙ (e ∙ sym y)) (x ∙ (f ∙ sym z))
+step-same o₀ o₁ o₂ u₀ u₁ u₂ x y z (deeper n e m b) =
+    let h : reach u₁ ≡ reach o₁ = sym (reach-view u₁) ∙ (ap reach y ∙ reach-view o₁) in
+    deeper n (seen (bad n) u₀ (ap view (sym e) ∙ sym x)) m (omega arith)
 
 module _ {X : Type 0} {w : ℕ → List ℕ → Which} {p q : ℕ → List ℕ → ℕ} where
   pub meet-loses : {r r′ : Reader X} → Meet w p q r r′ → (at : ℕ) (s : List ℕ) → Loses (r at s) (r′ at s) ⊎ Loses (r′ at s) (r at s)
@@ -439,7 +438,6 @@ module _ {X : Type 0} {w : ℕ → List ℕ → Which} {p q : ℕ → List ℕ �
             (view-second p (q₀ at s) (h₀ .1))
             (view-second p (q₁ at s) (h₁ .1))
             (view-second p (q₂ at s) (h₂ .1))
-            (omega (arith, reach-raise p (q₁ at s)))
             (y .climbs at s))
         go at s first p q h₀ h₁ h₂ =
             rw (h₀ .0, h₁ .0, h₂ .0)
@@ -453,7 +451,6 @@ module _ {X : Type 0} {w : ℕ → List ℕ → Which} {p q : ℕ → List ℕ �
             (view-first q (r₀ at s) (h₀ .1))
             (view-first q (r₁ at s) (h₁ .1))
             (view-first q (r₂ at s) (h₂ .1))
-            (past-both (r₁ at s) (bad q))
             (x .climbs at s))
         go at s neither p q h₀ h₁ h₂ = rw (h₀ .0, h₁ .0, h₂ .0, h₀ .1, h₁ .1, h₂ .1) (level refl refl)
 
@@ -489,7 +486,6 @@ module _ {X : Type 0} {w : ℕ → List ℕ → Which} {p q : ℕ → List ℕ �
           refl
           (view-first q (r₁ at s) (h₁ .1))
           (view-first q (r₂ at s) (h₂ .1))
-          (past-both (r₁ at s) (bad q))
           (x .climbs at s))
       go at s second p q (inl b) h₁ h₂ = absurd (second-first b)
       go at s second p q (inr b) h₁ h₂ =

@@ -7,12 +7,13 @@ use native.Mathlib.Nat.{add-zero, zero-add, suc-add}
 use native.Mathlib.Numerals.{add-one}
 use native.Mathlib.Omega.{arith}
 use native.Mathlib.Decide.{decLe}
-use lib.ListN.{length, getD, take, drop, drop-of-length-le, List·getD-eq-default, length-drop}
-use lib.Seq.{drop-cons, drop-drop, slice, take-nil}
+use lib.ListN.{length, getD, take, drop, drop-of-length-le, List·getD-eq-default, length-drop, take-append-drop}
+use lib.Seq.{drop-cons, drop-drop, slice, take-nil, take-take}
 use lib.Dec.{eqb}
 use borrow.Author.Tests.{eqb-true, eqb-false, eq-eqb, ne-eqb}
 use Rattle.exact.specs.Out.{Out, ok, soft, bad, raise, bind, fmap, Reader}
 use Rattle.exact.specs.Lang.{retR, byteR}
+use Rattle.exact.specs.Answers.{raise-bind, raise-fmap, bind-ret}
 use Rattle.exact.specs.Comb.{seqR, altR, starR, manyR}
 use Rattle.exact.specs.Class.{pick, Class, is, only, only-is, only-no, only-yes}
 use Rattle.exact.specs.Ll.{wordR}
@@ -109,10 +110,18 @@ run-le c (b ∷ s) = run-le-by (is c b) (run c s) (length s) (run-le c s)
 abbrev pub runEnd : Class → List ℕ → ℕ → ℕ
 runEnd c doc at = at + run c (drop at doc)
 
-slice-at : (d n : ℕ) (l : List ℕ) → take n (drop d l) ≡ slice d (d + n) l
+pub slice-at : (d n : ℕ) (l : List ℕ) → take n (drop d l) ≡ slice d (d + n) l
 slice-at zero n l = rw zero-add
 slice-at (suc d) n [] = rw (take-nil n, take-nil (suc d + n)) refl
 slice-at (suc d) n (x ∷ l) = rw (suc-add d n) (slice-at d n l)
+
+-- one slice after another
+pub slice-join : (a b e : ℕ) (l : List ℕ) → a ≤ b → b ≤ e → slice a b l ++ slice b e l ≡ slice a e l
+slice-join zero b e l h k = ap (λ x. x ++ drop b (take e l)) (sym (take-take b e l k)) ∙ take-append-drop b (take e l)
+slice-join (suc a) zero e l h k = absurd (omega arith)
+slice-join (suc a) (suc b) zero l h k = absurd (omega arith)
+slice-join (suc a) (suc b) (suc e) [] h k = refl
+slice-join (suc a) (suc b) (suc e) (x ∷ l) h k = slice-join a b e l (omega arith) (omega arith)
 
 module _ (c : Class) (doc : List ℕ) (at : ℕ) where
   pub run-end : manyR (is c) (byteR (is c)) at (drop at doc) ≡ ok (slice at (runEnd c doc at) doc) (runEnd c doc at) (drop (runEnd c doc at) doc)
@@ -152,6 +161,12 @@ unfolding common
 common-le [] s = omega arith
 common-le (w ∷ ws) [] = omega arith
 common-le (w ∷ ws) (b ∷ s) = run-le-by (eqb b w) (common ws s) (length s) (common-le ws s)
+
+pub common-most : (ws s : List ℕ) → common ws s ≤ length ws
+unfolding common
+common-most [] s = omega arith
+common-most (w ∷ ws) [] = omega arith
+common-most (w ∷ ws) (b ∷ s) = run-le-by (eqb b w) (common ws s) (length ws) (common-most ws s)
 
 -- what a loop over the word learns, after n bytes that are the same
 module _ (w doc : List ℕ) (n at : ℕ) where
@@ -209,16 +224,6 @@ listN close r n = seqR r (restR close r n)
 abbrev pub listR : {X : Type 0} → ℕ → Reader X → Reader (List X)
 listR close r = seqR r λ v. seqR (manyR (is (only 44)) (seqR (wordR (44 ∷ 32 ∷ [])) λ _. r)) λ vs. seqR (byteR (is (only close))) λ _. retR (v ∷ vs)
 
-bind-ret : {X Y : Type 0} (g : X → Y) (o : Out ℕ) (x : X) → bind o (λ _. retR (g x)) ≡ fmap g (bind o (λ _. retR x))
-bind-ret g (ok v a t) x = refl
-bind-ret g (soft p v a t) x = refl
-bind-ret g (bad p) x = refl
-
-pub raise-fmap : {X Y : Type 0} (g : X → Y) (p : ℕ) (o : Out X) → raise p (fmap g o) ≡ fmap g (raise p o)
-raise-fmap g p (ok v a t) = refl
-raise-fmap g p (soft q v a t) = refl
-raise-fmap g p (bad q) = refl
-
 -- an element more in front
 module _ {X : Type 0} (close : ℕ) (r : Reader X) (v : X) where
   rest-cons : (w : X) (o : Out (List X))
@@ -228,16 +233,6 @@ module _ {X : Type 0} (close : ℕ) (r : Reader X) (v : X) where
   rest-cons w (soft p vs a t) =
       ap (raise p) (bind-ret (v ∷_) (byteR (is (only close)) a t) (w ∷ vs)) ∙ raise-fmap (v ∷_) p (bind (byteR (is (only close)) a t) (λ _. retR (w ∷ vs)))
   rest-cons w (bad p) = refl
-
-  raise-bind : {Y Z : Type 0} (p : ℕ) (o : Out Y) (q : Y → Reader Z) → bind (raise p o) q ≡ raise p (bind o q)
-  raise-bind p (ok y a t) q = refl
-  raise-bind {Z = Z} p (soft p′ y a t) q = go (q y a t)
-    where
-      go : (o : Out Z) → raise (Prim.Native.Nat.max p p′) o ≡ raise p (raise p′ o)
-      go (ok z a t) = refl
-      go (soft s z a t) = ap (λ n. soft n z a t) (omega arith)
-      go (bad s) = ap bad (omega arith)
-  raise-bind p (bad q′) q = refl
 
   turn : (n : ℕ) (o : Out X)
       → bind (bind o (λ w a t. fmap (w ∷_) (starR (is (only 44)) (seqR (wordR (44 ∷ 32 ∷ [])) λ _. r) n a t))) (λ vs. seqR (byteR (is (only close))) λ _. retR (v ∷ vs))

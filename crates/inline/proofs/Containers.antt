@@ -22,10 +22,10 @@ use Rattle.rooms.specs.Laws
 use Rattle.inline.specs.declared.Sep.{Sep}
 use Rattle.inline.specs.declared.Sep.the-variants.{More, Last, Bad}
 use Rattle.inline.specs.Lists.{listedR}
-use Rattle.inline.specs.Brackets.{opens, closes, kindOf, Member, children, memberR, enclosed, bracketR, closes-small, opens-small, children-none}
+use Rattle.inline.specs.Brackets.{opens, closes, kindOf, Member, children, memberR, enclosed, bracketR, closes-small, opens-small, children-none, count-then}
 use Rattle.inline.specs.Written.{Written, written-none, node-span, node-filled}
 use Rattle.inline.specs.Contract.{Enclosed, onward, Goes, Ends, Stops, Turned}
-use Rattle.inline.proofs.Listing.{within, Loop, count-then, loop-start, written-more, loop-more, loop-last, loop-stops}
+use Rattle.inline.proofs.Listing.{within, Loop, loop-start, written-more, loop-more, loop-last, loop-stops}
 
 -- ---- behind the bracket
 

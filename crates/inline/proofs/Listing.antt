@@ -1,18 +1,19 @@
 -- The loop over the members of a container: its invariant, its start, a turn, and its ways out.
 use mathlib.Core.Path.{_≡_, refl, sym, ap, _∙_}
-use mathlib.Core.List.{List, [], _∷_, _++_, append-assoc}
+use mathlib.Core.List.{List, [], _∷_, _++_}
 use mathlib.Core.Bool.{Bool}
 use Prim.Native.Nat.{ℕ, _+_, _≤_, _<_}
 use native.Mathlib.Omega.{arith}
 use lib.ListN.{length, drop}
 use Rattle.language.specs.Tree.{Tree, count}
 use Rattle.exact.specs.Class.{is}
-use Rattle.exact.specs.Out.{Out, Reader, fmap, ok, soft, bad}
+use Rattle.exact.specs.Out.{Reader, fmap, ok, bad}
+use Rattle.exact.specs.Answers.{fmap-none, fmap-join}
 use Rattle.exact.specs.Place.{peek, peek-in, listR, listN, bounded, list-more, list-last, list-comma, list-other, list-bad}
 use Rattle.rooms.specs.declared.Cursor.{Cursor}
 use Rattle.rooms.specs.Contract.{Ready}
 use Rattle.rooms.specs.Laws
-use Rattle.inline.specs.Brackets.{opens, closes, Member, children, memberR, closes-small, closes-other, opens-small, children-none, children-append}
+use Rattle.inline.specs.Brackets.{opens, closes, Member, children, memberR, closes-small, closes-other, opens-small, children-none, children-append, count-then}
 use Rattle.inline.specs.Written.{Written, written-none, written-append}
 use Rattle.inline.specs.Contract.{Fails, no-first, no-second, Read, Goes, Ends, Stops, no-member, no-part}
 
@@ -35,20 +36,6 @@ pub record Loop (o : Bool) (r : Reader Tree) (doc : List ℕ) (c : Cursor) (R₀
   pub ready : Ready doc cur
   pub few : cnt ≤ cur .at
 
-fmap-nil : {X : Type 0} (o : Out (List X)) → fmap ([] ++_) o ≡ o
-fmap-nil (ok v a t) = refl
-fmap-nil (soft p v a t) = refl
-fmap-nil (bad p) = refl
-
-fmap-then : {X : Type 0} (ms : List X) (m : X) (o : Out (List X)) → fmap (ms ++_) (fmap (m ∷_) o) ≡ fmap ((ms ++ m ∷ []) ++_) o
-fmap-then ms m (ok v a s) = ap (λ l. ok l a s) (sym (append-assoc ms (m ∷ []) v))
-fmap-then ms m (soft p v a s) = ap (λ l. soft p l a s) (sym (append-assoc ms (m ∷ []) v))
-fmap-then ms m (bad p) = refl
-
-pub count-then : {X : Type 0} (ms : List X) (m : X) → count (ms ++ m ∷ []) ≡ count ms + 1
-count-then [] m = refl
-count-then (n ∷ ms) m = let h = count-then ms m in omega arith
-
 module _ (o : Bool) (r : Reader Tree) (doc : List ℕ) (c : Cursor) (R₀ T₀ : List ℕ) where
   pub loop-start : Ready doc c → peek doc (c .at) ≡ opens o → (peek doc (c .at + 1) ≡ closes o → ⊥) → Loop o r doc c R₀ T₀ R₀ T₀ (within c) 0
   loop-start d h z =
@@ -60,7 +47,7 @@ module _ (o : Bool) (r : Reader Tree) (doc : List ℕ) (c : Cursor) (R₀ T₀ :
         listed = z;
         bound = b .bound;
         done = [];
-        rest = b .same ∙ sym (fmap-nil (listN (closes o) (memberR o r) (b .bound) (c .at + 1) (drop (c .at + 1) doc)));
+        rest = b .same ∙ sym (fmap-none (listN (closes o) (memberR o r) (b .bound) (c .at + 1) (drop (c .at + 1) doc)));
         enough = λ m a e l. b .enough m a e;
         counted = refl;
         written = rw (children-none o) (written-none doc (within c) (within c) (c .row) R₀ T₀ (omega arith) (omega arith) refl refl);
@@ -90,7 +77,7 @@ module _ (o : Bool) (r : Reader Tree) (doc : List ℕ) (c : Cursor) (R₀ T₀ :
           listed = l .listed;
           bound = m .0;
           done = l .done ++ g .member ∷ [];
-          rest = rw (q .to) (l .rest ∙ (ap (fmap (l .done ++_)) (m .1) ∙ fmap-then (l .done) (g .member) (listN (closes o) (memberR o r) (m .0) (g .after + 2) (drop (g .after + 2) doc))));
+          rest = rw (q .to) (l .rest ∙ (ap (fmap (l .done ++_)) (m .1) ∙ fmap-join (l .done) (g .member ∷ []) (listN (closes o) (memberR o r) (m .0) (g .after + 2) (drop (g .after + 2) doc))));
           enough = λ v a e h. omega (arith, m .2, q .to);
           counted = omega (arith, l .counted);
           written = written-more g;

@@ -2,13 +2,14 @@
 use mathlib.Core.Path.{_≡_, refl, sym, ap, _∙_}
 use mathlib.Core.List.{List, [], _∷_, _++_}
 use mathlib.Core.Bool.{Bool, true, false}
-use Prim.Native.Nat.{ℕ, _<_, max}
+use Prim.Native.Nat.{ℕ, _<_, _+_}
 use native.Mathlib.Omega.{arith}
 use Rattle.language.specs.Kind.{ARRAY, OBJECT}
 use Rattle.language.specs.Tree.{Tree, node, Field, field, forest, fields, count}
 use Rattle.exact.specs.Class.{is, only}
-use Rattle.exact.specs.Out.{Out, Reader, raise, bind, ok, soft, bad}
+use Rattle.exact.specs.Out.{Reader, bind}
 use Rattle.exact.specs.Lang.{retR, byteR}
+use Rattle.exact.specs.Answers.{bind-bind, bind-same}
 use Rattle.exact.specs.Comb.{seqR}
 use Rattle.exact.specs.Ll.{hereR, wordR}
 use Rattle.strings.specs.Keys.{keyR}
@@ -78,29 +79,13 @@ pub children-append : (o : Bool) (ms ns : List (Member o)) → children o (ms ++
 children-append false ms ns = refl
 children-append true ms ns = fields-append ms ns
 
+pub count-then : {X : Type 0} (ms : List X) (m : X) → count (ms ++ m ∷ []) ≡ count ms + 1
+count-then [] m = refl
+count-then (n ∷ ms) m = let h = count-then ms m in omega arith
+
 -- a pair's key with its colon, which code reads first
 unfoldable pub labelR : Reader Tree
 labelR = seqR keyR λ k. seqR (wordR (58 ∷ 32 ∷ [])) λ _. retR k
-
-raise-raise : {X : Type 0} (p q : ℕ) (o : Out X) → raise (max p q) o ≡ raise p (raise q o)
-raise-raise p q (ok v a t) = refl
-raise-raise p q (soft s v a t) = ap (λ n. soft n v a t) (omega arith)
-raise-raise p q (bad s) = ap bad (omega arith)
-
-raise-bind : {X Y : Type 0} (p : ℕ) (o : Out X) (q : X → Reader Y) → bind (raise p o) q ≡ raise p (bind o q)
-raise-bind p (ok v a t) q = refl
-raise-bind p (soft s v a t) q = raise-raise p s (q v a t)
-raise-bind p (bad s) q = refl
-
-bind-bind : {X Y Z : Type 0} (o : Out X) (f : X → Reader Y) (g : Y → Reader Z) → bind (bind o f) g ≡ bind o (λ v a t. bind (f v a t) g)
-bind-bind (ok v a t) f g = refl
-bind-bind (soft p v a t) f g = raise-bind p (f v a t) g
-bind-bind (bad p) f g = refl
-
-bind-same : {X Y : Type 0} (o : Out X) (f g : X → Reader Y) → ((v : X) (a : ℕ) (t : List ℕ) → f v a t ≡ g v a t) → bind o f ≡ bind o g
-bind-same (ok v a t) f g h = h v a t
-bind-same (soft p v a t) f g h = ap (raise p) (h v a t)
-bind-same (bad p) f g h = refl
 
 pub pair-label : (r : Reader Tree) (at : ℕ) (s : List ℕ) → inlinePairR r at s ≡ bind (labelR at s) (λ k. seqR r λ v. retR (field k v))
 unfolding labelR inlinePairR

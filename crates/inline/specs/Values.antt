@@ -8,11 +8,11 @@ use Rattle.notation.specs.Lang.{Alt, one, two}
 use Rattle.language.specs.Tree.{Tree}
 use Rattle.language.specs.Strings.{String, InlineBytes}
 use Rattle.language.specs.Inline.{InlineArray, InlineObject, Scalar, Value, LineValue}
-use Rattle.exact.specs.Class.{Starts, Class, is, only, clash, apart, starts-left, starts-right, starts-none, nothing}
+use Rattle.exact.specs.Class.{Starts, Class, is, only, apart, starts-left, starts-right, starts-none, nothing}
 use Rattle.exact.specs.Out.{Reader}
 use Rattle.exact.specs.Lang.{Lang, Follow, bar, Exact, within-bar, weaken}
 use Rattle.exact.specs.Comb.{altR, alt-exact}
-use Rattle.exact.specs.Ll.{Shape, Begun, by-first, by-null, Ll, alt-ll, relax}
+use Rattle.exact.specs.Ll.{Shape, Ll, alt-ll, relax, begun-starts}
 use Rattle.numbers.specs.Plain.{plainFirst, plainS, plainR, NumberOn, plain-exact, plain-begun, plain-ll}
 use Rattle.strings.specs.Bytes.{inlineBytesS, inlineBytesR, inlineBytes-ll}
 use Rattle.strings.specs.Quoted.{stringS, stringR, string-ll}
@@ -69,11 +69,7 @@ marks = quotesS .first ++ openings
 module _ (c d : Class) {A B : Lang Tree} {q : Reader Tree} (e : apart d c ≡ true) (lb : Ll (solid d []) B q)
     (starts : (at : ℕ) (s : List ℕ) (v : Tree) (at′ : ℕ) (t : List ℕ) → A at s v at′ t → Starts (is c) s) where
   other-starts : (at : ℕ) (s : List ℕ) (v : Tree) (at′ : ℕ) (t : List ℕ) → B at s v at′ t → Starts (is d) s
-  other-starts at s v at′ t x = go (lb .begun at s v at′ t x)
-    where
-      go : Begun (solid d []) s t → Starts (is d) s
-      go (by-first z) = z
-      go (by-null m z) = absurd (clash m refl)
+  other-starts at s v at′ t x = begun-starts (solid d []) refl (lb .begun at s v at′ t x)
 
   either-exact : {F : Follow} {r : Reader Tree} → Exact 1 A F r → Exact 1 (Alt A B) F (altR (is c) r q)
   either-exact {F} ea =

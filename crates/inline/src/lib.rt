@@ -168,9 +168,7 @@ fn container(
     let mut count: usize = 0;
     loop {
         match member(&*doc, rows, text, cur, row as u32, allow, object) {
-            Sep::Bad(p) => {
-                return Ans::No(p);
-            }
+            Sep::Bad(p) => return Ans::No(p),
             Sep::Last(n) => {
                 enclose(rows, c, n, parent, count + 1, object);
                 return Ans::Ok(n);

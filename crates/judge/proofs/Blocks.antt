@@ -8,21 +8,23 @@ use lib.ListN.{length, drop, length-drop}
 use lib.Seq.{sets}
 use Rattle.language.specs.Tree.{Tree, node, forest, count, endOf, width, size, sizes, textOf, rowsOf, rowss, rowList}
 use Rattle.exact.specs.Out.{Out, fmap, soft, bad}
+use Rattle.exact.specs.Answers.{map-fmap, fmap-none, fmap-join}
 use Rattle.exact.specs.Class.{is}
 use Rattle.exact.specs.Block.{lead, ind-fits}
-use Rattle.exact.specs.Lines.{reached, raised}
+use Rattle.exact.specs.Lines.{reached, raised, soft-reached}
 use Rattle.rooms.specs.declared.Cursor.{Cursor}
 use Rattle.rooms.specs.declared.Block.the-variants.{Done, Bad}
 use Rattle.rooms.specs.Contract.{Ready, Span, Filled, Blocks}
 use Rattle.rooms.specs.Stores.{row-behind}
 use Rattle.rooms.specs.Laws
 use Rattle.inline.specs.Written.{Written, written-none, written-append, sizes-append}
+use Rattle.inline.specs.Brackets.{count-then}
 use Rattle.blocks.specs.Lines.{linesR}
 use Rattle.blocks.specs.Array.{dashedR, bulletR}
 use Rattle.blocks.specs.Nested.{itemR}
 use Rattle.judge.specs.Members.{Member, kindOf, firsts, begin, children, blockOf, memberR, blockR, children-none, children-append, end-last, block-is}
 use Rattle.judge.specs.Contract.{Stands, Again, Ended, Read}
-use Rattle.judge.proofs.Outs.{raised-bad, raised-soft, raised-raised, reached-soft, raised-fmap, map-fmap, fmap-reached, fmap-none, fmap-then}
+use Rattle.judge.proofs.Outs.{raised-bad, raised-soft, raised-raised, raised-fmap, fmap-reached}
 use Rattle.judge.proofs.Turns.{linesN, lines-more, lines-last, lines-bad, enough-lines}
 
 -- where a container at c has its first member, whose row comes next
@@ -64,10 +66,6 @@ start o (m ∷ ms) = begin o m
 start-then : (o : Bool) (ms : List (Member o)) (m u : Member o) → start o ((ms ++ m ∷ []) ++ u ∷ []) ≡ start o (ms ++ m ∷ [])
 start-then o [] m u = refl
 start-then o (x ∷ ms) m u = refl
-
-count-then : {X : Type 0} (ms : List X) (m : X) → count (ms ++ m ∷ []) ≡ count ms + 1
-count-then [] m = refl
-count-then (n ∷ ms) m = let h = count-then ms m in omega arith
 
 block-then : (o : Bool) (ms : List (Member o)) (m : Member o)
     → blockOf o (ms ++ m ∷ []) ≡ node (kindOf o) (start o (ms ++ m ∷ [])) (endOf 0 (children o (m ∷ []))) (count ms + 1) (forest (children o (ms ++ m ∷ [])))
@@ -123,7 +121,7 @@ module _ (o : Bool) (k n : ℕ) (doc : List ℕ) (c : Cursor) (R₀ T₀ : List 
     turned : (out : Out (List (Member o)))
         → raised far (fmap (l .done ++_) (raised f (fmap (g .member ∷_) out))) ≡ raised (max far f) (fmap ((l .done ++ g .member ∷ []) ++_) out)
     turned out =
-        ap (raised far) (sym (raised-fmap (l .done ++_) f (fmap (g .member ∷_) out)) ∙ ap (raised f) (fmap-then (l .done) (g .member) out))
+        ap (raised far) (sym (raised-fmap (l .done ++_) f (fmap (g .member ∷_) out)) ∙ ap (raised f) (fmap-join (l .done) (g .member ∷ []) out))
         ∙ raised-raised far f (fmap ((l .done ++ g .member ∷ []) ++_) out)
 
     again-inside : {a : ℕ} → Again o doc (m .at) n a → a ≤ length doc
@@ -212,7 +210,7 @@ module _ (o : Bool) (k n : ℕ) (doc : List ℕ) (c : Cursor) (R₀ T₀ : List 
                     map-fmap (blockOf o) (linesR (firsts o) n (memberR o k n) (c .at) (drop (c .at) doc))
                     ∙ (ap (fmap (blockOf o)) (last-is p q)
                     ∙ (ap (λ (t : Tree). soft (max (max far f) p) t (m .at) (drop (m .at) doc)) tree-is
-                    ∙ sym (reached-soft (max (max far f) p) (node (kindOf o) (c .at) e (cnt + 1) (forest ts)) (m .at) (drop (m .at) doc) (omega (arith, q .upto)))));
+                    ∙ (soft-reached (max (max far f) p) (node (kindOf o) (c .at) e (cnt + 1) (forest ts)) (m .at) (drop (m .at) doc) (omega (arith, q .upto)))));
                 span = whole-span doc c m parent (kindOf o) e (cnt + 1) ts R₀ R' R'' T₀ T' spare-all written-all;
                 filled = whole-filled doc c m parent (kindOf o) e (cnt + 1) ts R₀ R' R'' T₀ T' spare-all written-all h;
               };

@@ -10,6 +10,7 @@ use borrow.Author.Needs.{needs}
 use Rattle.language.specs.Tree.{Tree, field, sizes}
 use Rattle.exact.specs.Class.{clash, is, only}
 use Rattle.exact.specs.Out.{Out, Reader, Firm, bind, fmap, bad, f-ok, f-bad}
+use Rattle.exact.specs.Answers.{map-fmap}
 use Rattle.exact.specs.Lang.{retR, byteR}
 use Rattle.exact.specs.Comb.{seqR, mapR, altR}
 use Rattle.exact.specs.Place.{peek, peek-in, peek-cons, byte-is, byte-not, alt-is, alt-not}
@@ -31,7 +32,7 @@ use Rattle.blocks.specs.Property.{onR, propertyR}
 use Rattle.blocks.specs.Nested.{nestedR}
 use Rattle.judge.specs.Members.{memberR}
 use Rattle.judge.specs.Contract.{feedR, endsR, Gap, one-space, no-space, two-spaces, Stands, Members}
-use Rattle.judge.proofs.Outs.{map-fmap, fmap-reached}
+use Rattle.judge.proofs.Outs.{fmap-reached}
 use Rattle.judge.proofs.Spans.{key-begins}
 
 -- ---- the readers, by the spaces behind the colon

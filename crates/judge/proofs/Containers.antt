@@ -6,13 +6,12 @@ use Prim.Native.Nat.{ℕ, zero, suc, _+_, _-_, _*_, _≤_, _<_, max}
 use native.Mathlib.Omega.{arith}
 use lib.ListN.{length, drop}
 use lib.Seq.{sets, drop-drop}
-use lib.Dec.{eqb}
 use borrow.Author.Needs.{needs}
-use Rattle.exact.specs.Class.{pick}
 use Rattle.language.specs.Tree.{Tree, entry, sizes, width, rowList}
 use Rattle.exact.specs.Out.{Out, Reader, bind, fmap, bad}
+use Rattle.exact.specs.Answers.{map-fmap}
 use Rattle.exact.specs.Comb.{mapR}
-use Rattle.exact.specs.Place.{common, common-in, word-all, word-part}
+use Rattle.exact.specs.Place.{common, common-in, word-all, word-part, common-most}
 use Rattle.exact.specs.Block.{lead}
 use Rattle.exact.specs.Lines.{spaces, indented-ok, indented-bad}
 use Rattle.rooms.specs.declared.Cursor.{Cursor}
@@ -35,7 +34,7 @@ use Rattle.judge.specs.declared.Next.{Next}
 use Rattle.judge.specs.declared.Next.the-variants.{More, Over}
 use Rattle.judge.specs.Members.{Member, kindOf, memberR, blockR, array-block, object-block}
 use Rattle.judge.specs.Contract.{Stands, endR, Neither, Looked, later, Enclosed, Again, Ended, Follows, Read, Members}
-use Rattle.judge.proofs.Outs.{map-fmap, fmap-reached}
+use Rattle.judge.proofs.Outs.{fmap-reached}
 use Rattle.judge.proofs.Lining.{later-block}
 use Rattle.judge.proofs.Colons.{ready-at, block-from}
 use Rattle.judge.proofs.Blocks
@@ -52,16 +51,6 @@ module _ (o : Bool) (doc : List ℕ) (c : Cursor) (p : ℕ) (out : Out (Member o
   member-refused q z = rw z at w
 
 -- ---- a member
-
-common-most : (ws s : List ℕ) → common ws s ≤ length ws
-unfolding common
-common-most [] s = omega arith
-common-most (w ∷ ws) [] = omega arith
-common-most (w ∷ ws) (b ∷ s) = by (eqb b w) (common-most ws s)
-  where
-    by : (x : Bool) → common ws s ≤ length ws → pick x (suc (common ws s)) 0 ≤ suc (length ws)
-    by true h = omega arith
-    by false h = omega arith
 
 module _ (doc : List ℕ) (c : Cursor) (p k n : ℕ) (o : Bool) (R R' T T' : List ℕ) where
   pub member-property : (b : Block) → o ≡ true → Members true doc c p (memberR true k n (c .at) (drop (c .at) doc)) b R R' T T'

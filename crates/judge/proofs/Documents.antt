@@ -14,11 +14,12 @@ use Rattle.language.specs.Answered.{limit, deepest, Stops}
 use Rattle.exact.specs.Verdict.{Tail, Far, Verdict, acc, stop, stops}
 use Rattle.exact.specs.Class.{is, only, only-yes, only-no}
 use Rattle.exact.specs.Out.{Out, Reader, bind, fmap, finish, Tamed, Tame, forward, tamed-less, ok, bad, t-ok, t-soft, t-bad}
+use Rattle.exact.specs.Answers.{fmap-none, fmap-join}
 use Rattle.exact.specs.Lang.{retR, byteR, endR}
 use Rattle.exact.specs.Comb.{seqR, seq-tame, starR}
 use Rattle.exact.specs.Ll.{byte₁}
 use Rattle.exact.specs.Place.{peek, peek-in, peek-cons, There, byte-there, none-there, there, getD-any, runEnd, run-end, run-over, run-none, run-more}
-use Rattle.exact.specs.Lines.{reached, raised}
+use Rattle.exact.specs.Lines.{reached, raised, raised-ok, bind-reached}
 use Rattle.rooms.specs.declared.Cursor.{Cursor}
 use Rattle.rooms.specs.declared.Ans.{Ans}
 use Rattle.rooms.specs.declared.Ans.the-variants.{Ok, No}
@@ -41,7 +42,6 @@ use Rattle.judge.specs.declared.Start.{Start}
 use Rattle.judge.specs.declared.Start.the-variants.{Dash, Key, Line}
 use Rattle.judge.specs.Members.{blockR, array-block, object-block}
 use Rattle.judge.specs.Contract.{feedR, endR as lineEnd, Looked, later, commentLineR, Finished, Known, Checked, Filled}
-use Rattle.judge.proofs.Outs.{raised-ok, bind-reached, fmap-none, fmap-then}
 use Rattle.judge.proofs.Lining.{later-block}
 use Rattle.judge.proofs.Containers.{looked-dash, looked-key, looked-line}
 
@@ -137,7 +137,7 @@ module _ (doc : List ℕ) (at b : ℕ) (l : Headed doc at) (h : b ≡ peek doc a
           done = l .done ++ k .value ∷ [];
           rest =
               u .1
-              ∙ (ap (λ (o : Out ℕ). fmap (l .done ++_) (bind o (λ v a t. fmap (v ∷_) (hashes (u .0) a t)))) (k .is) ∙ fmap-then (l .done) (k .value) (hashes (u .0) n (drop n doc)));
+              ∙ (ap (λ (o : Out ℕ). fmap (l .done ++_) (bind o (λ v a t. fmap (v ∷_) (hashes (u .0) a t)))) (k .is) ∙ fmap-join (l .done) (k .value ∷ []) (hashes (u .0) n (drop n doc)));
           enough = omega (arith, u .2);
           inside = k .inside;
         }

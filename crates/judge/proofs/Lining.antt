@@ -14,7 +14,7 @@ use Rattle.exact.specs.Out.{Out, Reader, Firm, bind, ok, bad, f-ok, f-bad}
 use Rattle.exact.specs.Lang.{retR, byteR}
 use Rattle.exact.specs.Comb.{seqR, altR}
 use Rattle.exact.specs.Place.{peek, alt-is, alt-not}
-use Rattle.exact.specs.Lines.{reached, raised}
+use Rattle.exact.specs.Lines.{reached, raised, raised-ok, bind-reached}
 use Rattle.rooms.specs.declared.Cursor.{Cursor}
 use Rattle.rooms.specs.declared.Words.{Words}
 use Rattle.rooms.specs.declared.Ans.{Ans}
@@ -43,7 +43,7 @@ use Rattle.blocks.specs.Property.{onR}
 use Rattle.blocks.specs.Openers.{openerR, nestedLineR}
 use Rattle.judge.specs.Members.{kindOf}
 use Rattle.judge.specs.Contract.{Stands, feedR, endsR, endR, later, Enclosed}
-use Rattle.judge.proofs.Outs.{raised-bad, raised-ok, bind-reached}
+use Rattle.judge.proofs.Outs.{raised-bad}
 use Rattle.judge.proofs.Spans.{value-ends, key-leaf}
 
 -- ---- a cursor moved on over bytes that are no tree's

@@ -8,13 +8,14 @@ use lib.ListN.{length, drop, length-drop}
 use lib.Seq.{drop-drop}
 use Rattle.exact.specs.Class.{Class, is}
 use Rattle.exact.specs.Out.{Out, Reader, bind, fmap, ok, soft, bad}
+use Rattle.exact.specs.Answers.{map-fmap, bind-same}
 use Rattle.exact.specs.Comb.{seqR, mapR}
 use Rattle.exact.specs.Place.{left}
 use Rattle.exact.specs.Block.{starG, indentedR, ind, lead, ind-fits}
-use Rattle.exact.specs.Lines.{reached, raised, indented-ok}
+use Rattle.exact.specs.Lines.{reached, raised, indented-ok, bind-reached}
 use Rattle.rooms.specs.Indent.{spaces-lead}
 use Rattle.blocks.specs.Lines.{linesR}
-use Rattle.judge.proofs.Outs.{raised-soft, bind-reached, map-fmap, bind-same}
+use Rattle.judge.proofs.Outs.{raised-soft}
 
 unfoldable pub linesN : {X : Type 0} → Class → ℕ → Reader X → ℕ → Reader (List X)
 linesN c n r k = seqR r λ v. mapR (v ∷_) (starG (ind (is c) n) (lead n) (indentedR n r) k)

@@ -3,12 +3,14 @@ use mathlib.Core.Path.{_≡_, refl, ap}
 use mathlib.Core.List.{List, [], _∷_, _++_}
 use mathlib.Core.Bool.{Bool, true, false}
 use Prim.Native.Nat.{ℕ, suc}
-use Rattle.language.specs.Kind.{ARRAY, OBJECT}
+use Rattle.language.specs.Kind.{ARRAY}
 use Rattle.language.specs.Tree.{Tree, node, Field, field, Entry, entry, forest, count, first, fields, entries, endOf, blockArray, blockObject}
 use Rattle.exact.specs.Class.{Class, only}
 use Rattle.exact.specs.Out.{Reader}
 use Rattle.exact.specs.Comb.{mapR}
 use Rattle.strings.specs.Keys.{keyS}
+use Rattle.inline.specs.Brackets.{fields-append}
+pub use Rattle.inline.specs.Brackets.{kindOf}
 use Rattle.blocks.specs.Lines.{linesR}
 use Rattle.blocks.specs.Property.{propertyR, objectR}
 use Rattle.blocks.specs.Array.{dashedR, arrayR}
@@ -17,10 +19,6 @@ use Rattle.blocks.specs.Nested.{nestedR, itemR}
 abbrev pub Member : Bool → Type 0
 Member false = Entry
 Member true = Field
-
-abbrev pub kindOf : Bool → ℕ
-kindOf false = ARRAY
-kindOf true = OBJECT
 
 -- what a member begins with, and its first byte's place
 abbrev pub firsts : Bool → Class
@@ -59,10 +57,6 @@ object-block k n = refl
 entries-append : (es fs : List Entry) → entries (es ++ fs) ≡ entries es ++ entries fs
 entries-append [] fs = refl
 entries-append (entry d v ∷ es) fs = ap (λ ts. v ∷ ts) (entries-append es fs)
-
-fields-append : (fs gs : List Field) → fields (fs ++ gs) ≡ fields fs ++ fields gs
-fields-append [] gs = refl
-fields-append (field k v ∷ fs) gs = ap (λ ts. k ∷ v ∷ ts) (fields-append fs gs)
 
 pub children-none : (o : Bool) → children o [] ≡ []
 children-none false = refl

@@ -11,8 +11,8 @@ use borrow.Author.Needs.{needs}
 use Rattle.exact.specs.Class.{and, and-of, or-of, within, _to_, range-of, is, only, only-eq}
 use Rattle.exact.specs.Out.{Out, bind, ok}
 use Rattle.exact.specs.Lang.{retR}
-use Rattle.exact.specs.Comb.{seqR, altR}
-use Rattle.exact.specs.Lines.{reached, raised}
+use Rattle.exact.specs.Comb.{seqR, altR, optionR}
+use Rattle.exact.specs.Lines.{reached, raised, bind-reached, raised-ok}
 use Rattle.exact.specs.Place.{peek, peek-in, alt-peek, alt-is, alt-not}
 use Rattle.language.specs.Kind.{INTEGER, FLOAT}
 use Rattle.language.specs.Scalars.{digit, signed}
@@ -20,12 +20,12 @@ use Rattle.numbers.specs.declared.digits.Stretch.{Stretch}
 use Rattle.numbers.specs.declared.scanning.Numeral.{Numeral}
 use Rattle.numbers.specs.Same.{Found, found}
 use Rattle.numbers.specs.Digits.{digitsR}
-use Rattle.numbers.specs.Plain.{sign, optionR, exponentR, fractionR, dottedR, afterR, unsignedR}
+use Rattle.numbers.specs.Plain.{sign, exponentR, fractionR, dottedR, afterR, unsignedR}
 use Rattle.numbers.specs.Places.{squeezed, farAt}
 use Rattle.numbers.specs.Numbers.{float, exponentAt, powerAt, pointAt}
 use Rattle.numbers.specs.Contract.{Grouped, Stands, PastSign, Tight, Powered, no-power, power, Ends, stops, goes, Scanned, refused, integer, floated}
 use Rattle.numbers.proofs.SqueezeLaws.{squeeze-join, squeeze-byte, tight-join, tight-none, tight-byte, tight-group}
-use Rattle.numbers.proofs.ScanLaws.{raised-ok, raised-bad, raised-low, raised-twice, bind-reached, far-le, far-up, one-at, group-over, group-digit, group-read, group-bad, power-not, power-read}
+use Rattle.numbers.proofs.ScanLaws.{raised-bad, raised-low, raised-twice, far-le, far-up, one-at, group-over, group-digit, group-read, group-bad, power-not, power-read}
 
 -- ONE READER FOR ANOTHER: the bytes from at to at′ are read before
 module _ (spaced : Bool) (doc : List ℕ) (at at′ : ℕ) (l : at ≤ at′) (dense dense′ : Bool) (r r′ : List ℕ → List ℕ → Out Found)

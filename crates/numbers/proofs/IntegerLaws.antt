@@ -10,13 +10,14 @@ use lib.Seq.{sets, slice, slice-cons}
 use lib.Dec.{eqb}
 use borrow.Author.Needs.{needs}
 use borrow.Author.Tests.{ne-eqb}
+use Rattle.exact.specs.Place.{slice-join}
 use Rattle.exact.specs.Class.{pick}
 use Rattle.language.specs.Scalars.{minus, signed}
 use Rattle.numbers.specs.declared.scanning.Numeral.{Numeral}
 use Rattle.numbers.specs.Places.{squeezed}
 use Rattle.numbers.specs.Texts.{minusOf, numberText}
 use Rattle.numbers.specs.Contract.{Tight, Storing, Dense, Stored, Whole, Nonzero, Sign, negative, positive, Writing}
-use Rattle.numbers.proofs.SqueezeLaws.{slice-join, squeezed-le, squeeze-join, squeeze-byte, tight-join, tight-byte}
+use Rattle.numbers.proofs.SqueezeLaws.{squeezed-le, squeeze-join, squeeze-byte, tight-join, tight-byte}
 
 -- A PART of what has no spaces has none
 squeezed-full : (u : List ℕ) → length u ≤ length (squeezed u) → squeezed u ≡ u

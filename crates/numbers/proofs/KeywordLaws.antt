@@ -12,7 +12,7 @@ use borrow.Author.Tests.{eqb-true}
 use Rattle.exact.specs.Out.{bind, ok, bad}
 use Rattle.exact.specs.Class.{pick}
 use Rattle.exact.specs.Lang.{retR}
-use Rattle.exact.specs.Place.{common, common-in, word-all, word-part}
+use Rattle.exact.specs.Place.{common, common-in, word-all, word-part, slice-at}
 use Rattle.rooms.specs.declared.Cursor.{Cursor}
 use Rattle.rooms.specs.declared.Words.{Words}
 use Rattle.rooms.specs.declared.Far.the-variants.{Upto, Not}
@@ -20,7 +20,6 @@ use Rattle.rooms.specs.Contract.{Ready, Reaches, Small}
 use Rattle.rooms.specs.Laws.{reaching, not-reached, leaf-text, leaf-bare}
 use Rattle.language.specs.Kind.{TRUE, FLOAT}
 use Rattle.language.specs.Tree.{leaf, width, rowList}
-use Rattle.numbers.specs.Places.{slice-at}
 use Rattle.numbers.specs.Keyword.{keywordR}
 use Rattle.numbers.specs.Contract.{Put}
 

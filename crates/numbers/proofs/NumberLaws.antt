@@ -12,7 +12,7 @@ use borrow.Author.Needs.{needs}
 use Rattle.exact.specs.Out.{Out, bind, soft, bad, Firm}
 use Rattle.exact.specs.Class.{pick, is, only-no}
 use Rattle.exact.specs.Block.{lead}
-use Rattle.exact.specs.Lines.{reached}
+use Rattle.exact.specs.Lines.{reached, bind-reached, raised-ok}
 use Rattle.exact.specs.Place.{peek, alt-not, There, there, byte-there, none-there}
 use Rattle.rooms.specs.declared.Cursor.{Cursor}
 use Rattle.rooms.specs.declared.Words.{Words}
@@ -32,7 +32,6 @@ use Rattle.numbers.specs.Texts.{minusOf, numberText}
 use Rattle.numbers.specs.Plain.{signedR, unsignedR, plainR, plain-ll}
 use Rattle.numbers.specs.Contract.{Stands, Stored, Scanned, refused, integer, floated, Sign, negative, positive, Writing, Leads, minus-leads, digits-lead, NumberAt, Put}
 use Rattle.numbers.proofs.SqueezeLaws.{squeezed-le}
-use Rattle.numbers.proofs.ScanLaws.{bind-reached, raised-ok}
 use Rattle.numbers.proofs.FloatLaws.{stands}
 use Rattle.numbers.proofs.PlainLaws.{close, plain-by, body-number, body-minus, number-two, via-true, via-false, via-infinity, via-nan, via-null, via-minus}
 

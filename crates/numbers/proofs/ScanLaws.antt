@@ -10,9 +10,9 @@ use lib.Seq.{slice, slice-empty}
 use Rattle.exact.specs.Class.{pick, and, and-of, clash, none, is, only, only-yes}
 use Rattle.exact.specs.Out.{Out, bind, ok, soft, bad}
 use Rattle.exact.specs.Lang.{retR}
-use Rattle.exact.specs.Comb.{seqR}
+use Rattle.exact.specs.Comb.{seqR, optionR}
 use Rattle.exact.specs.Block.{lead}
-use Rattle.exact.specs.Lines.{reached, raised}
+use Rattle.exact.specs.Lines.{reached, raised, bind-reached, raised-ok}
 use Rattle.exact.specs.Place.{peek, peek-in, byte-peek, byte-is, alt-peek, There, there, byte-there, none-there}
 use Rattle.language.specs.Kind.{FLOAT}
 use Rattle.language.specs.Scalars.{digit}
@@ -20,7 +20,7 @@ use Rattle.numbers.specs.declared.digits.Stretch.{Stretch}
 use Rattle.numbers.specs.declared.scanning.Numeral.{Numeral}
 use Rattle.numbers.specs.Same.{found}
 use Rattle.numbers.specs.Digits.{digitsR}
-use Rattle.numbers.specs.Plain.{sign, oneR, optionR, exponentR}
+use Rattle.numbers.specs.Plain.{sign, oneR, exponentR}
 use Rattle.numbers.specs.Places.{tailEnd, squeezed, farAt, digits-read, digits-none}
 use Rattle.numbers.specs.Numbers.{afterSign, float, exponentAt}
 use Rattle.numbers.specs.Contract.{Grouped, Tight, Powered, no-power, power}
@@ -29,10 +29,6 @@ use Rattle.numbers.proofs.SqueezeLaws.{squeeze-join, squeeze-byte, tigh
 
 -- HOW FAR: answers that are raised
 module _ {X : Type 0} where
-  pub raised-ok : (f : ℕ) (v : X) (a : ℕ) (t : List ℕ) → raised f (ok v a t) ≡ reached f v a t
-  raised-ok zero v a t = refl
-  raised-ok (suc f) v a t = refl
-
   pub raised-bad : (f p : ℕ) → f ≤ p → raised {X = X} f (bad p) ≡ bad p
   raised-bad zero p h = refl
   raised-bad (suc f) p h = ap bad (omega arith)
@@ -48,10 +44,6 @@ module _ {X : Type 0} where
   raised-twice (suc f) (suc f′) (ok v a t) h = ap (λ n. soft n v a t) (omega arith)
   raised-twice (suc f) (suc f′) (soft q v a t) h = ap (λ n. soft n v a t) (omega arith)
   raised-twice (suc f) (suc f′) (bad q) h = ap bad (omega arith)
-
-pub bind-reached : {X Y : Type 0} (f : ℕ) (v : X) (a : ℕ) (t : List ℕ) (q : X → ℕ → List ℕ → Out Y) → bind (reached f v a t) q ≡ raised f (q v a t)
-bind-reached zero v a t q = refl
-bind-reached (suc f) v a t q = refl
 
 pub far-le : (spaced : Bool) (doc : List ℕ) (at : ℕ) → farAt spaced doc at ≤ at + 1
 unfolding farAt

@@ -2,27 +2,19 @@
 use mathlib.Core.Path.{_≡_, refl, sym, ap, _∙_}
 use mathlib.Core.List.{List, [], _∷_, _++_}
 use mathlib.Core.Bool.{Bool, true, false}
-use Prim.Native.Nat.{ℕ, zero, suc, _+_, _≤_, _<_}
+use Prim.Native.Nat.{ℕ, suc, _+_, _≤_, _<_}
 use native.Mathlib.Numerals.{add-one}
 use native.Mathlib.Omega.{arith}
-use lib.ListN.{length, take, drop, take-append-drop}
-use lib.Seq.{slice, slice-cons, slice-empty, take-take}
+use lib.ListN.{length, drop}
+use lib.Seq.{slice, slice-cons, slice-empty}
 use lib.Dec.{eqb}
 use borrow.Author.Tests.{ne-eqb}
 use Rattle.exact.specs.Class.{pick}
-use Rattle.exact.specs.Place.{peek, runEnd}
+use Rattle.exact.specs.Place.{peek, runEnd, slice-at, slice-join}
 use Rattle.language.specs.Scalars.{digit}
 use Rattle.numbers.specs.declared.digits.Stretch.{Stretch}
-use Rattle.numbers.specs.Places.{squeezed, slice-at, run-dense}
+use Rattle.numbers.specs.Places.{squeezed, run-dense}
 use Rattle.numbers.specs.Contract.{Grouped, Tight}
-
--- one slice after another
-pub slice-join : (a b e : ℕ) (l : List ℕ) → a ≤ b → b ≤ e → slice a b l ++ slice b e l ≡ slice a e l
-slice-join zero b e l h k = ap (λ x. x ++ drop b (take e l)) (sym (take-take b e l k)) ∙ take-append-drop b (take e l)
-slice-join (suc a) zero e l h k = absurd (omega arith)
-slice-join (suc a) (suc b) zero l h k = absurd (omega arith)
-slice-join (suc a) (suc b) (suc e) [] h k = refl
-slice-join (suc a) (suc b) (suc e) (x ∷ l) h k = slice-join a b e l (omega arith) (omega arith)
 
 pub squeezed-append : (u v : List ℕ) → squeezed (u ++ v) ≡ squeezed u ++ squeezed v
 unfolding squeezed

@@ -6,7 +6,7 @@ use mathlib.Core.Bool.{Bool, true, false}
 use Prim.Native.Nat.{ℕ, suc, _+_}
 use native.Mathlib.Omega.{arith}
 use Rattle.notation.specs.Lang.{Byte, byte, Star, two}
-use Rattle.exact.specs.Class.{pick, Starts, clash, and, or, and-of, is, only}
+use Rattle.exact.specs.Class.{pick, Starts, clash, and, or, and-of, is, only, nothing}
 use Rattle.exact.specs.Out.{Reader, bind, Tame, Firm, firm-bind, ok, bad}
 use Rattle.exact.specs.Lang.{bar, None, Exact, within-bar, within-same, weaken, retR, byteR, byte-exact}
 use Rattle.exact.specs.Comb.{seqR, seq-exact, map-exact, altR, manyR}
@@ -53,11 +53,7 @@ further-ll : Ll (record { null = false; first = digit ++ only 32; follow = [] })
 further-ll = relax _ refl refl refl (alt-ll refl refl (byte-ll digit 48 refl) (seq-ll refl (byte₁ 32) λ _. byte-ll digit 48 refl))
 
 further-exact : Exact 1 (Further true) None furtherR
-further-exact = weaken 1 None (omega arith) (within-bar _ None none) (further-ll .exact)
-  where
-    none : (t : List ℕ) → Starts (is []) t → ⊥
-    none [] x = x
-    none (b ∷ t) x = clash x refl
+further-exact = weaken 1 None (omega arith) (within-bar _ None nothing) (further-ll .exact)
 
 pub next-starts : (t : List ℕ) → next t ≡ true → Starts (is digit) t
 next-starts [] e = absurd (clash e refl)

@@ -1,15 +1,15 @@
 -- The combinators of Ll where besides a class of bytes some longer texts may not follow: a space and a digit, after digits with spaces between. Assumes nothing.
-use mathlib.Core.Path.{_≡_, refl, sym, subst, _∙_}
+use mathlib.Core.Path.{_≡_, refl, subst}
 use mathlib.Core.List.{List, [], _∷_, _++_}
 use mathlib.Core.Logic.{_⊎_, inl, inr}
 use mathlib.Core.Bool.{Bool, true, false}
-use Prim.Native.Nat.{ℕ, _+_, _≤_}
+use Prim.Native.Nat.{ℕ, _+_}
 use native.Mathlib.Omega.{arith}
 use Rattle.exact.specs.Class.{Starts, clash, Class, is, and, apart, when, sub, starts-left, starts-right, starts-none, starts-inside}
 use Rattle.exact.specs.Out.{Reader, Firm, firm-bind, firm-pick}
 use Rattle.exact.specs.Lang.{Lang, bar, Exact, within-bar, within-same, weaken}
 use Rattle.exact.specs.Comb.{Seq, seqR, seq-exact, Alt, altR, alt-exact, exact-iff, one, two}
-use Rattle.exact.specs.Ll.{Shape, need, Begun, by-first, by-null, Ll, seqS, altS, need-le, need-false}
+use Rattle.exact.specs.Ll.{Shape, need, Begun, by-first, by-null, Ll, seqS, altS, need-le, need-false, need-and, begun-seq, begun-starts, begun-two, begun-inside}
 
 -- A LOOK: the texts that may not follow, which bytes they begin with, and where readers of what they may not follow are firm
 pub record Look : Type 1 where
@@ -54,22 +54,10 @@ of-ll {σ = σ} g l =
     }
 
 -- one after the other
-need-and : (a b : Bool) → need (and a b) ≤ need a + need b
-need-and true b = omega arith
-need-and false b = omega arith
-
 module _ (g : Look) where
   on-when : (n : Bool) (c : Class) (t : List ℕ) → n ≡ true → On g c t → On g (when n c) t
   on-when true c t e x = x
   on-when false c t e x = absurd (clash e refl)
-
-first-when : (n : Bool) (c : Class) (t : List ℕ) → n ≡ true → Starts (is c) t → Starts (is (when n c)) t
-first-when true c t e x = x
-first-when false c t e x = absurd (clash e refl)
-
-and-true : (a b : Bool) → a ≡ true → b ≡ true → and a b ≡ true
-and-true true b p q = q
-and-true false b p q = p
 
 module _ {X Y : Type 0} {g : Look} {σ τ : Shape} {A : Lang X} {B : X → Lang Y} {r : Reader X} {q : X → Reader Y} (e : apart (τ .first) (σ .follow) ≡ true)
     (h : apart (τ .first) (g .first) ≡ true) (la : Looked g σ A r) (lb : (x : X) → Looked g τ (B x) (q x)) where
@@ -82,13 +70,7 @@ module _ {X Y : Type 0} {g : Look} {σ τ : Shape} {A : Lang X} {B : X → Lang 
           n (on-right g (τ .follow) (when (τ .null) (σ .follow)) t (on-when g (τ .null) (σ .follow) t m (subst (λ (l : List ℕ). On g (σ .follow) l) z f)))
 
   seq-begun : (at : ℕ) (s : List ℕ) (v : Y) (at′ : ℕ) (t : List ℕ) → Seq A B at s v at′ t → Begun (seqS σ τ) s t
-  seq-begun at s v at′ t x = go (x .rest) (la .begun at s (x .value) (x .middle) (x .rest) (x .first)) (lb (x .value) .begun (x .middle) (x .rest) v at′ t (x .second))
-    where
-      go : (m : List ℕ) → Begun σ s m → Begun τ m t → Begun (seqS σ τ) s t
-      go m (by-first z) w = by-first (starts-left (σ .first) (when (σ .null) (τ .first)) s z)
-      go m (by-null n z) (by-first w) =
-          by-first (starts-right (σ .first) (when (σ .null) (τ .first)) s (first-when (σ .null) (τ .first) s n (subst (λ (l : List ℕ). Starts (is (τ .first)) l) (sym z) w)))
-      go m (by-null n z) (by-null n′ w) = by-null (and-true (σ .null) (τ .null) n n′) (z ∙ w)
+  seq-begun at s v at′ t x = begun-seq σ τ (la .begun at s (x .value) (x .middle) (x .rest) (x .first)) (lb (x .value) .begun (x .middle) (x .rest) v at′ t (x .second))
 
   pub seq-looked : Looked g (seqS σ τ) (Seq A B) (seqR r q)
   seq-looked =
@@ -111,11 +93,7 @@ module _ {X Y : Type 0} {g : Look} {σ τ : Shape} {A : Lang X} {B : X → Lang 
 module _ {X : Type 0} {g : Look} {σ τ : Shape} {A B : Lang X} {r q : Reader X} (n : σ .null ≡ false) (e : apart (τ .first) (σ .first) ≡ true) (la : Looked g σ A r)
     (lb : Looked g τ B q) where
   alt-starts : (at : ℕ) (s : List ℕ) (v : X) (at′ : ℕ) (t : List ℕ) → A at s v at′ t → Starts (is (σ .first)) s
-  alt-starts at s v at′ t x = go (la .begun at s v at′ t x)
-    where
-      go : Begun σ s t → Starts (is (σ .first)) s
-      go (by-first z) = z
-      go (by-null m z) = absurd (clash m n)
+  alt-starts at s v at′ t x = begun-starts σ n (la .begun at s v at′ t x)
 
   alt-avoids : (at : ℕ) (s : List ℕ) (v : X) (at′ : ℕ) (t : List ℕ) → B at s v at′ t → (On g (altS σ τ .follow) t → ⊥) → Starts (is (σ .first)) s → ⊥
   alt-avoids at s v at′ t x k f = go (lb .begun at s v at′ t x)
@@ -133,11 +111,7 @@ module _ {X : Type 0} {g : Look} {σ τ : Shape} {A B : Lang X} {r q : Reader X}
 
   alt-begun : (at : ℕ) (s : List ℕ) (v : X) (at′ : ℕ) (t : List ℕ) → Alt A B at s v at′ t → Begun (altS σ τ) s t
   alt-begun at s v at′ t (one x) = by-first (starts-left (σ .first) (τ .first) s (alt-starts at s v at′ t x))
-  alt-begun at s v at′ t (two x) = go (lb .begun at s v at′ t x)
-    where
-      go : Begun τ s t → Begun (altS σ τ) s t
-      go (by-first z) = by-first (starts-right (σ .first) (τ .first) s z)
-      go (by-null m z) = by-null m z
+  alt-begun at s v at′ t (two x) = begun-two σ τ (lb .begun at s v at′ t x)
 
   firm-alt : g .sure → (at : ℕ) (s : List ℕ) → Firm (altR (is (σ .first)) r q at s)
   firm-alt u at [] = lb .firm u at []
@@ -173,13 +147,9 @@ pub relax-looked : {X : Type 0} {g : Look} {σ : Shape} (τ : Shape) {A : Lang X
 relax-looked {X} {g} {σ} τ {A} n e h la =
     record {
       exact = weaken (need (τ .null)) (bar (On g (τ .follow))) (rw n (omega arith)) (within-bar _ _ (λ t x. on-inside g (σ .follow) (τ .follow) t h x)) (la .exact);
-      begun = λ at s v at′ t x. go s t (la .begun at s v at′ t x);
+      begun = λ at s v at′ t x. begun-inside σ τ n e (la .begun at s v at′ t x);
       firm = la .firm;
     }
-  where
-    go : (s t : List ℕ) → Begun σ s t → Begun τ s t
-    go s t (by-first z) = by-first (starts-inside (σ .first) (τ .first) s e z)
-    go s t (by-null m z) = by-null (sym n ∙ m) z
 
 -- a language of the same words
 pub looked-iff : {X : Type 0} {g : Look} {σ : Shape} {A B : Lang X} {r : Reader X}

@@ -6,12 +6,13 @@ use lib.ListN.{drop}
 use Rattle.exact.specs.Class.{pick, is, only}
 use Rattle.exact.specs.Out.{Out, bind}
 use Rattle.exact.specs.Lang.{retR}
+use Rattle.exact.specs.Comb.{optionR}
 use Rattle.exact.specs.Lines.{raised}
 use Rattle.exact.specs.Place.{peek}
 use Rattle.language.specs.Kind.{FLOAT}
 use Rattle.numbers.specs.Places.{farAt}
 use Rattle.numbers.specs.Same.{Found, found}
-use Rattle.numbers.specs.Plain.{sign, optionR, exponentR, dottedR}
+use Rattle.numbers.specs.Plain.{sign, exponentR, dottedR}
 
 -- the place after the sign of an exponent, if it has one
 abbrev pub afterSign : List ℕ → ℕ → ℕ

@@ -2,18 +2,18 @@
 use mathlib.Core.Path.{_≡_, refl, sym, ap, _∙_}
 use mathlib.Core.List.{List, [], _∷_}
 use mathlib.Core.Bool.{Bool, true, false}
-use Prim.Native.Nat.{ℕ, zero, suc, _+_, _≤_, _<_}
+use Prim.Native.Nat.{ℕ, zero, suc, _+_, _≤_}
 use native.Mathlib.Omega.{arith}
 use lib.ListN.{length, take, drop}
-use lib.Seq.{slice, drop-drop, take-nil}
+use lib.Seq.{slice, drop-drop}
 use lib.Dec.{eqb}
 use borrow.Author.Tests.{ne-eqb, eq-eqb}
 use Rattle.exact.specs.Class.{pick, and, or, clash, is, only, none, only-yes, only-eq}
 use Rattle.exact.specs.Out.{bind, fmap, ok, soft, bad}
 use Rattle.exact.specs.Lang.{retR}
 use Rattle.exact.specs.Block.{starG, lead}
-use Rattle.exact.specs.Lines.{reached}
-use Rattle.exact.specs.Place.{peek, run, many-run, there, There, byte-there, none-there}
+use Rattle.exact.specs.Lines.{reached, soft-reached}
+use Rattle.exact.specs.Place.{peek, run, many-run, there, There, byte-there, none-there, slice-at}
 use Rattle.language.specs.Scalars.{digit}
 use Rattle.numbers.specs.Digits.{next, goesOn, furtherR, moreR, digitsR}
 
@@ -112,10 +112,6 @@ run-dense (b ∷ s) = by (is digit b) refl (run-dense s)
     by true e ih = rw (digit-space b e) (ap (b ∷_) ih)
     by false e ih = refl
 
-pub soft-reached : {X : Type 0} (p : ℕ) (v : X) (a : ℕ) (t : List ℕ) → 0 < p → soft p v a t ≡ reached p v a t
-soft-reached zero v a t h = absurd (omega arith)
-soft-reached (suc p) v a t h = refl
-
 pub reached-eq : {X : Type 0} (p p′ : ℕ) {v v′ : X} (a a′ : ℕ) {t t′ : List ℕ} → p ≡ p′ → v ≡ v′ → a ≡ a′ → t ≡ t′ → reached p v a t ≡ reached p′ v′ a′ t′
 reached-eq p p′ a a′ e f g h = rw (e, f, g, h)
 
@@ -136,12 +132,6 @@ digits-list true at b t e =
     (ap (λ o. bind o (λ ds. retR (b ∷ ds))) (more-look (length t) (suc at) t (omega arith))
     ∙ (soft-reached (suc at + k + lead 1 (drop k t)) (b ∷ squeezed (take k t)) (suc at + k) (drop k t) (omega arith)
     ∙ reached-eq (suc at + k + lead 1 (drop k t)) (at + suc k + lead 1 (drop k t)) (suc at + k) (at + suc k) (omega arith) refl (omega arith) refl))
-
--- what is taken behind a place is a slice
-pub slice-at : (d n : ℕ) (l : List ℕ) → take n (drop d l) ≡ slice d (d + n) l
-slice-at zero n l = let e : 0 + n ≡ n = omega arith in rw e
-slice-at (suc d) n [] = take-nil n ∙ sym (ap (drop (suc d)) (take-nil (suc d + n)))
-slice-at (suc d) n (x ∷ l) = let e : suc d + n ≡ suc (d + n) = omega arith in rw e (slice-at d n l)
 
 far-at : (spaced : Bool) (doc : List ℕ) (at : ℕ) → far spaced at (drop at doc) ≡ farAt spaced doc at
 unfolding farAt

@@ -3,11 +3,11 @@ use mathlib.Core.Path.{_≡_, refl}
 use mathlib.Core.List.{List, [], _∷_, _++_}
 use mathlib.Core.Bool.{Bool, true, false}
 use Prim.Native.Nat.{ℕ}
-use Rattle.exact.specs.Class.{Starts, clash, _to_, Class, is, only}
+use Rattle.exact.specs.Class.{Starts, _to_, Class, is, only}
 use Rattle.exact.specs.Out.{Reader}
 use Rattle.exact.specs.Lang.{bar, Exact, retR, byteR}
-use Rattle.exact.specs.Comb.{seqR, mapR, altR}
-use Rattle.exact.specs.Ll.{Shape, Begun, by-first, by-null, Ll, retS, ret-ll, byteS, byte-ll, byte₁, seqS, seq-ll, alt-ll, relax, hereR, here-ll, wordR, wordS, word-ll}
+use Rattle.exact.specs.Comb.{seqR, mapR, altR, optionR}
+use Rattle.exact.specs.Ll.{Shape, Ll, retS, ret-ll, byteS, byte-ll, byte₁, seqS, seq-ll, alt-ll, relax, hereR, here-ll, wordR, wordS, word-ll, begun-starts}
 use Rattle.language.specs.Kind.{NULL, FALSE, TRUE, INTEGER, FLOAT}
 use Rattle.language.specs.Tree.{Tree}
 use Rattle.language.specs.Characters.{Option}
@@ -23,9 +23,6 @@ saidR kind word text = seqR (wordR word) λ _. retR (found kind text)
 
 abbrev pub oneR : Class → Reader (List ℕ)
 oneR c = mapR (λ b. b ∷ []) (byteR (is c))
-
-abbrev pub optionR : Class → Reader (List ℕ) → Reader (List ℕ)
-optionR c r = altR (is c) r (retR [])
 
 abbrev pub sign : Class
 sign = (43 to 43) ∷ (45 to 45) ∷ []
@@ -202,11 +199,7 @@ pub plain-exact : (spaced : Bool) → Exact 1 (Plain spaced) (bar (NumberOn spac
 plain-exact spaced = plain-looked spaced .exact
 
 pub plain-begun : (spaced : Bool) (at : ℕ) (s : List ℕ) (v : Tree) (at′ : ℕ) (t : List ℕ) → Plain spaced at s v at′ t → Starts (is plainFirst) s
-plain-begun spaced at s v at′ t x = go (plain-looked spaced .begun at s v at′ t x)
-  where
-    go : Begun plainS s t → Starts (is plainFirst) s
-    go (by-first e) = e
-    go (by-null n e) = absurd (clash n refl)
+plain-begun spaced at s v at′ t x = begun-starts plainS refl (plain-looked spaced .begun at s v at′ t x)
 
 pub plain-ll : Ll plainS (Plain false) (plainR false)
 plain-ll = to-ll refl (λ t x. x) (plain-looked false)

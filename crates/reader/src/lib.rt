@@ -1,10 +1,9 @@
 // Reads a document into the rooms lent.
-ghost use mathlib.Core.Path.{_≡_};
-ghost use Prim.Native.Nat.{ℕ, _+_, _*_, _≤_, _<_};
+ghost use Prim.Native.Nat.{_≤_};
 ghost use lib.ListN.{length};
-ghost use lib.Seq.{sets, slice};
-ghost use Rattle.language.specs.Answered.{Answered, limit, deepest};
-ghost use Rattle.reader.specs.Filling.{few-bytes, some-bytes, Held, Enough, Texted, Tried};
+ghost use Rattle.language.specs.Answered.{Answered, limit};
+ghost use Rattle.reader.specs.Filling.{few-bytes, some-bytes, Enough, Texted, Tried};
+use answers::answer;
 use judge::blame;
 use judge::pass;
 use language::Answer;
@@ -12,58 +11,13 @@ use language::DEEPEST;
 use language::LIMIT;
 use language::Place;
 use language::WIDTH;
-use repeats::Repeat;
-use repeats::first_repeat;
 use rooms::Ans;
-use rooms::copy;
 
 // Rooms of our own are cleared first, so documents of few and of some bytes have smaller ones. Those for more than few bytes have three rows for eight bytes: enough for
 // all but the densest documents, which are read once more.
 const FEW: usize = 1024;
 
 const SOME: usize = 8192;
-
-// The first n words of a table, stored in another.
-fn copy_words(words: &[u32], n: usize, table: &mut [u32])
-    requires { ⌜ (n ≤ length (now words)) × (n ≤ length (now table)) ⌝ }
-    ensures { λ _. ⌜ now (table .exit) ≡ sets (now (table .entry)) 0 (slice 0 n (now (words .entry))) ⌝ }
-{
-    let mut i = 0;
-    while i < n {
-        table[i] = words[i];
-        i += 1;
-    }
-}
-
-// The answer for a document whose rows and text stand in rooms of our own.
-fn answer(
-    doc: &[u8],
-    rows: &[u32],
-    bytes: &[u8],
-    n: usize,
-    m: usize,
-    table: &mut [u32],
-    text: &mut [u8],
-) -> Answer
-    requires { ⌜ Held (now doc) (now rows) (now bytes) n m ⌝ }
-    ensures { λ r. ⌜ Answered (now (doc .entry)) (now (table .entry)) (now (text .entry)) r (now (table .exit)) (now (text .exit)) ⌝ }
-{
-    match first_repeat(&*rows, &*bytes, n) {
-        Repeat::At(p) => {
-            return Answer::Refused(6, Place(p));
-        }
-        Repeat::Nowhere => {}
-    }
-    if table.len() < WIDTH * n {
-        return Answer::Refused(7, Place(n));
-    }
-    if text.len() < m {
-        return Answer::Refused(8, Place(m));
-    }
-    copy_words(&*rows, WIDTH * n, table);
-    copy(&*bytes, 0, m, text, 0);
-    Answer::Accepted(n, m)
-}
 
 // The answer by rooms of our own that are large enough for any document of so many bytes.
 fn judged(

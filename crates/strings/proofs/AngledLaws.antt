@@ -10,6 +10,7 @@ use borrow.Author.Needs.{needs}
 use Rattle.exact.specs.Class.{pick, is, only}
 use Rattle.exact.specs.Out.{ok, bad, bind, Reader}
 use Rattle.exact.specs.Lang.{retR, byteR}
+use Rattle.exact.specs.Lines.{soft-reached}
 use Rattle.exact.specs.Comb.{seqR}
 use Rattle.exact.specs.Block.{lead}
 use Rattle.exact.specs.Place.{peek, peek-in, There, byte-there, none-there, there, alt-peek, byte-is, byte-not}
@@ -29,7 +30,6 @@ use Rattle.strings.specs.Hexes.{Paired, PairsAt, Closed}
 use Rattle.strings.proofs.TextLaws.{text-refused}
 use Rattle.strings.proofs.LeafLaws.{text-close, spanned-bad, spanned-read}
 use Rattle.strings.proofs.HexLaws.{low-is, low-none, lead-peek}
-use Rattle.strings.proofs.PairsLaws.{reached-far}
 
 -- ---- `>`
 
@@ -116,7 +116,7 @@ module _ (doc : List ℕ) (c : Cursor) (ready : Ready doc c) (b : ℕ) (look : b
               let t = paired .texted in
               let l = t .spelt .ahead in
               inner
-              ∙ (ap (λ o. bind (settled o) closeR) (t .is ∙ sym (reached-far far (t .value) (m .at) (drop (m .at) doc) (omega (arith, paired .far-is))))
+              ∙ (ap (λ o. bind (settled o) closeR) (t .is ∙ sym (soft-reached far (t .value) (m .at) (drop (m .at) doc) (omega (arith, paired .far-is))))
               ∙ rw (space-peek doc (m .at)) refl)
 
           pub angle-pairs : (r : Ans) → Closed doc m far r → Angled r T T'

@@ -1,23 +1,24 @@
 -- What a string has as it stands: plain bytes, and characters of several bytes.
 use mathlib.Core.Path.{_≡_, refl, sym, ap, subst, _∙_}
-use mathlib.Core.List.{List, [], _∷_, _++_}
+use mathlib.Core.List.{List, _++_}
 use mathlib.Core.Bool.{Bool, true, false}
-use Prim.Native.Nat.{ℕ, zero, suc, _+_, _-_, _≤_, _<_}
+use Prim.Native.Nat.{ℕ, _+_, _-_, _≤_, _<_}
 use native.Mathlib.Omega.{arith}
-use lib.ListN.{length, take, drop, getD, take-append-drop, List·getD-eq-default}
-use lib.Seq.{slice, take-take}
+use lib.ListN.{length, drop, getD, List·getD-eq-default}
+use lib.Seq.{slice}
 use borrow.Author.Needs.{needs}
 use borrow.Author.Tests.{lt-leb}
 use Rattle.exact.specs.Class.{is, only, sub, apart}
 use Rattle.exact.specs.Out.{ok, bind, fmap, Tame}
-use Rattle.exact.specs.Place.{peek, getD-any, runEnd, alt-not}
+use Rattle.exact.specs.Answers.{fmap-join}
+use Rattle.exact.specs.Place.{peek, getD-any, runEnd, alt-not, slice-join}
 use Rattle.language.specs.Characters.{ascii, utf8}
 use Rattle.utf8.specs.Char.{charR}
 use Rattle.characters.specs.Reads.{Wide}
 use Rattle.utf8.specs.Utf8.{start}
 use Rattle.characters.specs.Rest.{Rest, rest-whole}
 use Rattle.strings.specs.Quoted.{pieceS, escape-ll, singleEscape-ll}
-use Rattle.strings.specs.Rest.{fmap-join, rest-run, rest-at}
+use Rattle.strings.specs.Rest.{rest-run, rest-at}
 use Rattle.strings.specs.Inside.{Quote, double, single, plainOf, escapesR, leftR, specialR, RunTo, Passing, CleanUpto, CleanTo}
 use Rattle.strings.proofs.PlainLaws.{quote-between, plain-above, plain-ends, passing-first, pass-more}
 
@@ -33,14 +34,6 @@ pub record Sides (q : ℕ) : Type 0 where
 pub sides : {q : ℕ} → Quote q → Sides q
 sides double = record { low = refl; dark = refl; shut = refl; small = omega arith; ending = refl; tame = escape-ll .exact .moves }
 sides single = record { low = refl; dark = refl; shut = refl; small = omega arith; ending = refl; tame = singleEscape-ll .exact .moves }
-
--- one slice after another
-slice-join : (a b e : ℕ) (l : List ℕ) → a ≤ b → b ≤ e → slice a b l ++ slice b e l ≡ slice a e l
-slice-join zero b e l h k = ap (λ x. x ++ drop b (take e l)) (sym (take-take b e l k)) ∙ take-append-drop b (take e l)
-slice-join (suc a) zero e l h k = absurd (omega arith)
-slice-join (suc a) (suc b) zero l h k = absurd (omega arith)
-slice-join (suc a) (suc b) (suc e) [] h k = refl
-slice-join (suc a) (suc b) (suc e) (x ∷ l) h k = slice-join a b e l (omega arith) (omega arith)
 
 module _ (q : ℕ) (doc : List ℕ) (quote : Quote q) where
   -- the bytes from `at` up to e are read as they stand

@@ -13,6 +13,7 @@ use borrow.Author.Needs.{needs}
 use borrow.Author.Tests.{le-leb}
 use Rattle.exact.specs.Class.{pick, clash, or, and, is}
 use Rattle.exact.specs.Out.{ok, bad, fmap}
+use Rattle.exact.specs.Answers.{fmap-none, fmap-join}
 use Rattle.exact.specs.Run.{runL, runR}
 use Rattle.exact.specs.Place.{peek, There, byte-there, none-there, there}
 use Rattle.language.specs.Strings.{hexdigit, hexval, hexNumber, scalar}
@@ -20,7 +21,6 @@ use Rattle.strings.specs.declared.escapes.Coded.the-variants.{Named, Unn
 use Rattle.strings.specs.Code.{scalar-top, num, bust, grow, named, begins, codeR}
 use Rattle.strings.proofs.DigitLaws.{hexval-low, digit-is, digit-none, scalar-high}
 use Rattle.strings.proofs.PlainLaws.{class-in}
-use Rattle.strings.specs.Rest.{fmap-none, fmap-join}
 use Rattle.strings.specs.Contract.{digitOf, DigitAt, state, bound, Digits, Halts, CodeAt}
 
 -- ---- the bounds

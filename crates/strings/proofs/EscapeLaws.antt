@@ -7,14 +7,14 @@ use Prim.Native.Nat.{ℕ, suc, _+_, _/_, _%_, _^_, _≤_, _<_}
 use native.Mathlib.Omega.{arith}
 use lib.ListN.{length, drop, set}
 use lib.Seq.{drop-drop}
-use lib.Dec.{leb, eqb}
+use lib.Dec.{leb}
 use borrow.Author.Needs.{needs}
 use Rattle.exact.specs.Class.{pick, clash, Class, is, only, _to_, inside, range-of, or-of}
 use Rattle.exact.specs.Out.{ok, bad, bind, Reader}
 use Rattle.exact.specs.Lang.{retR, byteR}
 use Rattle.exact.specs.Comb.{seqR}
 use Rattle.exact.specs.Ll.{wordR}
-use Rattle.exact.specs.Place.{peek, peek-in, byte-peek, alt-peek, byte-is, byte-not, common, word-all, word-part}
+use Rattle.exact.specs.Place.{peek, peek-in, byte-peek, alt-peek, byte-is, byte-not, common, word-all, word-part, common-most}
 use Rattle.language.specs.Characters.{utf8}
 use Rattle.language.specs.Strings.{hexNumber, lettered, standsFor}
 use Rattle.rooms.specs.declared.Cursor.{Cursor}
@@ -93,16 +93,6 @@ utf8-most v = by (leb v 127) (leb v 2047) (leb v 65535)
     by false true z = omega arith
     by false false true = omega arith
     by false false false = omega arith
-
-common-most : (ws s : List ℕ) → common ws s ≤ length ws
-unfolding common
-common-most [] s = omega arith
-common-most (w ∷ ws) [] = omega arith
-common-most (w ∷ ws) (b ∷ s) = by (eqb b w) (common-most ws s)
-  where
-    by : (x : Bool) → common ws s ≤ length ws → pick x (suc (common ws s)) 0 ≤ suc (length ws)
-    by true h = omega arith
-    by false h = omega arith
 
 -- ---- answers
 

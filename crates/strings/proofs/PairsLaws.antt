@@ -1,15 +1,15 @@
 -- The loop over hex pairs, and `<..>` around them: laws for each turn and each return.
 use mathlib.Core.Path.{_≡_, refl, sym, ap, _∙_}
 use mathlib.Core.List.{List, [], _∷_, _++_}
-use Prim.Native.Nat.{ℕ, zero, suc, _+_, _-_, _<_}
+use Prim.Native.Nat.{ℕ, _+_, _-_, _<_}
 use native.Mathlib.Omega.{arith}
 use lib.ListN.{length, drop, length-append}
 use borrow.Author.Needs.{needs}
 use Rattle.exact.specs.Class.{is}
-use Rattle.exact.specs.Out.{Out, ok, soft, bad, raise, bind, fmap, Reader}
-use Rattle.exact.specs.Lang.{retR}
+use Rattle.exact.specs.Out.{Out, ok, soft, bad, bind, fmap, Reader}
+use Rattle.exact.specs.Answers.{map-fmap, bind-same}
 use Rattle.exact.specs.Block.{manyG, lead}
-use Rattle.exact.specs.Lines.{reached}
+use Rattle.exact.specs.Lines.{soft-reached}
 use Rattle.rooms.specs.declared.Cursor.{Cursor}
 use Rattle.rooms.specs.declared.Ans.{Ans}
 use Rattle.rooms.specs.declared.Ans.the-variants.{Ok, No}
@@ -19,7 +19,6 @@ use Rattle.strings.specs.declared.hex.Next.{Next}
 use Rattle.strings.specs.declared.hex.Next.the-variants.{Begins, Stops}
 use Rattle.strings.specs.Bytes.{pairR, furtherR, further-ll, pairsR, pairsOn}
 use Rattle.strings.specs.Turns.{manyG-turn, manyG-stop}
-use Rattle.strings.specs.Settled.{ret-fmap}
 use Rattle.strings.specs.Contract.{Texted, Texts}
 use Rattle.strings.specs.Inside.{Within}
 use Rattle.strings.specs.Hexes.{pairTextR, Further, Stopped, Furthers, PairsAt}
@@ -43,16 +42,7 @@ manyP = manyG pairsOn (lead 1) furtherR
 
 pairs-as : (at : ℕ) (s : List ℕ) → pairsR at s ≡ bind (pairR at s) (λ v a t. fmap (v ∷_) (manyP a t))
 unfolding pairsR
-pairs-as at s = by (pairR at s)
-  where
-    by : (o : Out ℕ) → bind o (λ p a t. bind (manyP a t) (λ ps. retR (p ∷ ps))) ≡ bind o (λ v a t. fmap (v ∷_) (manyP a t))
-    by (ok v a t) = ret-fmap v (manyP a t)
-    by (soft p v a t) = ap (raise p) (ret-fmap v (manyP a t))
-    by (bad p) = refl
-
-pub reached-far : {X : Type 0} (far : ℕ) (v : X) (a : ℕ) (t : List ℕ) → 0 < far → soft far v a t ≡ reached far v a t
-reached-far zero v a t l = absurd (omega arith)
-reached-far (suc p) v a t l = refl
+pairs-as at s = bind-same (pairR at s) _ _ (λ v a t. map-fmap (v ∷_) (manyP a t))
 
 -- ---- a turn
 
@@ -115,7 +105,7 @@ module _ (doc : List ℕ) (s n : Cursor) (T₀ T : List ℕ) (w : Within pairsR 
                   is =
                       w .is
                       ∙ (ap (fmap (w .done ++_)) (pairs-by ∙ ap (fmap (got .0 ∷_)) (manyG-stop pairsOn (lead 1) furtherR (m .at) (drop (m .at) doc) (g .off)))
-                      ∙ (rw (← g .is, ← got .1) refl ∙ reached-far far (w .done ++ text .value) (m .at) (drop (m .at) doc) (omega (arith, g .is, x .ahead))));
+                      ∙ (rw (← g .is, ← got .1) refl ∙ soft-reached far (w .done ++ text .value) (m .at) (drop (m .at) doc) (omega (arith, g .is, x .ahead))));
                   spelt =
                       record {
                         ahead = omega (arith, x .ahead, w .few);

@@ -1,17 +1,17 @@
 -- Laws of runs of bytes of a class: the plain bytes of a string, as the loops over them meet them.
 use mathlib.Core.Path.{_≡_, refl, sym, ap, _∙_}
-use mathlib.Core.List.{List, [], _∷_}
+use mathlib.Core.List.{List}
 use mathlib.Core.Bool.{Bool, true, false}
 use Prim.Native.Nat.{ℕ, suc, _+_, _-_, _≤_, _<_}
 use native.Mathlib.Nat.{add-zero}
 use native.Mathlib.Omega.{arith}
 use native.Mathlib.Decide.{decLe}
-use lib.ListN.{length, drop, getD, List·getD-eq-default}
-use lib.Seq.{sets, slice, getD-drop}
+use lib.ListN.{length, getD, List·getD-eq-default}
+use lib.Seq.{sets, slice}
 use lib.Dec.{eqb}
 use borrow.Author.Needs.{needs}
 use borrow.Author.Tests.{eqb-true, le-leb, lt-leb}
-use Rattle.exact.specs.Class.{pick, clash, Class, is}
+use Rattle.exact.specs.Class.{clash, Class, is}
 use Rattle.exact.specs.Place.{peek, getD-any, run, runEnd, run-over, run-none, run-more}
 use Rattle.rooms.specs.declared.Cursor.{Cursor}
 use Rattle.strings.specs.Inside.{Quote, double, single, plainOf, RunTo, Passing, Near, Copied}
@@ -121,20 +121,6 @@ class-in k doc at n e = by (decLe (suc at) (length doc))
     by : Dec (suc at ≤ length doc) → at < length doc
     by (yes l) = l
     by (no l) = absurd (clash e (ap (is k) (List·getD-eq-default doc 256 (omega arith)) ∙ n))
-
--- ---- the run ends where no byte of the class stands
-
-run-ends : (k : Class) → is k 256 ≡ false → (s : List ℕ) → is k (getD s (run k s) 256) ≡ false
-unfolding run
-run-ends k n [] = n
-run-ends k n (b ∷ s) = by (is k b) refl (run-ends k n s)
-  where
-    by : (x : Bool) → is k b ≡ x → is k (getD s (run k s) 256) ≡ false → is k (getD (b ∷ s) (pick x (suc (run k s)) 0) 256) ≡ false
-    by true e ih = ih
-    by false e ih = e
-
-pub run-behind : (k : Class) (doc : List ℕ) (at e : ℕ) → is k 256 ≡ false → RunTo k doc at e → is k (peek doc e) ≡ false
-run-behind k doc at e n r = rw (r .is) (sym (ap (is k) (getD-drop at doc (run k (drop at doc)) 256)) ∙ run-ends k n (drop at doc))
 
 -- ---- copied
 

@@ -8,12 +8,13 @@ use lib.ListN.{length, drop, length-append}
 use lib.Seq.{sets, slice, length-slice}
 use borrow.Author.Needs.{needs}
 use Rattle.exact.specs.Out.{ok, bind, fmap, Reader}
+use Rattle.exact.specs.Answers.{fmap-none, fmap-join}
 use Rattle.exact.specs.Place.{peek, peek-in}
 use Rattle.rooms.specs.declared.Cursor.{Cursor}
 use Rattle.rooms.specs.declared.Ans.{Ans}
 use Rattle.rooms.specs.declared.Ans.the-variants.{Ok, No}
 use Rattle.rooms.specs.Contract.{Ready}
-use Rattle.strings.specs.Rest.{fmap-none, fmap-join, rest-at, rest-close, between-rest}
+use Rattle.strings.specs.Rest.{rest-at, rest-close, between-rest}
 use Rattle.strings.specs.Inside.{Quote, plainOf, escapesR, textR, leftR, specialR, CleanTo, Copied, Special, Within}
 use Rattle.strings.specs.Contract.{Texts}
 use Rattle.strings.proofs.CleanLaws.{sides}

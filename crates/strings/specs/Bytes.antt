@@ -10,11 +10,11 @@ use Rattle.language.specs.Kind.{BYTES}
 use Rattle.language.specs.Tree.{Tree}
 use Rattle.language.specs.Characters.{Space}
 use Rattle.language.specs.Strings.{lowhex, hexval, Pair, Pairs, InlineBytes}
-use Rattle.exact.specs.Class.{Starts, pick, and, or, clash, is, only, nothing, and-of}
+use Rattle.exact.specs.Class.{pick, and, or, clash, is, only, nothing, and-of}
 use Rattle.exact.specs.Out.{Reader, bind, ok, bad}
 use Rattle.exact.specs.Lang.{None, bar, Exact, within-bar, within-same, weaken, retR, byteR}
 use Rattle.exact.specs.Comb.{seqR, mapR, seq-exact, map-exact, altR, manyR}
-use Rattle.exact.specs.Ll.{Shape, Begun, by-first, by-null, Ll, ret-ll, byte-ll, seq-ll, alt-ll, star-ll, relax, byte₁}
+use Rattle.exact.specs.Ll.{Shape, Ll, ret-ll, byte-ll, seq-ll, alt-ll, star-ll, relax, byte₁}
 use Rattle.exact.specs.Block.{manyG, Clear, Looks, starG-exact, lead, lead-near}
 use Rattle.strings.specs.Spans.{solid, spannedR, spanned-ll}
 
@@ -70,13 +70,6 @@ inlineBytes-ll =
     (only 60)
     []
     (relax inlineBytesS refl refl refl (seq-ll refl (byte₁ 60) λ _. seq-ll refl (alt-ll refl refl inside-ll (ret-ll [])) λ bs. seq-ll refl (byte₁ 62) λ _. ret-ll bs))
-
-pub pairs-begun : (at : ℕ) (s v : List ℕ) (at′ : ℕ) (t : List ℕ) → Pairs at s v at′ t → Starts (is lowhex) s
-pairs-begun at s v at′ t x = go (inside-ll .begun at s v at′ t x)
-  where
-    go : Begun insideS s t → Starts (is lowhex) s
-    go (by-first z) = z
-    go (by-null n z) = absurd (clash n refl)
 
 -- PAIRS OF A HEX LINE: they go on with a hex digit, or a space and a hex digit
 abbrev pub digitNext : List ℕ → Bool

@@ -1,6 +1,6 @@
 -- What is left of a string behind its quote: piece after piece, and runs of plain bytes at once.
 use mathlib.Core.Path.{_≡_, refl, sym, ap, _∙_}
-use mathlib.Core.List.{List, [], _∷_, _++_, append-assoc}
+use mathlib.Core.List.{List, [], _∷_, _++_}
 use mathlib.Core.Bool.{Bool, true, false}
 use Prim.Native.Nat.{ℕ, suc, _+_, _<_}
 use native.Mathlib.Nat.{add-zero}
@@ -9,11 +9,12 @@ use native.Mathlib.Omega.{arith}
 use lib.ListN.{take, drop}
 use lib.Seq.{slice, drop-drop}
 use Rattle.notation.specs.Lang.{cat}
-use Rattle.exact.specs.Class.{pick, clash, Class, is, only, apart, sub, none, left, right, only-is, only-no, is-neither}
+use Rattle.exact.specs.Class.{pick, clash, Class, is, only, apart, sub, left, right, only-is, only-no, is-neither, apart-no}
 use Rattle.exact.specs.Out.{Out, ok, soft, bad, Reader, raise, bind, fmap, Tame}
 use Rattle.exact.specs.Lang.{retR, byteR}
+use Rattle.exact.specs.Answers.{raise-bind, raise-fmap, bind-ret, fmap-none, fmap-join}
 use Rattle.exact.specs.Comb.{seqR, manyR, alt-tame}
-use Rattle.exact.specs.Place.{peek, There, byte-there, none-there, there, run, runEnd, many-run, run-end, peek-cons, raise-fmap}
+use Rattle.exact.specs.Place.{peek, There, byte-there, none-there, there, run, runEnd, many-run, run-end, peek-cons}
 use Rattle.language.specs.Characters.{ascii}
 use Rattle.utf8.specs.Char.{charS, char-ll}
 use Rattle.strings.specs.Quoted.{pieceR, pieceS, betweenR}
@@ -24,54 +25,20 @@ use Rattle.strings.specs.Plain.{char-first, char-plain, char-none}
 unfoldable pub restR : ℕ → Reader (List ℕ) → Class → Reader (List ℕ)
 restR quote r others = seqR (manyR (is (pieceS others .first)) (pieceR r others)) λ ps. seqR (byteR (is (only quote))) λ _. retR (cat ps)
 
--- ---- laws of answers
-
-pub fmap-none : (o : Out (List ℕ)) → fmap ([] ++_) o ≡ o
-fmap-none (ok v a t) = refl
-fmap-none (soft p v a t) = refl
-fmap-none (bad p) = refl
-
-pub fmap-join : (u v : List ℕ) (o : Out (List ℕ)) → fmap (u ++_) (fmap (v ++_) o) ≡ fmap ((u ++ v) ++_) o
-fmap-join u v (ok w a t) = ap (λ x. ok x a t) (sym (append-assoc u v w))
-fmap-join u v (soft p w a t) = ap (λ x. soft p x a t) (sym (append-assoc u v w))
-fmap-join u v (bad p) = refl
-
-ret-join : (v u : List ℕ) (o : Out ℕ) → bind o (λ _. retR (v ++ u)) ≡ fmap (v ++_) (bind o (λ _. retR u))
-ret-join v u (ok x a t) = refl
-ret-join v u (soft p x a t) = refl
-ret-join v u (bad p) = refl
-
 module _ (quote : ℕ) where
   abbrev closeR : List (List ℕ) → Reader (List ℕ)
   closeR ps = seqR (byteR (is (only quote))) λ _. retR (cat ps)
 
   close-join : (v : List ℕ) (o : Out (List (List ℕ))) → bind (fmap (v ∷_) o) closeR ≡ fmap (v ++_) (bind o closeR)
-  close-join v (ok ps a t) = ret-join v (cat ps) (byteR (is (only quote)) a t)
-  close-join v (soft p ps a t) = ap (raise p) (ret-join v (cat ps) (byteR (is (only quote)) a t)) ∙ raise-fmap (v ++_) p (closeR ps a t)
+  close-join v (ok ps a t) = bind-ret (v ++_) (byteR (is (only quote)) a t) (cat ps)
+  close-join v (soft p ps a t) = ap (raise p) (bind-ret (v ++_) (byteR (is (only quote)) a t) (cat ps)) ∙ raise-fmap (v ++_) p (closeR ps a t)
   close-join v (bad p) = refl
 
   turn-join : (o : Out (List ℕ)) (q : Reader (List (List ℕ)))
       → bind (bind o (λ v a t. fmap (v ∷_) (q a t))) closeR ≡ bind o (λ v a t. fmap (v ++_) (bind (q a t) closeR))
   turn-join (ok v a t) q = close-join v (q a t)
-  turn-join (soft p v a t) q = raise-bind p (fmap (v ∷_) (q a t)) ∙ ap (raise p) (close-join v (q a t))
-    where
-      raise-raise : (p p′ : ℕ) (o : Out (List ℕ)) → raise (Prim.Native.Nat.max p p′) o ≡ raise p (raise p′ o)
-      raise-raise p p′ (ok z a t) = refl
-      raise-raise p p′ (soft s z a t) = ap (λ n. soft n z a t) (omega arith)
-      raise-raise p p′ (bad s) = ap bad (omega arith)
-
-      raise-bind : (p : ℕ) (o : Out (List (List ℕ))) → bind (raise p o) closeR ≡ raise p (bind o closeR)
-      raise-bind p (ok y a t) = refl
-      raise-bind p (soft p′ y a t) = raise-raise p p′ (closeR y a t)
-      raise-bind p (bad q′) = refl
+  turn-join (soft p v a t) q = raise-bind p (fmap (v ∷_) (q a t)) closeR ∙ ap (raise p) (close-join v (q a t))
   turn-join (bad p) q = refl
-
-apart-no : (c d : Class) (b : ℕ) → apart c d ≡ true → is c b ≡ true → is d b ≡ false
-apart-no c d b h e = by (is d b) refl
-  where
-    by : (x : Bool) → is d b ≡ x → x ≡ false
-    by true x = absurd (none c d b h e x)
-    by false x = refl
 
 -- the bytes of a run
 pub run-slice : (c : Class) (doc : List ℕ) (at : ℕ) → take (run c (drop at doc)) (drop at doc) ≡ slice at (runEnd c doc at) doc

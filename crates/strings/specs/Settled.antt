@@ -9,6 +9,7 @@ use lib.ListN.{length}
 use Rattle.exact.specs.Class.{pick, clash, and, is, only, left, right, is-right, and-of, or-of}
 use Rattle.exact.specs.Out.{Out, ok, soft, bad, bind, fmap, Reader, Tamed, t-ok, shrinks, Firm}
 use Rattle.exact.specs.Lang.{retR}
+use Rattle.exact.specs.Answers.{map-fmap}
 use Rattle.exact.specs.Comb.{manyR}
 use Rattle.exact.specs.Block.{manyG, lead}
 use Rattle.language.specs.Strings.{lowhex}
@@ -32,11 +33,6 @@ settled-fmap v (soft p w a t) = by (spaceNext t)
     by true = refl
     by false = refl
 settled-fmap v (bad p) = refl
-
-pub ret-fmap : (p : ℕ) (o : Out (List ℕ)) → bind o (λ ps. retR (p ∷ ps)) ≡ fmap (p ∷_) o
-ret-fmap p (ok v a t) = refl
-ret-fmap p (soft q v a t) = refl
-ret-fmap p (bad q) = refl
 
 -- a firm reader of a byte or more, and then two readers that settle to the same on what is left
 settled-bind : {at : ℕ} {s : List ℕ} (o : Out ℕ) (q g : ℕ → Reader (List ℕ)) → Firm o → Tamed 1 at s o
@@ -99,6 +95,6 @@ inside-settled at s =
     (pair-ll .firm at s)
     (pair-ll .exact .moves .tame at s)
     (λ p a t k.
-    ret-fmap p (manyR (is (lowhex ++ only 32)) furtherR a t)
+    map-fmap (p ∷_) (manyR (is (lowhex ++ only 32)) furtherR a t)
     ∙ (ap (fmap (p ∷_)) (many-settled (length t) a t (omega arith))
-    ∙ (sym (settled-fmap p (manyG pairsOn (lead 1) furtherR a t)) ∙ ap settled (sym (ret-fmap p (manyG pairsOn (lead 1) furtherR a t))))))
+    ∙ (sym (settled-fmap p (manyG pairsOn (lead 1) furtherR a t)) ∙ ap settled (sym (map-fmap (p ∷_) (manyG pairsOn (lead 1) furtherR a t))))))

@@ -1,6 +1,6 @@
-use native.Mathlib.Omega.{arith}
+-- `judged` meets its contract.
 use borrow.Author.Needs.{needs}
-use Rattle.reader.specs.Filling.{held-table, answer-repeat, answer-rows, answer-bytes, answer-all, answer-long, answer-stop, stopped-at, holds}
+use Rattle.reader.specs.Filling.{answer-stop, stopped-at, holds}
 use Rattle.reader.proofs.judged.Statement.{statement}
 use Rattle.reader.proofs.judged.Tie as tie
 

@@ -1,3 +1,4 @@
+-- `sparsely` meets its contract.
 use borrow.Author.Needs.{needs}
 use Rattle.reader.specs.Filling.{answer-stop, stopped-at, tries}
 use Rattle.reader.proofs.sparsely.Statement.{statement}

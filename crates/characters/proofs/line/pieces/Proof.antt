@@ -7,10 +7,13 @@ use Rattle.characters.proofs.line.pieces.Statement.{statement}
 use Rattle.characters.proofs.line.pieces.Tie as tie
 
 abbrev Inv-loop : tie.InvT-loop
-Inv-loop doc at i₀ i = Along doc at i × (i ≤ length doc)
+Inv-loop doc at far i₀ i = Along doc at i × (i ≤ length doc)
 
 abbrev μ-loop : tie.MeasureT-loop
-μ-loop doc at i₀ i = length doc - i
+μ-loop doc at far i₀ i = length doc - i
+
+blocks-end-requires : tie.Need-blocks-end-requires Inv-loop μ-loop
+blocks-end-requires c κs = search lines
 
 smooth-end-requires : tie.Need-smooth-end-requires Inv-loop μ-loop
 smooth-end-requires c κs = search lines
@@ -51,6 +54,7 @@ pieces-spec =
     (tie.spec
     Inv-loop
     μ-loop
+    blocks-end-requires
     smooth-end-requires
     loop-holds
     piece-requires

@@ -15,9 +15,6 @@ Inv-loop doc at i₀ last₀ i last = Smooth doc at last × (runEnd (only 32) do
 abbrev μ-loop : tie.MeasureT-loop
 μ-loop doc at i₀ last₀ i last = length doc - i
 
-blocks-end-requires : tie.Need-blocks-end-requires Inv-loop μ-loop
-blocks-end-requires c κs = search smoothly
-
 loop-holds : tie.Need-loop-holds Inv-loop μ-loop
 loop-holds c = search smoothly
 
@@ -54,7 +51,6 @@ smooth-end-spec =
     (tie.spec
     Inv-loop
     μ-loop
-    blocks-end-requires
     loop-holds
     shared-slice-read-b
     returns

@@ -1,14 +1,15 @@
+-- `copy_words` meets its contract.
 use native.Mathlib.Omega.{arith}
 use mathlib.Core.Path.{_≡_, refl, sym, ap, _∙_}
 use Prim.Native.Nat.{ℕ, _<_, _≤_, _+_, _-_, _*_}
 use lib.ListN.{length, drop, getD, length-set}
 use lib.Seq.{sets, slice}
 use borrow.Author.Needs.{needs}
-use Rattle.reader.specs.Filling.{words-turn, words-done}
-use Rattle.reader.proofs.copy_words.Statement.{statement}
-use Rattle.reader.proofs.copy_words.Tie as tie
-use Rattle.reader.proofs.copy_words.Reads as reads
-use Rattle.reader.proofs.copy_words.Lts as lts
+use Rattle.answers.specs.Held.{words-turn, words-done}
+use Rattle.answers.proofs.copy_words.Statement.{statement}
+use Rattle.answers.proofs.copy_words.Tie as tie
+use Rattle.answers.proofs.copy_words.Reads as reads
+use Rattle.answers.proofs.copy_words.Lts as lts
 
 abbrev Inv-loop : tie.InvT-loop
 Inv-loop words n table₀ i₀ table i = (sets table₀ 0 (slice 0 n words) ≡ sets table i (slice i n words)) × (length table ≡ length table₀) × (i ≤ n)

@@ -1,8 +1,9 @@
+-- `answer` meets its contract.
 use native.Mathlib.Omega.{arith}
 use borrow.Author.Needs.{needs}
-use Rattle.reader.specs.Filling.{held-table, answer-repeat, answer-rows, answer-bytes, answer-all, answer-long, answer-stop, stopped-at, holds}
-use Rattle.reader.proofs.answer.Statement.{statement}
-use Rattle.reader.proofs.answer.Tie as tie
+use Rattle.answers.specs.Held.{held-table, answer-repeat, answer-rows, answer-bytes, answer-all}
+use Rattle.answers.proofs.answer.Statement.{statement}
+use Rattle.answers.proofs.answer.Tie as tie
 
 first-repeat-requires : tie.Need-first-repeat-requires
 first-repeat-requires c κs = search (held-table, needs)

@@ -51,6 +51,12 @@ module _ {X : Type 0} {d : ℕ} {A : Lang X} {r : Reader X} (e : Exact d A None 
       go (ok v a t) (takes _ x u) = read-ok (word-of x)
       go (soft p v a t) (takes _ x u) = read-soft (word-of x)
       go (bad p) (stops _ f z) = read-bad p (λ v a t x. z _ (record { value = v; next = a; rest = t; first = x; others = refl }))
+
+  pub word-read : (at : ℕ) (s : List ℕ) (v : X) (a : ℕ) (t : List ℕ) → r at s ≡ ok v a t → A at s v a t
+  word-read at s v a t h = go (subst (Read A at s) h (read at s))
+    where
+      go : Read A at s (ok v a t) → A at s v a t
+      go (read-ok x) = x
 
   -- NO WORD BEGINS SO: then it is refused before the end of that
   pub early-bad : (m at : ℕ) (s : List ℕ) → ((more : List ℕ) (v : X) (a : ℕ) (t : List ℕ) → A at (take (suc m) s ++ more) v a t → ⊥) → (p : ℕ) × (r at s ≡ bad p) × (p ≤ at + m)
