@@ -28,7 +28,7 @@ ci:
 
 # The second reader and the slow checker of places agree with each other and with the vectors.
 evidence:
-	nice cargo build $(EVIDENCE) && nice cargo test $(EVIDENCE)
+	MAKEFLAGS= nice cargo build $(EVIDENCE) && MAKEFLAGS= nice cargo test $(EVIDENCE)
 	$(BUILT)/vectors $(VECTORS)
 	nice $(BUILT)/places 2000 7
 

@@ -13,8 +13,8 @@ use language::Place;
 use language::WIDTH;
 use rooms::Ans;
 
-// Rooms of our own are cleared first, so documents of few and of some bytes have smaller ones. Those for more than few bytes have three rows for eight bytes: enough for
-// all but the densest documents, which are read once more.
+// Rooms of our own are cleared first, so documents of few and of some bytes have smaller ones. Those for more than few bytes have a row for two bytes, as `- - 1` needs;
+// a document with more rows would be read once more.
 const FEW: usize = 1024;
 
 const SOME: usize = 8192;
@@ -102,7 +102,7 @@ fn of_some_bytes(doc: &[u8], table: &mut [u32], text: &mut [u8]) -> Answer
     requires { ⌜ length (now doc) ≤ some-bytes ⌝ }
     ensures { λ r. ⌜ Answered (now (doc .entry)) (now (table .entry)) (now (text .entry)) r (now (table .exit)) (now (text .exit)) ⌝ }
 {
-    let mut rows = [0u32; WIDTH * (3 * SOME / 8)];
+    let mut rows = [0u32; WIDTH * (SOME / 2)];
     let mut bytes = [0u8; SOME];
     sparsely(&*doc, &mut rows, &mut bytes, table, text)
 }
@@ -111,7 +111,7 @@ fn of_many_bytes(doc: &[u8], table: &mut [u32], text: &mut [u8]) -> Answer
     requires { ⌜ length (now doc) ≤ limit ⌝ }
     ensures { λ r. ⌜ Answered (now (doc .entry)) (now (table .entry)) (now (text .entry)) r (now (table .exit)) (now (text .exit)) ⌝ }
 {
-    let mut rows = [0u32; WIDTH * (3 * LIMIT / 8)];
+    let mut rows = [0u32; WIDTH * (LIMIT / 2)];
     let mut bytes = [0u8; LIMIT];
     sparsely(&*doc, &mut rows, &mut bytes, table, text)
 }
