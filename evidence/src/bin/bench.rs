@@ -11,9 +11,9 @@ use std::time::{Duration, Instant};
 
 const SIZES: [usize; 3] = [2_000, 8_000, 32_000];
 const HOSTILE_SIZES: [usize; 4] = [4_096, 8_192, 16_384, 32_768];
-/// How much more a byte may cost at 32 KB than at 4 KB, where it would be eight times as much if the cost were quadratic. A
-/// shape may cost less at 4 KB since the processor foresees all of its branches.
-const GROWTH: f64 = 4.0;
+/// How much more a byte may cost at 32 KB than at 4 KB, and than at 16 KB, where it would be eight times and twice as
+/// much if the cost were quadratic.
+const GROWTH: (f64, f64) = (3.0, 1.5);
 /// How much more 2,900 keys may cost than judging as many bytes.
 const KEYS: f64 = 100.0;
 
@@ -56,7 +56,7 @@ fn hostile(bench: &mut Bench) -> usize {
         };
         let timed = docs.map(|doc| bench.best(&doc));
         let costs = timed.map(|best| best.a_byte());
-        let linear = costs[3] <= GROWTH * costs[0];
+        let linear = costs[3] <= GROWTH.0 * costs[0] && costs[3] <= GROWTH.1 * costs[2];
         bad += usize::from(!linear);
         print!("| {name} | {} | {} ", said(answer), costs.map(|cost| format!("{cost:.2}")).join(" | "));
         println!("| {:.2}{} | {:.2} |", costs[3] / costs[0], mark(linear), timed[3].second / timed[3].proved);
