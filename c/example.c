@@ -1,7 +1,7 @@
 /* Reads a profile and prints which image a tablet installs: `example FILE`. */
 #include <stdio.h>
 #include <string.h>
-#include "yay.h"
+#include "yay_help.h"
 
 static uint8_t doc[YAY_LONGEST + 1];
 static uint32_t table[YAY_TABLE_ROOM(YAY_LONGEST)];
@@ -35,8 +35,8 @@ static void print_text(const char *name, size_t row) {
 
 /* Prints each element of an array of integers, and whether it is above `limit`. */
 static void print_numbers(size_t array, const char *limit) {
-    size_t end = table[YAY_WORDS * array + YAY_NEXT];
-    for (size_t row = array + 1; row < end; row = table[YAY_WORDS * row + YAY_NEXT]) {
+    for (size_t row = yay_first_child(table, words, rows, array); row < rows;
+         row = yay_next_child(table, words, rows, array, row)) {
         size_t from, to;
         int32_t order;
         if (yay_text(table, words, rows, text, text_len, row, &from, &to) != YAY_OK) continue;
@@ -55,7 +55,10 @@ int main(int count, char **args) {
     fclose(file);
     uint32_t number = yay_read(doc, doc_len, table, words, text, sizeof text, &rows, &text_len);
     if (number != YAY_OK) {
-        printf("refused: number %u at place %zu\n", (unsigned)number, rows);
+        size_t line, column;
+        yay_position(doc, doc_len, rows, &line, &column);
+        printf("%s:%zu:%zu: %s (%u): %s\n", args[1], line, column, yay_number_name(number), (unsigned)number,
+               yay_number_sentence(number));
         return 1;
     }
     print_text("image-channel", find(0, "image-channel"));

@@ -8,7 +8,8 @@
  * one of them the answer is the one that the documents of the project fix.
  * yay_read has rooms of its own on the stack: give its thread 2 MB of it.
  *
- * A place is counted in bytes from 0, a row from 0; they are never taken for one another. */
+ * A place is counted in bytes from 0, a row from 0; they are never taken for one another. yay_help.h has names and
+ * sentences for the numbers, line and column of a place, and a way through the children of a row; it is not proved. */
 #ifndef YAY_H
 #define YAY_H
 

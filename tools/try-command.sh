@@ -2,42 +2,78 @@
 # Tries a built command as a user would, on what the tests inside rust/ cannot see: `tools/try-command.sh build/yay`.
 set -uo pipefail
 yay=$1
-passed=0 failed=0
-
-# expect WHAT WANTED GOT
-expect() {
-    if [ "$2" = "$3" ]; then
-        passed=$((passed + 1))
-    else
-        failed=$((failed + 1))
-        printf 'FAILED: %s\n  wanted: %s\n  got:    %s\n' "$1" "$2" "$3"
-    fi
-}
+source tools/expect.sh
+printf '1\n' > build/good.yay
+printf 1 > build/bad.yay
 
 expect 'a value for scripts' stable "$("$yay" get examples/tablet.yay image-channel)"
-expect 'a reader that stops early' 'object of 7 pairs' "$("$yay" show examples/tablet.yay 2>&1 | head -1)"
-expect 'a full disk is an error' 2 "$("$yay" show examples/tablet.yay > /dev/full 2> /dev/null; echo $?)"
+expect 'bytes as they are' "$(printf '\x00\xff\n' | od -An -tx1)" \
+    "$(printf 'a: <00ff0a>\n' | "$yay" get --raw - a | od -An -tx1)"
 expect 'an answer before the next document' 'ok 1 1 4,0,1,0,1,0,1 31' "$(
     coproc batch { "$yay" batch; }
     printf '\x02\x00\x00\x001\n' >&"${batch[1]}"
     read -r -t 20 line <&"${batch[0]}"
     echo "$line"
 )"
-expect 'no escape codes in a pipe' 0 "$(printf 1 | "$yay" check - 2>&1 | grep -c $'\x1b')"
-if command -v script > /dev/null; then
-    colours=$(printf 1 > build/end.yay; script -qec "$yay check build/end.yay" /dev/null < /dev/null | grep -c $'\x1b')
-    expect 'escape codes on a terminal' 1 "$((colours > 0))"
-    colours=$(NO_COLOR=1 script -qec "$yay check build/end.yay" /dev/null < /dev/null | grep -c $'\x1b')
-    expect 'none there with NO_COLOR' 0 "$colours"
-fi
+
+# Closed and full outputs. What was refused before or behind them is not lost.
+expect 'a reader that stops early' 'object of 7 pairs' "$("$yay" show examples/tablet.yay 2>&1 | head -1)"
+expect 'a full disk is an error' 2 "$("$yay" show examples/tablet.yay > /dev/full 2> /dev/null; echo $?)"
+expect 'a full disk is an error of check' 2 "$("$yay" check build/bad.yay build/good.yay > /dev/full 2> /dev/null; echo $?)"
+# shellcheck disable=SC2216
+closed() {
+    # Nobody reads: the pipe is closed before the command is started.
+    { sleep 0.2; "$yay" check "$@"; } 2> /dev/null | true
+    echo "${PIPESTATUS[0]}"
+}
+expect 'a refusal, then a closed pipe' 1 "$(closed build/bad.yay build/good.yay)"
+expect 'a closed pipe, then a refusal' 1 "$(closed build/good.yay build/good.yay build/bad.yay)"
+expect 'a closed pipe and a missing file' 2 "$(closed build/good.yay build/none.yay)"
+expect 'a closed pipe and no refusal' 0 "$(closed build/good.yay build/good.yay)"
+expect 'closed errors and a refusal' 1 "$({ sleep 0.2; "$yay" check build/bad.yay; } 2>&1 | true; echo "${PIPESTATUS[0]}")"
+expect 'in the order of the files' 'build/good.yay: ok
+build/bad.yay:1:2:
+    1 |
+      |
+build/none.yay:
+build/good.yay: ok
+2 ok, 1 refused, 1 not read' "$("$yay" check build/good.yay build/bad.yay build/none.yay build/good.yay 2>&1 |
+    sed -E 's/^yay: //; s/^(.*: ok|.*:2:|.*none.yay:|.*[|]).*/\1/')"
+
+# On a terminal.
+terminal() {
+    if command -v script > /dev/null; then
+        script -qec "$*" /dev/null < /dev/null
+    else
+        python3 -c 'import os, pty, sys; sys.exit(os.waitstatus_to_exitcode(pty.spawn(sys.argv[1:])))' "$@" < /dev/null
+    fi | tr -d '\r'
+}
+expect 'no escape codes in a pipe' 0 "$("$yay" check build/bad.yay 2>&1 | grep -c $'\x1b')"
+bold=$'\x1b[1m' red=$'\x1b[1;31m' off=$'\x1b[0m'
+said="SYNTAX (3)$off: a line may not end in a space"
+printf 'a: 1 \n' > build/space.yay
+expect 'a terminal has colours, and the order of the files' "build/good.yay: ok, 1 rows, 1 bytes of text
+${bold}build/space.yay:1:6:$off $red$said
+    1 | a: 1␠⏎
+      |      $red^$off
+build/good.yay: ok, 1 rows, 1 bytes of text
+2 ok, 1 refused" "$(terminal "$yay" check build/good.yay build/space.yay build/good.yay)"
+expect 'none there with NO_COLOR' 0 "$(NO_COLOR=1 terminal "$yay" check build/bad.yay | grep -c $'\x1b')"
+expect 'but what is said is there' 1 "$(NO_COLOR=1 terminal "$yay" check build/bad.yay | grep -c 'END (5): the last line')"
+
 if command -v python3 > /dev/null; then
     for profile in examples/*.yay; do
-        expect "JSON of $profile" ok "$("$yay" json "$profile" | python3 -c 'import json, sys; json.load(sys.stdin); print("ok")')"
+        for how in json text exact; do
+            expect "JSON of $profile, numbers as $how" ok \
+                "$("$yay" json --numbers=$how "$profile" | python3 -c 'import json, sys; json.load(sys.stdin); print("ok")')"
+        done
+        expect "compact JSON of $profile" "$("$yay" json -c --numbers=text "$profile")" \
+            "$("$yay" json --numbers=text "$profile" | python3 -c 'import json, sys
+print(json.dumps(json.load(sys.stdin), separators=(",", ":"), ensure_ascii=False))')"
     done
 fi
 if [ "$(id -u)" != 0 ]; then
     touch build/closed.yay && chmod 000 build/closed.yay
     expect 'a file that may not be read' 2 "$("$yay" check build/closed.yay 2> /dev/null; echo $?)"
 fi
-echo "try-command: $passed passed, $failed failed"
-[ "$failed" = 0 ]
+tally try-command

@@ -2,7 +2,7 @@
 //! bytes; a line for each on standard output.
 
 use crate::outline::hex;
-use crate::{Done, Stop};
+use crate::stop::{Done, Stop};
 use std::fmt::Write as _;
 use std::io::{self, BufRead, ErrorKind, Read, Write};
 use yay::{read, Refusal, Tree, LONGEST, WORDS};

@@ -1,53 +1,77 @@
 //! `yay check`: each file is a document, or its refusal is shown.
 
-use crate::{complain, input, refused, Done, Stop};
-use std::ffi::OsString;
+use crate::stop::{complain, Done, Stop};
+use crate::told::Told;
+use crate::words::Words;
+use crate::{input, refused};
+use std::ffi::OsStr;
 use std::io::Write;
 use yay::Document;
 
-pub fn run(words: &[OsString], out: &mut dyn Write) -> Done {
-    let (quiet, mut files) = match words {
-        [first, rest @ ..] if first == "-q" || first == "--quiet" => (true, rest),
-        all => (false, all),
-    };
-    if files.first().is_some_and(|first| first == "--") {
-        files = &files[1..];
+/// How many files were good, refused, and not read.
+#[derive(Default)]
+struct Tally {
+    ok: usize,
+    refused: usize,
+    unread: usize,
+}
+
+pub fn run(words: &Words, out: &mut dyn Write) -> Done {
+    if words.plain.is_empty() {
+        return Err(words.wrong("needs one or more files"));
     }
-    if files.is_empty() {
-        return Err(Stop::Usage("check takes one or more files".into()));
-    }
-    let (mut refused, mut unread) = (false, false);
-    for file in files {
-        match check(file, quiet, out) {
-            Ok(()) => {}
-            Err(Stop::Refused) => refused = true,
+    let (quiet, mut told, mut tally) = (words.has("--quiet"), Told::new(out), Tally::default());
+    for file in &words.plain {
+        match check(file, quiet, &mut told) {
+            Ok(()) => tally.ok += 1,
             Err(Stop::File(message)) => {
+                told.flush();
                 complain(&message);
-                unread = true;
+                tally.unread += 1;
             }
-            Err(stop) => return Err(stop),
+            Err(_) => tally.refused += 1,
         }
     }
-    match (unread, refused) {
-        (true, _) => Err(Stop::Unread),
-        (false, true) => Err(Stop::Refused),
-        (false, false) => Ok(()),
+    if words.plain.len() > 1 && !quiet {
+        told.line(&tally.line());
+    }
+    told.done()?;
+    match tally {
+        Tally { unread: 1.., .. } => Err(Stop::Unread),
+        Tally { refused: 1.., .. } => Err(Stop::Refused),
+        _ => Ok(()),
     }
 }
 
-fn check(file: &OsString, quiet: bool, out: &mut dyn Write) -> Done {
+impl Tally {
+    fn line(&self) -> String {
+        let line = format!("{} ok, {} refused", self.ok, self.refused);
+        if self.unread == 0 {
+            line
+        } else {
+            format!("{line}, {} not read", self.unread)
+        }
+    }
+}
+
+fn check(file: &OsStr, quiet: bool, told: &mut Told) -> Done {
     let input = input::open(file)?;
     match Document::read(&input.bytes) {
         Ok(document) => {
             let tree = document.tree();
             if !quiet {
-                writeln!(out, "{}: ok, {} rows, {} bytes of text", input.name, tree.rows(), tree.text_room().len())?;
+                told.line(&format!(
+                    "{}: ok, {} rows, {} bytes of text",
+                    input.name,
+                    tree.rows(),
+                    tree.text_room().len()
+                ));
             }
             Ok(())
         }
         Err(refusal) => {
             // What was said before stands before it, also where both go to one file.
-            out.flush()?;
+            told.flush();
             refused::say(&input, refusal);
             Err(Stop::Refused)
         }

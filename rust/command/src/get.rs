@@ -1,64 +1,74 @@
 //! `yay get`: the value behind a path of keys, and of numbers from 0 in arrays.
 
+use crate::accepted::accepted;
+use crate::json::{self, Style};
 use crate::outline::{broken, hex};
-use crate::shown::quoted;
-use crate::{complain, input, json, Done, Stop};
-use std::ffi::OsString;
+use crate::stop::{complain, Done, Stop};
+use crate::words::Words;
+use std::ffi::OsStr;
 use std::io::Write;
-use yay::{Kind, Number, Row, Tree, ROOT};
+use std::os::unix::ffi::OsStrExt;
+use yay::{Kind, Missing, Number, Row, Tree, ROOT};
 
-pub fn run(words: &[OsString], out: &mut dyn Write) -> Done {
-    let words = if words.first().is_some_and(|first| first == "--") { &words[1..] } else { words };
-    let (file, keys) = words.split_first().ok_or(Stop::Usage("get takes a file and keys".into()))?;
-    let document = input::accepted(file)?;
+pub fn run(words: &Words, out: &mut dyn Write) -> Done {
+    let (file, keys) = words.plain.split_first().ok_or_else(|| words.wrong("needs a file and keys"))?;
+    let style = Style::asked(words)?;
+    if words.has("--raw") && words.has("--json") {
+        return Err(words.wrong("takes --raw or --json, not both"));
+    }
+    let document = accepted(file)?;
     let tree = document.tree();
-    let mut row = ROOT;
-    for (index, key) in keys.iter().enumerate() {
-        let key = key.as_encoded_bytes();
-        row = step(&tree, row, key)?.ok_or_else(|| {
-            complain(&missing(&tree, row, &keys[..index], key));
-            Stop::Refused
-        })?;
-    }
-    write(&tree, row, out)
-}
-
-/// The row of a key's value, or of an array's element.
-fn step(tree: &Tree, row: Row, key: &[u8]) -> Result<Option<Row>, Stop> {
-    match tree.kind(row).map_err(broken)? {
-        Kind::Object => match tree.find(row, key) {
-            Ok(value) => Ok(Some(value)),
-            Err(Number::None) => Ok(None),
-            Err(number) => Err(broken(number)),
-        },
-        Kind::Array => {
-            let index = std::str::from_utf8(key).ok().and_then(|key| key.parse().ok());
-            Ok(index.and_then(|index: usize| tree.children(row).nth(index)))
+    let steps: Vec<_> = keys.iter().map(|key| key.as_bytes()).collect();
+    match (tree.path(ROOT, &steps), words.value("--default")) {
+        (Ok(row), _) if words.has("--json") => json::write(&tree, row, &style, out),
+        (Ok(row), _) if words.has("--raw") => write_raw(words, &tree, row, out),
+        (Ok(row), _) => write(&tree, row, &style, out),
+        (Err(Missing::Row(number)), _) => Err(broken(number)),
+        (Err(_), Some(default)) => write_default(default, words.has("--raw"), out),
+        (Err(missing), None) => {
+            complain(&said(&missing));
+            Err(Stop::Missing)
         }
-        _ => Ok(None),
     }
 }
 
-fn missing(tree: &Tree, row: Row, path: &[OsString], key: &[u8]) -> String {
-    let steps: Vec<_> = path.iter().map(|step| quoted(step.as_encoded_bytes())).collect();
-    let whole = if steps.is_empty() { "the document".into() } else { steps.join(" ") };
-    let key = quoted(key);
-    match tree.kind(row) {
-        Ok(Kind::Object) => format!("NONE (10): {whole} has no key {key}"),
-        Ok(Kind::Array) => format!("{whole} is an array, and has no element {key}"),
-        Ok(kind) => format!("{whole} is no object or array but of kind {}, and has no {key}", kind.name()),
-        Err(number) => number.to_string(),
+fn said(missing: &Missing) -> String {
+    match missing {
+        Missing::Step { kind: Kind::Object, .. } => {
+            format!("{} ({}): {missing}", Number::None.name(), Number::None.code())
+        }
+        _ => missing.to_string(),
     }
 }
 
 /// A scalar's text as it is, bytes as hex, a container as JSON; and a line end.
-fn write(tree: &Tree, row: Row, out: &mut dyn Write) -> Done {
-    let kind = tree.kind(row).map_err(broken)?;
-    match kind {
-        Kind::Array | Kind::Object => return json::write(tree, row, out),
-        Kind::Null | Kind::False | Kind::True => out.write_all(kind.name().as_bytes())?,
+fn write(tree: &Tree, row: Row, style: &Style, out: &mut dyn Write) -> Done {
+    match tree.kind(row).map_err(broken)? {
+        Kind::Array | Kind::Object => return json::write(tree, row, style, out),
         Kind::Bytes => out.write_all(hex(tree.text(row).map_err(broken)?).as_bytes())?,
-        _ => out.write_all(tree.text(row).map_err(broken)?)?,
+        _ => out.write_all(bytes(tree, row)?)?,
     }
     Ok(out.write_all(b"\n")?)
+}
+
+fn write_raw(words: &Words, tree: &Tree, row: Row, out: &mut dyn Write) -> Done {
+    match tree.kind(row).map_err(broken)? {
+        kind @ (Kind::Array | Kind::Object) => {
+            Err(words.wrong(&format!("--raw takes a value with a text, and this is an {}", kind.name())))
+        }
+        _ => Ok(out.write_all(bytes(tree, row)?)?),
+    }
+}
+
+/// A scalar's text, or its keyword.
+fn bytes<'a>(tree: &Tree<'a>, row: Row) -> Result<&'a [u8], Stop> {
+    match tree.kind(row).map_err(broken)? {
+        kind @ (Kind::Null | Kind::False | Kind::True) => Ok(kind.name().as_bytes()),
+        _ => tree.text(row).map_err(broken),
+    }
+}
+
+fn write_default(default: &OsStr, raw: bool, out: &mut dyn Write) -> Done {
+    out.write_all(default.as_bytes())?;
+    Ok(out.write_all(if raw { b"" } else { b"\n" })?)
 }

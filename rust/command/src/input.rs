@@ -1,10 +1,10 @@
 //! Files and standard input, and what is said of those that cannot be read.
 
-use crate::{refused, shown, Stop};
+use crate::stop::Stop;
 use std::ffi::OsStr;
 use std::fs::File;
 use std::io::{self, ErrorKind, Read};
-use yay::{Document, LONGEST};
+use yay::{shown, LONGEST};
 
 /// A document's bytes, at most one more than a document may have, and what it is called.
 pub struct Input {
@@ -49,13 +49,4 @@ fn reason(error: &io::Error) -> String {
         ErrorKind::PermissionDenied => "this file may not be read (permission denied)".into(),
         _ => error.to_string(),
     }
-}
-
-/// Reads a file that must hold a document; says why it is refused.
-pub fn accepted(name: &OsStr) -> Result<Document, Stop> {
-    let input = open(name)?;
-    Document::read(&input.bytes).map_err(|refusal| {
-        refused::say(&input, refusal);
-        Stop::Refused
-    })
 }

@@ -1,89 +1,116 @@
-//! `yay json`: the tree as JSON. Numbers that a JSON reader would lose are strings of their text, bytes are
-//! strings of hex.
+//! `yay json`: the tree as JSON. The JSON type of a value follows from its kind alone, unless `--numbers=exact` is
+//! asked for.
 
+use crate::accepted::accepted;
+use crate::numbers::{float, is_exact_float, is_exact_integer};
 use crate::outline::{broken, hex};
-use crate::shown::is_hidden;
-use crate::{Done, Stop};
-use std::cmp::Ordering;
+use crate::stop::{Done, Stop};
+use crate::words::Words;
 use std::io::Write;
-use yay::{compare, Kind, Row, Tree};
+use yay::shown::is_hidden;
+use yay::{Kind, Row, Tree};
 
-/// Whole numbers up to these are exact in a reader that keeps numbers as binary64.
-const LEAST: &[u8] = b"-9007199254740991";
-const MOST: &[u8] = b"9007199254740991";
-/// So many decimal digits survive binary64.
-const DIGITS: usize = 15;
+/// How numbers are written.
+#[derive(Clone, Copy, PartialEq)]
+enum Numbers {
+    /// As JSON numbers, with all their digits.
+    Json,
+    /// As strings of their text.
+    Text,
+    /// As JSON numbers where binary64 changes nothing, else as strings.
+    Exact,
+}
 
-pub fn write(tree: &Tree, row: Row, out: &mut dyn Write) -> Done {
-    write_value(tree, row, 0, out)?;
+pub struct Style {
+    compact: bool,
+    numbers: Numbers,
+}
+
+impl Style {
+    pub fn asked(words: &Words) -> Result<Style, Stop> {
+        let numbers = match words.value("--numbers").map(|value| value.as_encoded_bytes()) {
+            None | Some(b"json") => Numbers::Json,
+            Some(b"text") => Numbers::Text,
+            Some(b"exact") => Numbers::Exact,
+            Some(_) => return Err(words.wrong("takes json, text or exact behind --numbers")),
+        };
+        Ok(Style { compact: words.has("--compact"), numbers })
+    }
+
+    /// A line end and the indentation of a depth.
+    fn line(&self, depth: usize) -> String {
+        if self.compact {
+            String::new()
+        } else {
+            format!("\n{:indent$}", "", indent = 2 * depth)
+        }
+    }
+
+    fn colon(&self) -> &'static str {
+        if self.compact {
+            ":"
+        } else {
+            ": "
+        }
+    }
+}
+
+pub fn run(words: &Words, out: &mut dyn Write) -> Done {
+    let style = Style::asked(words)?;
+    write(&accepted(words.one_file()?)?.tree(), yay::ROOT, &style, out)
+}
+
+/// A value as JSON, and a line end.
+pub fn write(tree: &Tree, row: Row, style: &Style, out: &mut dyn Write) -> Done {
+    write_value(tree, row, 0, style, out)?;
     Ok(writeln!(out)?)
 }
 
-fn write_value(tree: &Tree, row: Row, depth: usize, out: &mut dyn Write) -> Done {
+fn write_value(tree: &Tree, row: Row, depth: usize, style: &Style, out: &mut dyn Write) -> Done {
     let kind = tree.kind(row).map_err(broken)?;
     match kind {
-        Kind::Array => write_container(tree, row, depth, [b'[', b']'], out),
-        Kind::Object => write_container(tree, row, depth, [b'{', b'}'], out),
-        _ => Ok(out.write_all(scalar(tree, kind, row)?.as_bytes())?),
+        Kind::Array => write_container(tree, row, depth, style, out),
+        Kind::Object => write_container(tree, row, depth, style, out),
+        _ => Ok(out.write_all(scalar(tree, kind, row, style)?.as_bytes())?),
     }
 }
 
-fn write_container(tree: &Tree, row: Row, depth: usize, [open, close]: [u8; 2], out: &mut dyn Write) -> Done {
-    out.write_all(&[open])?;
+fn write_container(tree: &Tree, row: Row, depth: usize, style: &Style, out: &mut dyn Write) -> Done {
+    let [open, close] = if tree.kind(row) == Ok(Kind::Array) { ["[", "]"] } else { ["{", "}"] };
+    out.write_all(open.as_bytes())?;
     let (mut comma, mut after_key) = ("", false);
     for child in tree.children(row) {
         if !after_key {
-            write!(out, "{comma}\n{:indent$}", "", indent = 2 * (depth + 1))?;
+            write!(out, "{comma}{}", style.line(depth + 1))?;
             comma = ",";
         }
-        write_value(tree, child, depth + 1, out)?;
+        write_value(tree, child, depth + 1, style, out)?;
         after_key = tree.kind(child) == Ok(Kind::Key);
         if after_key {
-            out.write_all(b": ")?;
+            out.write_all(style.colon().as_bytes())?;
         }
     }
     if !comma.is_empty() {
-        write!(out, "\n{:indent$}", "", indent = 2 * depth)?;
+        out.write_all(style.line(depth).as_bytes())?;
     }
-    Ok(out.write_all(&[close])?)
+    Ok(out.write_all(close.as_bytes())?)
 }
 
-fn scalar(tree: &Tree, kind: Kind, row: Row) -> Result<String, Stop> {
+fn scalar(tree: &Tree, kind: Kind, row: Row, style: &Style) -> Result<String, Stop> {
     if matches!(kind, Kind::Null | Kind::False | Kind::True) {
         return Ok(kind.name().into());
     }
     let bytes = tree.text(row).map_err(broken)?;
     let text = String::from_utf8_lossy(bytes);
-    Ok(match kind {
-        Kind::Integer if is_small(bytes) => text.into(),
-        Kind::Float => float(&text).unwrap_or_else(|| string(&text)),
-        Kind::Bytes => string(&hex(bytes)),
+    Ok(match (kind, style.numbers) {
+        (Kind::Integer, Numbers::Json) => text.into(),
+        (Kind::Integer, Numbers::Exact) if is_exact_integer(bytes) => text.into(),
+        (Kind::Float, Numbers::Json) => float(&text).unwrap_or_else(|| string(&text)),
+        (Kind::Float, Numbers::Exact) if is_exact_float(&text) => float(&text).unwrap_or_else(|| string(&text)),
+        // No string is an object, so bytes are told from every string.
+        (Kind::Bytes, _) => format!("{{\"$bytes\"{}{}}}", style.colon(), string(&hex(bytes))),
         _ => string(&text),
     })
-}
-
-fn is_small(integer: &[u8]) -> bool {
-    let above = |limit| compare(integer, limit).is_ok_and(Ordering::is_ge);
-    above(LEAST) && compare(integer, MOST).is_ok_and(Ordering::is_le)
-}
-
-/// A float as a JSON number, if a reader that keeps numbers as binary64 loses none of its digits.
-fn float(text: &str) -> Option<String> {
-    let value: f64 = text.parse().ok()?;
-    let (sign, size) = text.strip_prefix('-').map_or(("", text), |size| ("-", size));
-    let (digits, exponent) = size.split_once('e').map_or((size, None), |(digits, power)| (digits, Some(power)));
-    let (whole, part) = digits.split_once('.').unwrap_or((digits, ""));
-    let all = [whole, part].concat();
-    let significant = all.trim_matches('0').len();
-    let kept = significant == 0 || value.is_normal() && significant <= DIGITS;
-    if !kept || !all.bytes().all(|byte| byte.is_ascii_digit()) {
-        return None;
-    }
-    let whole = whole.trim_start_matches('0');
-    let whole = if whole.is_empty() { "0" } else { whole };
-    let part = if part.is_empty() && exponent.is_some() { "".into() } else { format!(".{part:0<1}") };
-    let exponent = exponent.map_or(String::new(), |power| format!("e{power}"));
-    Some(format!("{sign}{whole}{part}{exponent}"))
 }
 
 /// A JSON string; what a terminal would not show as itself is escaped.
@@ -111,36 +138,45 @@ fn string(text: &str) -> String {
 mod tests {
     use super::*;
 
-    fn json(doc: &str) -> String {
+    fn styled(doc: &str, compact: bool, numbers: Numbers) -> String {
         let document = yay::Document::read(doc.as_bytes()).expect("a document");
         let mut out = Vec::new();
-        assert!(write(&document.tree(), yay::ROOT, &mut out).is_ok());
-        String::from_utf8(out).unwrap().replace('\n', "").replace("  ", "")
+        assert!(write(&document.tree(), yay::ROOT, &Style { compact, numbers }, &mut out).is_ok());
+        String::from_utf8(out).unwrap()
+    }
+
+    fn json(doc: &str, numbers: Numbers) -> String {
+        styled(doc, true, numbers).trim_end().into()
     }
 
     #[test]
     fn containers() {
-        assert_eq!(
-            json("a: []\nb: {}\n'c\"':\n  - null\n  - d: true\n"),
-            r#"{"a": [],"b": {},"c\"": [null,{"d": true}]}"#
-        );
+        let doc = "a: []\nb: {}\n'c\"':\n  - null\n  - d: true\n";
+        assert_eq!(json(doc, Numbers::Json), r#"{"a":[],"b":{},"c\"":[null,{"d":true}]}"#);
+        let lines =
+            "{\n  \"a\": [],\n  \"b\": {},\n  \"c\\\"\": [\n    null,\n    {\n      \"d\": true\n    }\n  ]\n}\n";
+        assert_eq!(styled(doc, false, Numbers::Json), lines);
     }
 
     #[test]
-    fn numbers_that_json_would_lose_are_strings() {
-        assert_eq!(json("[9007199254740991, -9007199254740991]\n"), "[9007199254740991,-9007199254740991]");
-        assert_eq!(json("[9007199254740992, -9007199254740992]\n"), r#"["9007199254740992","-9007199254740992"]"#);
-        assert_eq!(json("[nan, infinity, -infinity]\n"), r#"["nan","infinity","-infinity"]"#);
-        assert_eq!(json("[1e999, 1e-999, 0.1234567890123456]\n"), r#"["1e999","1e-999","0.1234567890123456"]"#);
+    fn the_type_of_a_number_follows_from_its_kind() {
+        let doc = "[7, -9007199254740993, 1.5, 1e999, 0.12345678901234567, nan, -infinity]\n";
+        let all = r#"[7,-9007199254740993,1.5,1e999,0.12345678901234567,"nan","-infinity"]"#;
+        assert_eq!(json(doc, Numbers::Json), all);
+        let all = r#"["7","-9007199254740993","1.5","1e999","0.12345678901234567","nan","-infinity"]"#;
+        assert_eq!(json(doc, Numbers::Text), all);
+        let all = r#"[7,"-9007199254740993",1.5,"1e999","0.12345678901234567","nan","-infinity"]"#;
+        assert_eq!(json(doc, Numbers::Exact), all);
     }
 
     #[test]
-    fn floats_take_json_forms() {
-        assert_eq!(json("[1., .5, -00.50, 5e3, 0.e-9, 007.5e+2]\n"), "[1.0,0.5,-0.50,5e3,0e-9,7.5e+2]");
+    fn bytes_are_told_from_strings() {
+        assert_eq!(json("[<00ff>, \"00ff\", <>]\n", Numbers::Json), r#"[{"$bytes":"00ff"},"00ff",{"$bytes":""}]"#);
+        assert_eq!(styled("<00ff>\n", false, Numbers::Text), "{\"$bytes\": \"00ff\"}\n");
     }
 
     #[test]
-    fn strings_and_bytes() {
-        assert_eq!(json("[\"\\u{1b}\\n\\u{e0001}é\", <00ff>]\n"), r#"["\u001b\n\udb40\udc01é","00ff"]"#);
+    fn strings_are_escaped() {
+        assert_eq!(json("\"\\u{1b}\\n\\u{e0001}é\"\n", Numbers::Json), r#""\u001b\n\udb40\udc01é""#);
     }
 }

@@ -1,72 +1,61 @@
-//! `yay`: reads YAY documents for people and scripts. Exit status 0 good, 1 refused, 2 usage or file error.
+//! `yay`: reads YAY documents for people and scripts.
 
+mod accepted;
 mod batch;
 mod check;
 mod get;
-mod help;
 mod input;
 mod integers;
 mod json;
+mod numbers;
 mod outline;
-mod place;
+mod pages;
+mod quote;
 mod refused;
-mod repeat;
 mod rows;
-mod sentence;
-mod shown;
+mod stop;
+mod told;
+mod words;
 
+use accepted::accepted;
 use std::ffi::OsString;
-use std::io::{self, BufWriter, ErrorKind, Write};
+use std::io::{self, BufWriter, Write};
 use std::process::ExitCode;
-
-/// Why a command ends without its answer.
-pub enum Stop {
-    /// The words on the command line make no command.
-    Usage(String),
-    /// A file could not be read; what is to be said of it.
-    File(String),
-    /// A file could not be read; said already.
-    Unread,
-    /// A document was refused, or has not what was asked for; said already.
-    Refused,
-    /// Standard output could not be written.
-    Output(io::Error),
-}
-
-impl From<io::Error> for Stop {
-    fn from(error: io::Error) -> Stop {
-        Stop::Output(error)
-    }
-}
-
-pub type Done = Result<(), Stop>;
+use stop::{status, Done, Stop};
+use words::Words;
+use yay::shown::quoted;
 
 fn run(words: &[OsString], out: &mut dyn Write) -> Done {
-    let (command, rest) = words.split_first().ok_or(Stop::Usage("a command is missing".into()))?;
-    if rest.first().is_some_and(|word| word == "--help") {
-        return Ok(write!(out, "{}", help::TEXT)?);
-    }
-    match command.to_str().unwrap_or_default() {
-        "check" => check::run(rest, out),
-        "show" => outline::write(&input::accepted(one_file(rest)?)?.tree(), out),
-        "rows" => rows::write(&input::accepted(one_file(rest)?)?.tree(), out),
-        "get" => get::run(rest, out),
-        "json" => json::write(&input::accepted(one_file(rest)?)?.tree(), yay::ROOT, out),
-        "compare" => integers::run(rest, out),
-        "batch" if rest.is_empty() => batch::run(&mut io::stdin().lock(), out),
-        "batch" => Err(Stop::Usage("batch takes its documents from standard input alone".into())),
-        "help" | "--help" | "-h" => Ok(write!(out, "{}", help::TEXT)?),
-        "--version" | "-V" => Ok(writeln!(out, "yay {}", env!("CARGO_PKG_VERSION"))?),
-        _ => Err(Stop::Usage(format!("there is no command {}", shown::quoted(command.as_encoded_bytes())))),
+    let (command, rest) = words.split_first().ok_or(Stop::Usage("a command is missing".into(), ""))?;
+    match (command.to_str().unwrap_or_default(), rest) {
+        ("--help" | "-h", _) | ("help", []) => Ok(write!(out, "{}", pages::all())?),
+        ("--version" | "-V", _) => Ok(writeln!(out, "yay {}", env!("CARGO_PKG_VERSION"))?),
+        ("help", [command, ..]) => Ok(write!(out, "{}", pages::one(page(command)?))?),
+        _ => run_command(&Words::new(page(command)?, rest)?, out),
     }
 }
 
-fn one_file(words: &[OsString]) -> Result<&OsString, Stop> {
-    match words {
-        [dashes, file] if dashes == "--" => Ok(file),
-        [file] => Ok(file),
-        [] => Err(Stop::Usage("a file is missing".into())),
-        _ => Err(Stop::Usage("one file is read at a time here".into())),
+fn page(command: &OsString) -> Result<&'static pages::Page, Stop> {
+    let page = pages::PAGES.iter().find(|page| command == page.name);
+    let what = if command.as_encoded_bytes().starts_with(b"-") { "option" } else { "command" };
+    let wrong = || Stop::Usage(format!("there is no {what} {}", quoted(command.as_encoded_bytes())), "");
+    page.ok_or_else(wrong)
+}
+
+fn run_command(words: &Words, out: &mut dyn Write) -> Done {
+    if words.help {
+        return Ok(write!(out, "{}", pages::one(words.page))?);
+    }
+    match words.page.name {
+        "check" => check::run(words, out),
+        "show" => outline::write(&accepted(words.one_file()?)?.tree(), out),
+        "rows" => rows::write(&accepted(words.one_file()?)?.tree(), out),
+        "get" => get::run(words, out),
+        "json" => json::run(words, out),
+        "compare" => integers::run(words, out),
+        "batch" if words.plain.is_empty() => batch::run(&mut io::stdin().lock(), out),
+        "batch" => Err(words.wrong("takes its documents from standard input alone")),
+        name => unreachable!("a page without a command: {name}"),
     }
 }
 
@@ -74,20 +63,7 @@ fn main() -> ExitCode {
     let words: Vec<OsString> = std::env::args_os().skip(1).collect();
     let mut out = BufWriter::new(io::stdout().lock());
     let done = run(&words, &mut out);
-    let done = out.flush().map_err(Stop::Output).and(done);
-    ExitCode::from(match done {
-        Ok(()) => 0,
-        Err(Stop::Refused) => 1,
-        Err(Stop::Unread) => 2,
-        // Whoever reads has seen enough.
-        Err(Stop::Output(error)) if error.kind() == ErrorKind::BrokenPipe => 0,
-        Err(Stop::Output(error)) => complain(&format!("standard output: {error}")),
-        Err(Stop::File(message)) => complain(&message),
-        Err(Stop::Usage(message)) => complain(&format!("{message}; 'yay --help' lists the commands")),
-    })
-}
-
-fn complain(message: &str) -> u8 {
-    let _ = writeln!(io::stderr(), "yay: {message}");
-    2
+    // What was refused stays refused, also where nobody reads the rest.
+    let flushed = out.flush().map_err(Stop::Output);
+    ExitCode::from(status(done.and(flushed)))
 }

@@ -1,8 +1,8 @@
 //! `yay show`: the tree as an indented outline, a line for each value.
 
-use crate::shown::quoted;
-use crate::{Done, Stop};
+use crate::stop::{Done, Stop};
 use std::io::Write;
+use yay::shown::quoted;
 use yay::{Kind, Number, Row, Tree, ROOT};
 
 /// A table that `read` has filled answers every question that is asked of it here.

@@ -1,13 +1,10 @@
 //! A refusal as people see it: `file:line:column: NAME (number): sentence`, the line, and a caret under the place.
 
 use crate::input::Input;
-use crate::place::{position, Position};
-use crate::repeat::first_key;
-use crate::sentence::sentence;
-use crate::shown::quoted;
+use crate::quote::quote;
 use std::fmt::Write;
 use std::io::{self, IsTerminal};
-use yay::{Number, Refusal};
+use yay::{first_key, position, Number, Place, Refusal, LONGEST};
 
 /// Escape codes for a terminal, or nothing.
 struct Ink {
@@ -28,42 +25,34 @@ pub fn say(input: &Input, refusal: Refusal) {
 }
 
 fn report(input: &Input, refusal: Refusal, ink: &Ink) -> String {
-    let here = position(&input.bytes, refusal.place.0);
-    if refusal.number == Number::Repeat {
-        return report_repeat(input, refusal, &here, ink);
-    }
-    let mut report = headline(input, refusal, &here, &sentence(input, refusal), ink);
-    if refusal.number != Number::Long {
-        quote(&mut report, &here, "", ink);
+    let mut report = headline(input, refusal, ink);
+    match refusal.number {
+        Number::Long => {}
+        Number::Repeat => {
+            if let Some((_, first)) = first_key(&input.bytes, refusal.place) {
+                show(&mut report, &input.bytes, first, " first", ink);
+            }
+            show(&mut report, &input.bytes, refusal.place, " again", ink);
+        }
+        _ => show(&mut report, &input.bytes, refusal.place, "", ink),
     }
     report
 }
 
-fn report_repeat(input: &Input, refusal: Refusal, here: &Position, ink: &Ink) -> String {
-    let Some((key, first)) = first_key(&input.bytes, refusal.place.0) else {
-        let mut report = headline(input, refusal, here, refusal.number.meaning(), ink);
-        quote(&mut report, here, "", ink);
-        return report;
-    };
-    let there = position(&input.bytes, first);
-    let (line, column) = (there.line, there.column);
-    let sentence = format!("the key {} stands in its object already, at {line}:{column}", quoted(&key));
-    let mut report = headline(input, refusal, here, &sentence, ink);
-    quote(&mut report, &there, " first", ink);
-    quote(&mut report, here, " again", ink);
-    report
-}
-
-fn headline(input: &Input, refusal: Refusal, here: &Position, sentence: &str, ink: &Ink) -> String {
+fn headline(input: &Input, refusal: Refusal, ink: &Ink) -> String {
     let Ink { bold, red, off } = ink;
     let (name, code) = (refusal.number.name(), refusal.number.code());
-    format!("{bold}{}:{}:{}:{off} {red}{name} ({code}){off}: {sentence}\n", input.name, here.line, here.column)
+    let position = position(&input.bytes, refusal.place);
+    let sentence = refusal.sentence(&input.bytes);
+    let known = input.length.filter(|length| refusal.number == Number::Long && *length > LONGEST as u64);
+    let length = known.map_or(String::new(), |length| format!("; the file has {length}"));
+    format!("{bold}{}:{position}:{off} {red}{name} ({code}){off}: {sentence}{length}\n", input.name)
 }
 
-fn quote(report: &mut String, at: &Position, label: &str, ink: &Ink) {
-    let (line, caret) = at.quote();
+fn show(report: &mut String, doc: &[u8], place: Place, label: &str, ink: &Ink) {
+    let (line, caret) = quote(doc, place);
     let Ink { red, off, .. } = ink;
-    let row = format!("{:>5} | {line}", at.line);
+    let row = format!("{:>5} | {line}", position(doc, place).line);
     let _ = writeln!(report, "{}", row.trim_end());
     let _ = writeln!(report, "      | {}{red}^{label}{off}", " ".repeat(caret));
 }
@@ -82,6 +71,12 @@ mod tests {
         let wanted = "f.yay:2:13: SYNTAX (3): \"2\" may not stand here; one space must follow \",\"\n    \
                       2 | version: [1,2]\n      |             ^\n";
         assert_eq!(shown(b"a: 1\nversion: [1,2]\n", &PLAIN), wanted);
+    }
+
+    #[test]
+    fn a_space_at_the_end_is_shown() {
+        let wanted = "f.yay:1:6: SYNTAX (3): a line may not end in a space\n    1 | a: 1␠⏎\n      |      ^\n";
+        assert_eq!(shown(b"a: 1 \n", &PLAIN), wanted);
     }
 
     #[test]

@@ -1,15 +1,21 @@
 //! `yay rows`: the table of rows, one to a line.
 
 use crate::outline::{broken, text};
-use crate::Done;
+use crate::stop::Done;
 use std::io::Write;
-use yay::{Kind, Row, Tree};
+use yay::{Kind, Row, Tree, NAMES};
 
 pub fn write(tree: &Tree, out: &mut dyn Write) -> Done {
-    writeln!(out, "  row kind  from    to start   end parent  next")?;
+    write!(out, "  row")?;
+    for name in NAMES {
+        write!(out, " {name:>6}")?;
+    }
+    writeln!(out)?;
     for row in (0..tree.rows()).map(Row) {
-        let [kind, from, to, start, end, parent, next] = tree.words(row).map_err(broken)?;
-        write!(out, "{:>5} {kind:>4} {from:>5} {to:>5} {start:>5} {end:>5} {parent:>6} {next:>5}", row.0)?;
+        write!(out, "{:>5}", row.0)?;
+        for word in tree.words(row).map_err(broken)? {
+            write!(out, " {word:>6}")?;
+        }
         let kind = tree.kind(row).map_err(broken)?;
         match kind {
             Kind::Null | Kind::False | Kind::True | Kind::Array | Kind::Object => writeln!(out, "  {}", kind.name())?,

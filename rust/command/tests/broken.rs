@@ -1,7 +1,7 @@
 //! Each command on broken, empty, binary and too long files, on what is no file, and on wrong words.
 
 mod common;
-use common::{yay, Temporary};
+use common::{status_unread, yay, Temporary};
 
 const READING: [&str; 5] = ["check", "show", "rows", "get", "json"];
 
@@ -41,7 +41,11 @@ fn a_binary_file() {
 #[test]
 fn a_file_of_33_kilobytes() {
     let file = Temporary::new("long.yay", &[b'1'; 33_000]);
-    all_say(file.name(), 1, "F:1:1: LONG (1): the file has 33000 bytes, and a document has at most 32768\n");
+    all_say(
+        file.name(),
+        1,
+        "F:1:1: LONG (1): there are more than 32768 bytes, the most that a document has; the file has 33000\n",
+    );
     let run = yay(&["check", "-"], &[b'1'; 33_000]);
     let said = "(standard input):1:1: LONG (1): there are more than 32768 bytes, the most that a document has\n";
     assert_eq!((run.status, run.err.as_str()), (1, said));
@@ -67,19 +71,71 @@ fn a_repeated_key_shows_both() {
 fn many_files_and_the_worst_status() {
     let (good, bad) = (Temporary::new("good.yay", b"1\n"), Temporary::new("bad.yay", b"1"));
     let run = yay(&["check", good.name(), bad.name(), good.name()], b"");
-    assert_eq!((run.status, run.out.lines().count()), (1, 2));
+    assert_eq!((run.status, run.out.lines().count()), (1, 3));
+    assert_eq!(run.out.lines().last(), Some("2 ok, 1 refused"));
     let run = yay(&["check", bad.name(), "/nonexistent", good.name()], b"");
-    assert_eq!((run.status, run.out.lines().count()), (2, 1));
+    assert_eq!((run.status, run.out.lines().count()), (2, 2));
+    assert_eq!(run.out.lines().last(), Some("1 ok, 1 refused, 1 not read"));
     assert!(run.err.contains("END (5)") && run.err.ends_with("no such file\n"));
+    let run = yay(&["check", bad.name()], b"");
+    assert_eq!((run.status, run.out.as_str()), (1, ""));
+}
+
+#[test]
+fn quiet_says_refusals_alone() {
+    let (good, bad) = (Temporary::new("quiet-good.yay", b"1\n"), Temporary::new("quiet-bad.yay", b"1"));
+    for quiet in ["-q", "--quiet"] {
+        let run = yay(&["check", good.name(), bad.name(), quiet, good.name()], b"");
+        assert_eq!((run.status, run.out.as_str(), run.err.lines().count()), (1, "", 3));
+    }
+    let run = yay(&["check", "-q", good.name(), good.name()], b"");
+    assert_eq!((run.status, run.out.as_str(), run.err.as_str()), (0, "", ""));
+}
+
+#[test]
+fn a_closed_pipe_loses_no_refusal() {
+    let (good, bad) = (Temporary::new("pipe-good.yay", b"1\n"), Temporary::new("pipe-bad.yay", b"1"));
+    assert_eq!(status_unread(&["check", "-", good.name()], b"1\n"), 0);
+    assert_eq!(status_unread(&["check", "-", bad.name(), good.name()], b"1\n"), 1);
+    assert_eq!(status_unread(&["check", "-", good.name(), bad.name()], b"1\n"), 1);
+    assert_eq!(status_unread(&["check", "-", good.name()], b"1"), 1);
+    assert_eq!(status_unread(&["check", "-", good.name(), "/nonexistent"], b"1\n"), 2);
+    assert_eq!(status_unread(&["show", "-"], b"1\n"), 0);
+    assert_eq!(status_unread(&["show", "-"], b"1"), 1);
+    assert_eq!(status_unread(&["get", "-", "nope"], b"a: 1\n"), 3);
 }
 
 #[test]
 fn wrong_words() {
-    for words in [&[][..], &["nope"], &["check"], &["show"], &["show", "a", "b"], &["compare", "1"], &["batch", "x"]] {
+    for words in [&[][..], &["nope"], &["-x"], &["--nope", "check"], &["help", "nope"]] {
         let run = yay(words, b"");
         assert_eq!((run.status, run.out.as_str()), (2, ""), "{words:?}");
-        assert!(run.err.starts_with("yay: ") && run.err.ends_with("'yay --help' lists the commands\n"), "{words:?}");
+        assert!(run.err.starts_with("yay: ") && run.err.ends_with("; 'yay --help' lists the commands\n"), "{words:?}");
     }
+    for words in [&["check"][..], &["show"], &["show", "a", "b"], &["get"], &["compare", "1"], &["batch", "x"]] {
+        let run = yay(words, b"");
+        assert_eq!((run.status, run.out.as_str()), (2, ""), "{words:?}");
+        let more = format!("; 'yay {} --help' tells more\n", words[0]);
+        assert!(run.err.starts_with(&format!("yay: {} ", words[0])) && run.err.ends_with(&more), "{words:?}");
+    }
+}
+
+#[test]
+fn an_unknown_option_is_named_and_never_a_file() {
+    for command in ["check", "show", "rows", "get", "json", "compare", "batch"] {
+        for option in ["-x", "--nope", "--nope=1", "-qx"] {
+            let run = yay(&[command, option, "-"], b"1\n");
+            let name = option.split('=').next().unwrap();
+            let said = format!("yay: {command} has no option \"{name}\"; 'yay {command} --help' tells more\n");
+            assert_eq!((run.status, run.out.as_str(), run.err), (2, "", said));
+        }
+        let run = yay(&[command, "--", "-x"], b"");
+        assert!(!run.err.contains("option"), "{command}: {}", run.err);
+    }
+    let run = yay(&["check", "--", "-x"], b"");
+    assert_eq!((run.status, run.err.as_str()), (2, "yay: -x: there is no such file\n"));
+    let run = yay(&["get", "-", "--", "-k"], b"-k: 1\n");
+    assert_eq!((run.status, run.out.as_str()), (0, "1\n"));
 }
 
 #[test]

@@ -1,7 +1,7 @@
 //! Each command on good documents.
 
 mod common;
-use common::{example, yay};
+use common::{example, yay, yay_bytes};
 
 fn good(words: &[&str], input: &[u8]) -> String {
     let run = yay(words, input);
@@ -21,7 +21,10 @@ fn every_example_is_good() {
     let files: Vec<_> = folder.map(|entry| entry.expect("listed").path().to_str().unwrap().to_owned()).collect();
     assert!(files.len() >= 4);
     let words: Vec<_> = ["check"].into_iter().chain(files.iter().map(String::as_str)).collect();
-    assert_eq!(good(&words, b"").lines().count(), files.len());
+    let out = good(&words, b"");
+    assert_eq!(out.lines().last(), Some(format!("{} ok, 0 refused", files.len()).as_str()));
+    let named: Vec<_> = out.lines().map_while(|line| line.split_once(": ok, ").map(|(file, _)| file)).collect();
+    assert_eq!(named, files);
 }
 
 #[test]
@@ -33,9 +36,10 @@ fn show_is_an_outline() {
 }
 
 #[test]
-fn rows_are_seven_words() {
+fn rows_are_their_words() {
     let out = good(&["rows", "-"], b"[1, 22]\n");
     let lines: Vec<_> = out.lines().map(|line| line.split_whitespace().collect::<Vec<_>>().join(" ")).collect();
+    assert_eq!(lines[0], format!("row {}", yay::NAMES.join(" ")));
     assert_eq!(lines[1..], ["0 8 0 7 0 2 0 3 array", "1 4 1 2 0 1 0 2 integer 1", "2 4 4 6 1 3 0 3 integer 22"]);
 }
 
@@ -58,20 +62,41 @@ fn get_follows_keys_and_numbers() {
 }
 
 #[test]
+fn get_writes_forms_for_scripts() {
+    let doc = b"a: <00ff0a>\nb: \"x\\n\"\nc: [1.50, {d: null}]\n";
+    assert_eq!(good(&["get", "--raw", "-", "b"], doc), "x\n");
+    assert_eq!(good(&["get", "-r", "-", "c", "0"], doc), "1.50");
+    assert_eq!(good(&["get", "--raw", "-", "c", "1", "d"], doc), "null");
+    assert_eq!(good(&["get", "--json", "-", "b"], doc), "\"x\\n\"\n");
+    assert_eq!(good(&["get", "--json", "-", "a"], doc), "{\"$bytes\": \"00ff0a\"}\n");
+    assert_eq!(good(&["get", "-c", "-", "c"], doc), "[1.50,{\"d\":null}]\n");
+    assert_eq!(good(&["get", "-c", "--numbers=text", "-", "c"], doc), "[\"1.50\",{\"d\":null}]\n");
+    assert_eq!(yay_bytes(&["get", "--raw", "-", "a"], doc), [0, 255, 10]);
+    let run = yay(&["get", "--raw", "-", "c"], doc);
+    assert_eq!((run.status, run.out.as_str()), (2, ""));
+    assert!(run.err.starts_with("yay: get --raw takes a value with a text, and this is an array"), "{}", run.err);
+}
+
+#[test]
 fn get_says_what_is_missing() {
     let tablet = example("tablet.yay");
     for (keys, said) in [
-        (&["nope"][..], "yay: NONE (10): the document has no key \"nope\"\n"),
-        (&["version", "3"], "yay: \"version\" is an array, and has no element \"3\"\n"),
-        (
-            &["image-channel", "x"],
-            "yay: \"image-channel\" is no object or array but of kind string, and has no \"x\"\n",
-        ),
+        (&["nope"][..], "yay: NONE (10): the document has no key \"nope\"; it is an object of 7 pairs\n"),
+        (&["version", "3"], "yay: \"version\" has no element \"3\"; it is an array of 3 elements, from 0\n"),
+        (&["version", "+1"], "yay: \"version\" has no element \"+1\"; it is an array of 3 elements, from 0\n"),
+        (&["floor", "x"], "yay: \"floor\" has no element \"x\"; it is an array of 1 element, from 0\n"),
+        (&["image-channel", "x"], "yay: \"image-channel\" has no \"x\"; it is no object or array but of kind string\n"),
     ] {
         let words: Vec<_> = ["get", &tablet].into_iter().chain(keys.iter().copied()).collect();
         let run = yay(&words, b"");
-        assert_eq!((run.status, run.out.as_str(), run.err.as_str()), (1, "", said));
+        assert_eq!((run.status, run.out.as_str(), run.err.as_str()), (3, "", said));
+        let with: Vec<_> = ["get", "--default=none, yet", &tablet].into_iter().chain(keys.iter().copied()).collect();
+        assert_eq!(good(&with, b""), "none, yet\n");
     }
+    assert_eq!(good(&["get", "-d", "x", &tablet, "battery", "capacity"], b""), "10400\n");
+    assert_eq!(good(&["get", "--raw", "-d", "x", &tablet, "nope"], b""), "x");
+    let run = yay(&["get", "--default=x", "-", "a"], b"a: 1 \n");
+    assert_eq!((run.status, run.out.as_str()), (1, ""), "a refused document has no default");
 }
 
 #[test]
@@ -79,6 +104,24 @@ fn json_of_an_example() {
     let out = good(&["json", &example("tablet.yay")], b"");
     assert!(out.starts_with("{\n  \"image-channel\": \"stable\",\n  \"version\": [\n    10,\n"), "{out}");
     assert!(out.contains("\"low-at\": 0.15,\n"));
+}
+
+#[test]
+fn json_as_scripts_ask() {
+    let doc = b"[1, 18446744073709551617, <00>]\n";
+    assert_eq!(good(&["json", "-c", "-"], doc), "[1,18446744073709551617,{\"$bytes\":\"00\"}]\n");
+    assert_eq!(good(&["json", "--compact", "-", "--numbers=json"], doc), good(&["json", "-c", "-"], doc));
+    assert_eq!(
+        good(&["json", "-c", "-", "--numbers=text"], doc),
+        "[\"1\",\"18446744073709551617\",{\"$bytes\":\"00\"}]\n"
+    );
+    assert_eq!(
+        good(&["json", "-c", "--numbers", "exact", "-"], doc),
+        "[1,\"18446744073709551617\",{\"$bytes\":\"00\"}]\n"
+    );
+    let run = yay(&["json", "--numbers=all", "-"], doc);
+    assert_eq!((run.status, run.out.as_str()), (2, ""));
+    assert!(run.err.starts_with("yay: json takes json, text or exact behind --numbers"), "{}", run.err);
 }
 
 #[test]
@@ -96,6 +139,23 @@ fn help_and_version() {
     for command in ["check", "show", "rows", "get", "json", "compare", "batch"] {
         assert!(help.contains(&format!("yay {command}")), "{command}");
     }
-    assert_eq!(good(&["check", "--help"], b""), help);
+    assert_eq!(good(&["help"], b""), help);
+    assert_eq!(good(&["-h"], b""), help);
     assert_eq!(good(&["--version"], b""), concat!("yay ", env!("CARGO_PKG_VERSION"), "\n"));
+}
+
+#[test]
+fn each_command_has_its_page() {
+    for command in ["check", "show", "rows", "get", "json", "compare", "batch"] {
+        let page = good(&[command, "--help"], b"");
+        assert!(page.starts_with(&format!("yay {command}")) && page.contains("\n  -h, --help"), "{page}");
+        assert_eq!(good(&[command, "-h"], b""), page);
+        assert_eq!(good(&[command, "x", "--help", "y"], b""), page);
+        assert_eq!(good(&["help", command], b""), page);
+    }
+    let page = good(&["get", "-h"], b"");
+    for option in ["-r, --raw", "-j, --json", "-c, --compact", "--numbers=HOW", "-d, --default=TEXT"] {
+        assert!(page.contains(option), "{option}");
+    }
+    assert!(good(&["check", "-h"], b"").contains("-q, --quiet"));
 }

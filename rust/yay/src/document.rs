@@ -1,6 +1,9 @@
 //! The owned form: a document with rooms of its own.
 
-use crate::{read, Refusal, Tree, LONGEST, WORDS};
+use crate::limits::{LONGEST, WORDS};
+use crate::reading::read;
+use crate::refusal::Refusal;
+use crate::tree::Tree;
 
 /// An accepted document's rows and text, in memory of its own.
 ///

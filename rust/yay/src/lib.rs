@@ -2,11 +2,21 @@
 //!
 //! [`read`] fills rooms that the caller lends and allocates nothing; [`Document`] is the same with rooms of its
 //! own. A [`Tree`] answers questions. Every answer is fixed by the project's definitions, for any bytes at all.
-//! Reading takes up to 1.6 MB of stack.
+//! What stack a call needs is said in include/yay.h.
+//!
+//! ```
+//! let document = yay::Document::read(b"battery:\n  capacity: 10 400\n  low-at: 0.15\n")?;
+//! let tree = document.tree();
+//! let capacity = tree.path(yay::ROOT, &["battery", "capacity"])?;
+//! assert_eq!(tree.integer(capacity)?, 10_400);
+//! # Ok::<(), Box<dyn std::error::Error>>(())
+//! ```
+//!
+//! With rooms lent, and integers of any length:
 //!
 //! ```
 //! let doc = b"battery:\n  capacity: 10 400\n";
-//! let (mut table, mut text) = ([0; 7 * 64], [0; 64]);
+//! let (mut table, mut text) = ([0; 64 * yay::WORDS], [0; 64]);
 //! let tree = yay::read(doc, &mut table, &mut text)?;
 //! let battery = tree.find(yay::ROOT, "battery")?;
 //! let capacity = tree.text(tree.find(battery, "capacity")?)?;
@@ -15,50 +25,40 @@
 //! # Ok::<(), Box<dyn std::error::Error>>(())
 //! ```
 //!
-//! A refusal says why and where:
+//! A refusal says why and where, and with the document at hand in a sentence that helps:
 //!
 //! ```
-//! let refusal = yay::Document::read(b"version: [1,2]\n").unwrap_err();
+//! let doc = b"version: [1,2]\n";
+//! let refusal = yay::Document::read(doc).unwrap_err();
 //! assert_eq!((refusal.number, refusal.place), (yay::Number::Syntax, yay::Place(12)));
-//! assert_eq!(refusal.to_string(), "SYNTAX (3): no document goes on like this, at byte 12");
+//! assert_eq!(refusal.to_string(), "SYNTAX (3): no document goes on like this, at 1:13 (byte 12)");
+//! assert_eq!(refusal.sentence(doc), "\"2\" may not stand here; one space must follow \",\"");
 //! ```
 
 mod document;
+mod limits;
+mod path;
+mod place;
+mod reading;
 mod refusal;
+mod repeat;
+mod sentence;
+pub mod shown;
 mod sys;
 mod tree;
+mod values;
 
 pub use document::Document;
-pub use refusal::{Number, Place, Refusal};
-pub use tree::{Children, Kind, Row, Tree, ROOT, WORDS};
+pub use limits::{LONGEST, NAMES, NESTING, WORDS};
+pub use path::Missing;
+pub use place::{line_around, position, Place, Position};
+pub use reading::{compare, read};
+pub use refusal::{Number, Refusal};
+pub use repeat::first_key;
+pub use tree::{Children, Kind, Row, Tree, ROOT};
+pub use values::{Mismatch, Pairs};
 
-use std::cmp::Ordering;
-
-/// The most bytes a document may have.
-pub const LONGEST: usize = 32_768;
-/// The most containers one inside another.
-pub const NESTING: usize = 32;
-
-/// Reads a document into rooms lent. Rows, of [`WORDS`] words each, and text bytes are each fewer than the
-/// document's bytes. A refusal leaves both rooms as they were.
-pub fn read<'a>(doc: &[u8], table: &'a mut [u32], text: &'a mut [u8]) -> Result<Tree<'a>, Refusal> {
-    match sys::read(doc, table, text) {
-        (0, rows, bytes) => Ok(Tree::new(&table[..rows * WORDS], rows, &text[..bytes])),
-        (code, place, _) => Err(Refusal { number: Number::given(code), place: Place(place) }),
-    }
-}
-
-/// Two integers' texts by numeric order, whatever their length; [`Number::NotInt`] if one is none.
-///
-/// ```
-/// use std::cmp::Ordering;
-/// assert_eq!(yay::compare(b"10", b"9"), Ok(Ordering::Greater));
-/// assert_eq!(yay::compare(b"-10", b"9"), Ok(Ordering::Less));
-/// assert_eq!(yay::compare(b"007", b"9"), Err(yay::Number::NotInt));
-/// ```
-pub fn compare(left: &[u8], right: &[u8]) -> Result<Ordering, Number> {
-    match sys::compare(left, right) {
-        (0, order) => Ok(order.cmp(&0)),
-        (code, _) => Err(Number::given(code)),
-    }
-}
+/// The program of rust/README.md, so that it is compiled with the other examples.
+#[cfg(doctest)]
+#[doc = include_str!("../../README.md")]
+pub struct Readme;

@@ -1,11 +1,9 @@
 //! Numbers of refusal, and the errors that carry them.
 
+use crate::limits::{longest, nesting, WORDS};
+use crate::place::{Place, Position};
 use std::error::Error;
 use std::fmt;
-
-/// A place in a document, in bytes from 0. A [`Row`](crate::Row) is never taken for one.
-#[derive(Clone, Copy, PartialEq, Eq, PartialOrd, Ord, Hash, Debug)]
-pub struct Place(pub usize);
 
 /// Why a document is refused, or a question has no answer.
 #[derive(Clone, Copy, PartialEq, Eq, Hash, Debug)]
@@ -36,10 +34,10 @@ pub enum Number {
 }
 
 const NUMBERS: [(Number, &str, &str); 11] = [
-    (Number::Long, "LONG", "the document has more than 32,768 bytes"),
+    (Number::Long, "LONG", concat!("the document has more than ", longest!(), " bytes")),
     (Number::Char, "CHAR", "this byte belongs to no allowed character"),
     (Number::Syntax, "SYNTAX", "no document goes on like this"),
-    (Number::Deep, "DEEP", "more than 32 containers stand one inside another"),
+    (Number::Deep, "DEEP", concat!("more than ", nesting!(), " containers stand one inside another")),
     (Number::End, "END", "the document ends too early"),
     (Number::Repeat, "REPEAT", "this key stands in its object already"),
     (Number::Rows, "ROWS", "the table lent has too few words"),
@@ -84,21 +82,23 @@ impl fmt::Display for Number {
 
 impl Error for Number {}
 
-/// A document refused: numbers [`Number::Long`] to [`Number::Text`].
+/// A document refused: numbers [`Number::Long`] to [`Number::Text`]. `sentence` says more of it.
 #[derive(Clone, Copy, PartialEq, Eq, Debug)]
 pub struct Refusal {
     pub number: Number,
     /// Where; for [`Number::Rows`] and [`Number::Text`] how many rows or bytes are needed.
     pub place: Place,
+    /// The place as line and column; for [`Number::Rows`] and [`Number::Text`] there is none.
+    pub position: Option<Position>,
 }
 
 impl fmt::Display for Refusal {
     fn fmt(&self, out: &mut fmt::Formatter) -> fmt::Result {
-        match self.number {
-            Number::Long => write!(out, "{}", self.number),
-            Number::Rows => write!(out, "{}, {} rows of 7 words are needed", self.number, self.place.0),
-            Number::Text => write!(out, "{}, {} are needed", self.number, self.place.0),
-            _ => write!(out, "{}, at byte {}", self.number, self.place.0),
+        match (self.number, self.position) {
+            (Number::Rows, _) => write!(out, "{}, {} rows of {WORDS} words are needed", self.number, self.place.0),
+            (Number::Text, _) => write!(out, "{}, {} are needed", self.number, self.place.0),
+            (Number::Long, _) | (_, None) => write!(out, "{}", self.number),
+            (_, Some(position)) => write!(out, "{}, at {position} (byte {})", self.number, self.place.0),
         }
     }
 }

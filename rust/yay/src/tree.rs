@@ -1,10 +1,10 @@
 //! Tables of rows, whoever made them, and the questions that are asked of them.
 
-use crate::{sys, Number, Place};
+use crate::limits::WORDS;
+use crate::place::Place;
+use crate::refusal::Number;
+use crate::sys;
 use std::ops::Range;
-
-/// Words of a row.
-pub const WORDS: usize = 7;
 
 /// The number of a row, from 0. A [`Place`] is never taken for one.
 #[derive(Clone, Copy, PartialEq, Eq, PartialOrd, Ord, Hash, Debug)]
@@ -78,7 +78,7 @@ impl<'a> Tree<'a> {
         self.text
     }
 
-    /// The seven words of a row.
+    /// The words of a row.
     pub fn words(&self, row: Row) -> Result<&'a [u32; WORDS], Number> {
         if row.0 >= self.rows {
             return Err(Number::BadRow);

@@ -33,10 +33,10 @@ fn refusals_of_the_border_table() {
 fn rooms_too_small_say_what_is_needed_and_stay() {
     let (mut table, mut text) = ([9; 3 * WORDS - 1], [9; 3]);
     let refusal = read(b"[1, 22]\n", &mut table, &mut text).unwrap_err();
-    assert_eq!(refusal, Refusal { number: Number::Rows, place: Place(3) });
+    assert_eq!(refusal, Refusal { number: Number::Rows, place: Place(3), position: None });
     let mut table = [9; 3 * WORDS];
     let refusal = read(b"[1, 22]\n", &mut table, &mut text[..2]).unwrap_err();
-    assert_eq!(refusal, Refusal { number: Number::Text, place: Place(3) });
+    assert_eq!(refusal, Refusal { number: Number::Text, place: Place(3), position: None });
     assert_eq!((table, text), ([9; 3 * WORDS], [9; 3]));
     assert_eq!(refusal.to_string(), "TEXT (8): the text room lent has too few bytes, 3 are needed");
 }
@@ -54,7 +54,7 @@ fn errors_are_errors() {
         Ok(())
     }
     let message = fails().unwrap_err().to_string();
-    assert_eq!(message, "REPEAT (6): this key stands in its object already, at byte 5");
+    assert_eq!(message, "REPEAT (6): this key stands in its object already, at 2:1 (byte 5)");
     let error: Box<dyn Error> = Box::new(Number::None);
     assert_eq!(error.to_string(), "NONE (10): the key isn't in the object");
 }

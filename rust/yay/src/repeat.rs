@@ -1,22 +1,32 @@
 //! Where the first of two equal keys stands. The reader's answer has the place of the later one alone; the reader
 //! is asked again, of the document cut behind a fresh key in the later one's place.
 
-use yay::{Document, Kind, Number, Place, Row};
+use crate::document::Document;
+use crate::limits::NESTING;
+use crate::place::Place;
+use crate::refusal::Number;
+use crate::tree::{Kind, Row};
 
 /// The decoded key that stands at `again` for the second time, and the place of the first.
-pub fn first_key(doc: &[u8], again: usize) -> Option<(Vec<u8>, usize)> {
-    let key = decoded(&doc[again..])?;
-    let cut = complete(&doc[..again], &fresh(doc))?;
+///
+/// ```
+/// let doc = b"a: 1\nb: 2\n\"\\u{61}\": 3\n";
+/// let again = yay::Document::read(doc).unwrap_err().place;
+/// assert_eq!(yay::first_key(doc, again), Some((b"a".to_vec(), yay::Place(0))));
+/// ```
+pub fn first_key(doc: &[u8], again: Place) -> Option<(Vec<u8>, Place)> {
+    let key = decoded(doc.get(again.0..)?)?;
+    let cut = complete(&doc[..again.0], &fresh(doc))?;
     let tree = cut.tree();
     let later = (0..tree.rows()).map(Row).find(|row| is_key_at(&cut, *row, again))?;
     let value = tree.find(tree.parent(later).ok()?, &key).ok()?;
     let first = tree.span(Row(value.0.checked_sub(1)?)).ok()?.start;
-    Some((key, first.0))
+    Some((key, first))
 }
 
-fn is_key_at(document: &Document, row: Row, place: usize) -> bool {
+fn is_key_at(document: &Document, row: Row, place: Place) -> bool {
     let tree = document.tree();
-    tree.kind(row) == Ok(Kind::Key) && tree.span(row).is_ok_and(|span| span.start == Place(place))
+    tree.kind(row) == Ok(Kind::Key) && tree.span(row).is_ok_and(|span| span.start == place)
 }
 
 /// The key that the bytes begin with, decoded by reading it as a document's only key.
@@ -30,7 +40,8 @@ fn decoded(bytes: &[u8]) -> Option<Vec<u8>> {
     Some(key.to_vec())
 }
 
-fn quoted_length(bytes: &[u8], quote: u8) -> Option<usize> {
+/// How many bytes the quoted string has that the bytes begin with, its quotes counted.
+pub(crate) fn quoted_length(bytes: &[u8], quote: u8) -> Option<usize> {
     let mut at = 1;
     while *bytes.get(at)? != quote {
         at += if bytes[at] == b'\\' { 2 } else { 1 };
@@ -49,7 +60,7 @@ fn fresh(doc: &[u8]) -> Vec<u8> {
 /// endings is not refused.
 fn complete(start: &[u8], key: &[u8]) -> Option<Document> {
     let mut doc = [start, key, b": 0"].concat();
-    for _ in 0..=yay::NESTING {
+    for _ in 0..=NESTING {
         if let Ok(document) = Document::read(&[&doc[..], b"\n"].concat()) {
             return Some(document);
         }
@@ -66,13 +77,13 @@ fn goes_on(doc: &[u8], byte: u8) -> bool {
 
 #[cfg(test)]
 mod tests {
-    use super::first_key;
+    use super::*;
 
     fn found(doc: &str) -> (String, usize) {
-        let refusal = yay::Document::read(doc.as_bytes()).expect_err("refused");
-        assert_eq!(refusal.number, yay::Number::Repeat);
-        let (key, place) = first_key(doc.as_bytes(), refusal.place.0).expect("found");
-        (String::from_utf8(key).unwrap(), place)
+        let refusal = Document::read(doc.as_bytes()).expect_err("refused");
+        assert_eq!(refusal.number, Number::Repeat);
+        let (key, place) = first_key(doc.as_bytes(), refusal.place).expect("found");
+        (String::from_utf8(key).unwrap(), place.0)
     }
 
     #[test]

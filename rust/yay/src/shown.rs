@@ -59,9 +59,10 @@ fn visible(character: char) -> String {
     }
 }
 
-/// Controls, and characters that reorder, hide or separate lines of text.
+/// Controls, characters that reorder, hide or separate lines of text, and spaces but the plain one.
 pub fn is_hidden(character: char) -> bool {
     character.is_control()
+        || (character.is_whitespace() && character != ' ')
         || matches!(character as u32, 0xad | 0x61c | 0x200b..=0x200f | 0x2028..=0x202e | 0x2060..=0x206f | 0xfeff)
         || matches!(character as u32, 0xe0000..=0xe007f)
         || (character as u32) & 0xfffe == 0xfffe
@@ -85,7 +86,7 @@ mod tests {
     #[test]
     fn nothing_reaches_the_terminal_as_a_control() {
         assert_eq!(plain(b"a\x1b[31m\xff\x7f"), "a\\u{1b}[31m\\xff\\u{7f}");
-        assert_eq!(plain("\u{202e}\u{85}".as_bytes()), "\\u{202e}\\u{85}");
+        assert_eq!(plain("\u{202e}\u{85}\u{a0}".as_bytes()), "\\u{202e}\\u{85}\\u{a0}");
         assert_eq!(quoted("a\"\n日".as_bytes()), "\"a\\\"\\n日\"");
     }
 

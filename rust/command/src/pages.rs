@@ -1,0 +1,136 @@
+//! The commands' pages: what `yay --help` and `yay COMMAND --help` print, and the options that each takes.
+
+pub struct Opt {
+    /// Empty if there is none.
+    pub short: &'static str,
+    pub long: &'static str,
+    /// What its value is called; empty if it takes none.
+    pub value: &'static str,
+    pub what: &'static str,
+}
+
+pub struct Page {
+    pub name: &'static str,
+    /// The words behind the name, options aside.
+    pub words: &'static str,
+    /// In a line, for the list of commands.
+    pub short: &'static str,
+    pub text: &'static str,
+    pub options: &'static [Opt],
+    /// Whether `-1` is a word and no option.
+    pub integers: bool,
+}
+
+const COMPACT: Opt = Opt { short: "-c", long: "--compact", value: "", what: "JSON on one line, without spaces" };
+const NUMBERS: Opt =
+    Opt { short: "", long: "--numbers", value: "HOW", what: "numbers in JSON: json (the default), text or exact" };
+const HELP: Opt = Opt { short: "-h", long: "--help", value: "", what: "this page" };
+
+const NUMBERS_TEXT: &str = "
+A number is a JSON number with all its digits, whatever its size; nan and the infinities, for which JSON
+has no number, are strings. With --numbers=text every number is a string of its text. With
+--numbers=exact those are strings that a reader with binary64 numbers would change.
+Bytes are an object of one pair, {\"$bytes\": \"00ff\"}.
+";
+
+pub const PAGES: [Page; 7] = [
+    Page {
+        name: "check",
+        words: "FILE..",
+        short: "whether each file is a document, or which line is wrong",
+        text: "
+Says of each file, in their order, that it is a document, or shows on standard error why it is refused.
+For more than one file the last line is 'N ok, M refused'.
+",
+        options: &[Opt { short: "-q", long: "--quiet", value: "", what: "refusals alone" }],
+        integers: false,
+    },
+    Page {
+        name: "show",
+        words: "FILE",
+        short: "the document as an indented outline",
+        text: "\nThe document as an indented outline. Long texts are cut.\n",
+        options: &[],
+        integers: false,
+    },
+    Page {
+        name: "rows",
+        words: "FILE",
+        short: "the table of rows: number, words, kind and text",
+        text: "\nThe table of rows, one to a line: the row's number and its words, the kind's name and the text.\n",
+        options: &[],
+        integers: false,
+    },
+    Page {
+        name: "get",
+        words: "FILE [KEY..]",
+        short: "the value behind keys, and numbers from 0 in arrays",
+        text: "
+The value behind a path: in an object a key as it reads when decoded, in an array a number from 0.
+A text is written as it is, bytes as hex, an array or object as JSON, and a line end behind it.
+Where the path leads nowhere the exit status is 3. A key that begins with - stands behind --.
+",
+        options: &[
+            Opt { short: "-r", long: "--raw", value: "", what: "the text or the bytes themselves, and no line end" },
+            Opt { short: "-j", long: "--json", value: "", what: "as JSON, as the command json writes it" },
+            COMPACT,
+            NUMBERS,
+            Opt { short: "-d", long: "--default", value: "TEXT", what: "this, as it is, where there is no such value" },
+        ],
+        integers: false,
+    },
+    Page {
+        name: "json",
+        words: "FILE",
+        short: "the document as JSON",
+        text: NUMBERS_TEXT,
+        options: &[COMPACT, NUMBERS],
+        integers: false,
+    },
+    Page {
+        name: "compare",
+        words: "A B",
+        short: "-1, 0 or 1: how the integer A stands to B, of any length",
+        text: "\nWrites -1, 0 or 1 as the integer A is less than B, equal or greater, whatever their length.\n",
+        options: &[],
+        integers: true,
+    },
+    Page {
+        name: "batch",
+        words: "",
+        short: "documents on standard input, each behind its length; a line for each",
+        text: "
+Reads documents from standard input, each as four bytes of length, the least first, and its bytes, and
+writes a line for each: 'no NUMBER PLACE', or 'ok ROWS TEXTBYTES', the words and the text as hex.
+",
+        options: &[],
+        integers: false,
+    },
+];
+
+const STATUS: &str =
+    "Exit status: 0 good; 1 refused; 2 wrong words, or a file that cannot be read or written; 3 not there.\n";
+
+/// What `yay --help` prints.
+pub fn all() -> String {
+    let mut text = String::from("yay: reads YAY documents by a proved reader\n\n");
+    for page in &PAGES {
+        text += &format!("  yay {:<20} {}\n", format!("{} {}", page.name, page.words), page.short);
+    }
+    text += "  yay --help, --version\n\n";
+    text += "'yay COMMAND --help' tells of a command and its options; -- ends the options.\n";
+    text += &format!("A FILE of - is standard input. A document has at most {} bytes.\n", yay::LONGEST);
+    text + STATUS + "The manual, man yay, has more.\n"
+}
+
+/// What `yay COMMAND --help` prints.
+pub fn one(page: &Page) -> String {
+    let options = if page.options.is_empty() { "" } else { "[OPTIONS] " };
+    let mut text = format!("yay {} {options}{}", page.name, page.words).trim_end().to_owned() + "\n" + page.text + "\n";
+    for option in page.options.iter().chain([&HELP]) {
+        let short = if option.short.is_empty() { String::new() } else { format!("{}, ", option.short) };
+        let value = if option.value.is_empty() { String::new() } else { format!("={}", option.value) };
+        text += &format!("  {:<22} {}\n", format!("{short:>4}{}{value}", option.long), option.what);
+    }
+    text + "\n" + STATUS
+}

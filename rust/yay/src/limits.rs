@@ -1,0 +1,24 @@
+//! The numbers of document 01 that sentences name too, each in one place.
+
+macro_rules! longest {
+    () => {
+        32_768
+    };
+}
+
+macro_rules! nesting {
+    () => {
+        32
+    };
+}
+
+pub(crate) use {longest, nesting};
+
+/// The most bytes a document may have.
+pub const LONGEST: usize = longest!();
+/// The most containers one inside another.
+pub const NESTING: usize = nesting!();
+/// What the words of a row are called, in their order.
+pub const NAMES: [&str; 7] = ["kind", "from", "to", "start", "end", "parent", "next"];
+/// Words of a row.
+pub const WORDS: usize = NAMES.len();

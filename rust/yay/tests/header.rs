@@ -1,0 +1,54 @@
+//! The two C headers and the crate say the same: limits, numbers, names, sentences and kinds.
+
+use yay::{Kind, Number, LONGEST, NESTING, WORDS};
+
+fn header(name: &str) -> String {
+    let path = format!("{}/../../include/{name}", env!("CARGO_MANIFEST_DIR"));
+    std::fs::read_to_string(path).expect("the header")
+}
+
+/// The value of `#define NAME value`.
+fn defined(header: &str, name: &str) -> u64 {
+    let line = header.lines().find_map(|line| line.strip_prefix("#define ")?.strip_prefix(name)?.strip_prefix(' '));
+    let value = line.and_then(|value| value.split_whitespace().next()).unwrap_or_else(|| panic!("no {name}"));
+    value.parse().expect("a number")
+}
+
+/// The strings of an array in a function of the header.
+fn strings(header: &str, function: &str) -> Vec<String> {
+    let body = header.split_once(&format!("{function}(")).expect("the function").1;
+    let list = body.split_once("= {").expect("an array").1.split_once("};").expect("its end").0;
+    list.split('"').skip(1).step_by(2).map(String::from).collect()
+}
+
+#[test]
+fn limits() {
+    let header = header("yay.h");
+    assert_eq!(defined(&header, "YAY_LONGEST"), LONGEST as u64);
+    assert_eq!(defined(&header, "YAY_NESTING"), NESTING as u64);
+    assert_eq!(defined(&header, "YAY_WORDS"), WORDS as u64);
+}
+
+#[test]
+fn numbers() {
+    let (proved, help) = (header("yay.h"), header("yay_help.h"));
+    let (names, sentences) = (strings(&help, "yay_number_name"), strings(&help, "yay_number_sentence"));
+    let numbers: Vec<_> = (1..).map_while(Number::from_code).collect();
+    assert_eq!((names.len(), sentences.len()), (numbers.len() + 1, numbers.len() + 1));
+    for number in numbers {
+        let code = number.code() as usize;
+        assert_eq!(defined(&proved, &format!("YAY_{}", number.name())), code as u64);
+        assert_eq!((names[code].as_str(), sentences[code].as_str()), (number.name(), number.meaning()));
+    }
+}
+
+#[test]
+fn kinds() {
+    let (proved, names) = (header("yay.h"), strings(&header("yay_help.h"), "yay_kind_name"));
+    let kinds: Vec<_> = (1..).map_while(Kind::from_code).collect();
+    assert_eq!(names.len(), kinds.len() + 1);
+    for kind in kinds {
+        assert_eq!(defined(&proved, &format!("YAY_{}", kind.name().to_uppercase())), kind as u64);
+        assert_eq!(names[kind as usize], kind.name());
+    }
+}
