@@ -1,37 +1,15 @@
-//! Times of the proved reader and of the second reader on a document: processor time of the thread, so that what else
-//! runs on the machine is not measured.
+//! Times of the proved reader and of the second reader on a document.
 
+use crate::clock::{Clock, Machine, Shortest};
 use crate::compare::Reader;
 use crate::proved::Proved;
 use crate::second::{Answer, Second, LONGEST, WORDS};
 use std::hint::black_box;
 
-/// Each document is read at least and at most so often; between the two, for this long.
+/// Each document has at least and at most so many turns; between the two, as many as take this long.
 const FEW: usize = 20;
 const MANY: usize = 3_000;
 const LONG_ENOUGH: f64 = 0.25;
-
-/// As C has it on 64-bit Linux.
-#[repr(C)]
-struct Timespec {
-    seconds: i64,
-    nanoseconds: i64,
-}
-
-extern "C" {
-    fn clock_gettime(clock: i32, time: *mut Timespec) -> i32;
-}
-
-const THREAD_CPU_TIME: i32 = 3;
-
-/// Seconds that this thread has had the processor.
-fn now() -> f64 {
-    let mut time = Timespec { seconds: 0, nanoseconds: 0 };
-    // SAFETY: the pointer is that of a live value, which C's timespec is.
-    let failed = unsafe { clock_gettime(THREAD_CPU_TIME, &mut time) };
-    assert!(failed == 0, "no clock of the thread's processor time");
-    time.seconds as f64 + time.nanoseconds as f64 * 1e-9
-}
 
 /// The shortest of many times, in seconds.
 #[derive(Clone, Copy)]
@@ -48,8 +26,10 @@ impl Best {
     }
 }
 
-/// Both readers, with rooms that are large enough for any document.
+/// Both readers, with rooms that are large enough for any document, and what their times are measured by.
 pub struct Bench {
+    pub clock: Clock,
+    machine: Machine,
     second: Second,
     table: Vec<u32>,
     room: Vec<u8>,
@@ -57,7 +37,9 @@ pub struct Bench {
 
 impl Default for Bench {
     fn default() -> Self {
-        Bench { second: Second::new(), table: vec![0; WORDS * LONGEST], room: vec![0; LONGEST] }
+        let machine = Machine::default();
+        let clock = Clock::of(&machine);
+        Bench { clock, machine, second: Second::new(), table: vec![0; WORDS * LONGEST], room: vec![0; LONGEST] }
     }
 }
 
@@ -80,20 +62,19 @@ impl Bench {
 
     /// The two readers take turns.
     pub fn best(&mut self, doc: &[u8]) -> Best {
-        let mut best = Best { bytes: doc.len(), proved: f64::MAX, second: f64::MAX };
-        let begin = now();
+        let (mut proved, mut second) = (Shortest::default(), Shortest::default());
+        let Bench { clock, machine, second: reader, table, room } = self;
         for round in 1..=MANY {
-            let start = now();
-            let _ = black_box(self.proved(black_box(doc)));
-            let between = now();
-            let _ = black_box(self.second(black_box(doc)));
-            let end = now();
-            best.proved = best.proved.min(between - start);
-            best.second = best.second.min(end - between);
-            if round >= FEW && end - begin > LONG_ENOUGH {
+            proved.turn(machine, *clock, || {
+                let _ = black_box(Proved.read(black_box(doc), table, room));
+            });
+            second.turn(machine, *clock, || {
+                let _ = black_box(reader.read(black_box(doc), table, room));
+            });
+            if round >= FEW && proved.all + second.all > LONG_ENOUGH {
                 break;
             }
         }
-        best
+        Best { bytes: doc.len(), proved: proved.a_call, second: second.a_call }
     }
 }

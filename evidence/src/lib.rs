@@ -1,6 +1,7 @@
 //! Evidence at scale: a second reader of YAY documents, a slow checker of its
 //! refusal places, documents to try, and the comparison with a reader under test.
 
+pub mod clock;
 pub mod compare;
 pub mod documents;
 #[cfg(feature = "proved")]

@@ -8,11 +8,9 @@ use native.Mathlib.Omega.{arith}
 use lib.ListN.{length, take, drop, getD, set}
 use lib.Seq.{sets, slice, slice-cons, slice-empty, sets-eq, take-at}
 use Rattle.rooms.specs.Forest.{length-rows}
-use Rattle.language.specs.declared.Answer.{Answer}
-use Rattle.language.specs.declared.Answer.the-variants.{Accepted}
 use Rattle.language.specs.Tree.{Tree, width, size, textOf, rowsOf, Repeats}
 use Rattle.language.specs.Document.{Document}
-use Rattle.language.specs.Answered.{limit, deepest, REPEAT, ROWS, TEXT, refusal, Reads, Answered, accepted, repeated, rows, bytes}
+use Rattle.language.specs.Answered.{limit, deepest, REPEAT, ROWS, TEXT, Reads, Answered, accepted, repeated, rows, bytes}
 use Rattle.spans.specs.Document.{few-rows, document-sound}
 use Rattle.repeats.specs.declared.Repeat.{Repeat}
 use Rattle.repeats.specs.declared.Repeat.the-variants.{At, Nowhere}
@@ -70,7 +68,7 @@ module _ (doc R T : List ℕ) (n m : ℕ) (f : Held doc R T n m) (a : Repeat) (h
   names =
       told R T (f .tree) (document-sound deepest doc (f .tree) (f .word)) (f .table-is) (f .text-is) a (subst (λ (i : ℕ). FirstRepeat R T i a) (f .row) h)
 
-  pub answer-repeat : (p : ℕ) → a ≡ At p → Answered doc table text (refusal REPEAT p) table text
+  pub answer-repeat : (p : ℕ) → a ≡ At p → Answered doc table text REPEAT p 0 table text
   answer-repeat p e =
       let x : LeastOf (λ q. Repeats q (f .tree)) p = subst (Names (λ q. Repeats q (f .tree))) e names in
       repeated (f .tree) p (f .short) (f .word) (x .is) (x .least)
@@ -78,16 +76,16 @@ module _ (doc R T : List ℕ) (n m : ℕ) (f : Held doc R T n m) (a : Repeat) (h
   reads : a ≡ Nowhere → Reads doc (f .tree)
   reads e = record { short = f .short; word = f .word; once = subst (Names (λ q. Repeats q (f .tree))) e names }
 
-  pub answer-rows : a ≡ Nowhere → length table < width * n → Answered doc table text (refusal ROWS n) table text
-  answer-rows e l = subst (λ (i : ℕ). Answered doc table text (refusal ROWS i) table text) (sym (f .row)) (rows (f .tree) (reads e) (omega (arith, f .row)))
+  pub answer-rows : a ≡ Nowhere → length table < width * n → Answered doc table text ROWS n 0 table text
+  answer-rows e l = subst (λ (i : ℕ). Answered doc table text ROWS i 0 table text) (sym (f .row)) (rows (f .tree) (reads e) (omega (arith, f .row)))
 
-  pub answer-bytes : a ≡ Nowhere → width * n ≤ length table → length text < m → Answered doc table text (refusal TEXT m) table text
+  pub answer-bytes : a ≡ Nowhere → width * n ≤ length table → length text < m → Answered doc table text TEXT m 0 table text
   answer-bytes e l k =
-      subst (λ (i : ℕ). Answered doc table text (refusal TEXT i) table text) (sym (f .text-count))
+      subst (λ (i : ℕ). Answered doc table text TEXT i 0 table text) (sym (f .text-count))
       (bytes (f .tree) (reads e) (omega (arith, f .row)) (omega (arith, f .text-count)))
 
   pub answer-all : a ≡ Nowhere → width * n ≤ length table → m ≤ length text → (table' text' : List ℕ) → table' ≡ sets table 0 (slice 0 (width * n) R)
-      → text' ≡ sets text 0 (slice 0 m T) → Answered doc table text (Accepted n m) table' text'
+      → text' ≡ sets text 0 (slice 0 m T) → Answered doc table text 0 n m table' text'
   answer-all e l k table' text' x y =
       let t = f .tree in
       let j = length-rows 0 0 0 t in

@@ -3,10 +3,11 @@ ghost use mathlib.Core.Path.{_≡_};
 ghost use Prim.Native.Nat.{_≤_};
 ghost use lib.ListN.{length};
 ghost use lib.Seq.{sets, slice};
-ghost use Rattle.language.specs.Answered.{Answered};
+ghost use Rattle.language.specs.Answered.{number, value, second, Answered};
 ghost use Rattle.answers.specs.Held.{Held};
 use language::Answer;
 use language::Place;
+use language::Row;
 use language::WIDTH;
 use repeats::Repeat;
 use repeats::first_repeat;
@@ -35,21 +36,21 @@ pub fn answer(
     text: &mut [u8],
 ) -> Answer
     requires { ⌜ Held (now doc) (now rows) (now bytes) n m ⌝ }
-    ensures { λ r. ⌜ Answered (now (doc .entry)) (now (table .entry)) (now (text .entry)) r (now (table .exit)) (now (text .exit)) ⌝ }
+    ensures { λ r. ⌜ Answered (now (doc .entry)) (now (table .entry)) (now (text .entry)) (number r) (value r) (second r) (now (table .exit)) (now (text .exit)) ⌝ }
 {
     match first_repeat(&*rows, &*bytes, n) {
         Repeat::At(p) => {
-            return Answer::Refused(6, Place(p));
+            return Answer::Repeat(Place(p));
         }
         Repeat::Nowhere => {}
     }
     if table.len() < WIDTH * n {
-        return Answer::Refused(7, Place(n));
+        return Answer::Rows(Row(n));
     }
     if text.len() < m {
-        return Answer::Refused(8, Place(m));
+        return Answer::Text(m);
     }
     copy_words(&*rows, WIDTH * n, table);
     copy(&*bytes, 0, m, text, 0);
-    Answer::Accepted(n, m)
+    Answer::Accepted(Row(n), m)
 }

@@ -1,52 +1,64 @@
 -- The body of a block string, a line at a time: laws as `search` takes them. Assumes nothing.
-use mathlib.Core.Path.{_≡_, refl, sym, ap, subst, _∙_}
+use mathlib.Core.Path.{_≡_, refl, sym, ap, _∙_}
 use mathlib.Core.List.{List, [], _∷_, _++_}
-use mathlib.Core.Bool.{true, false}
-use mathlib.Core.Logic.{_⊎_, inl, inr}
 use Prim.Native.Nat.{ℕ, suc, _+_, _-_, _≤_, _<_, min}
 use native.Mathlib.Omega.{arith}
-use lib.ListN.{length, getD, drop}
+use lib.ListN.{length, drop}
 use lib.Seq.{slice}
 use borrow.Author.Needs.{needs}
-use Rattle.exact.specs.Out.{Tame, ok, soft, bad}
+use Rattle.exact.specs.Class.{is, only}
+use Rattle.exact.specs.Out.{Tame, soft}
+use Rattle.exact.specs.Lang.{byteR}
 use Rattle.exact.specs.Block.{lead}
-use Rattle.exact.specs.Place.{peek, peek-in}
-use Rattle.language.specs.BlockText.{Line, blank, line, lower, bodyEnd}
+use Rattle.exact.specs.Place.{peek, runEnd}
+use Rattle.language.specs.BlockText.{Line, blank, lower, bodyEnd}
 use Rattle.language.specs.Answered.{limit}
 use Rattle.rooms.specs.Contract.{columns}
+use Rattle.characters.specs.Reads.{Skips}
+use Rattle.characters.specs.Takes.{take-next, take-byte, take-other, take-inside}
 use Rattle.characters.specs.declared.Skip.{Skip}
 use Rattle.characters.specs.declared.Skip.the-variants.{End, Bad}
 use Rattle.blocktext.specs.declared.body.Seen.{Seen}
 use Rattle.blocktext.specs.declared.body.Seen.the-variants.{Empty, Written, Over, Refused}
-use Rattle.blocktext.specs.declared.body.Extent.{Extent}
 use Rattle.blocktext.specs.declared.body.Extent.the-variants.{Whole, Broken}
 use Rattle.blocktext.specs.Body.{end-blank}
 use Rattle.blocktext.specs.TextLines.{goesOn, bodyLineR, bodyR, bodyLine-exact}
 use Rattle.blocktext.specs.Going.{Going, going-first, going-over, going-bad, going-on}
-use Rattle.blocktext.specs.Placed.{Blank, Text, lineAt, Placed, over, placed-blank, placed-text, end-text, lower-blank, lower-text}
-use Rattle.blocktext.specs.Contract.{Spaced, TextAt, Sees, SeenBlank, SeenText, SeenNone, SeenBad, Bodied, BodyAt}
+use Rattle.blocktext.specs.Placed.{lineAt, Placed, over, placed-blank, placed-text, end-text, lower-blank, lower-text}
+use Rattle.blocktext.specs.Contract.{Spaced, TextAt, Sees, SeenBlank, SeenText, SeenNone, SeenBad, BodyAt}
 use Rattle.blocktext.specs.LineLooks.{sees-blank, sees-none, sees-text, sees-bad}
+use Rattle.blocktext.proofs.LineLaws.{spaced-of}
 
 -- ---- one line
-module _ (doc : List ℕ) (col a b : ℕ) (k : b ≡ peek doc a) where
-  pub see-empty : b ≡ 10 → Sees doc col a Empty
+module _ (doc : List ℕ) (col a : ℕ) (g : Skip) (t : Skips doc a (byteR (is (only 10)) a (drop a doc)) g) where
+  pub see-empty : (n : ℕ) → g ≡ End n → Sees doc col a (Empty n)
   unfolding Sees
-  see-empty h = sees-blank doc col a (sym k ∙ h) (peek-in doc a b k (omega arith))
+  see-empty n z =
+      sees-blank doc col a n (take-next doc a 10 (omega arith) g t n z) (sym (take-byte doc a 10 (omega arith) g t n z)) (take-inside doc a 10 (omega arith) g t n z)
 
-  module _ (h : b ≡ 10 → ⊥) (s : ℕ) (sp : Spaced doc a s) where
+  module _ (p : ℕ) (z : g ≡ Bad p) (inside : a ≤ length doc) (s : ℕ) (q : s ≡ runEnd (only 32) doc a) where
+    dark : peek doc a ≡ 10 → ⊥
+    dark = take-other doc a 10 (omega arith) g t p z
+
+    sp : Spaced doc a s
+    sp = spaced-of doc a s inside q
+
     pub see-over : s - a ≤ col → Sees doc col a (Over s)
     unfolding Sees
-    see-over l = sees-none doc col a (λ z. h (k ∙ z)) s sp (omega (arith, sp .from))
+    see-over l = sees-none doc col a dark s sp (omega (arith, sp .from))
 
-    pub see-text : (t : Skip) (e : ℕ) → col < s - a → TextAt doc s t → t ≡ End e → Sees doc col a (Written s e)
+    pub see-text : (r : Skip) (e : ℕ) → col < s - a → TextAt doc s r → r ≡ End e → Sees doc col a (Written s e)
     unfolding Sees TextAt
-    see-text t e l x z = sees-text doc col a (λ z. h (k ∙ z)) s sp (omega (arith, sp .from)) e (rw z at x)
+    see-text r e l x y = sees-text doc col a dark s sp (omega (arith, sp .from)) e (rw y at x)
 
-    pub see-bad : (t : Skip) (p : ℕ) → col < s - a → TextAt doc s t → t ≡ Bad p → Sees doc col a (Refused p)
+    pub see-bad : (r : Skip) (u : ℕ) → col < s - a → TextAt doc s r → r ≡ Bad u → Sees doc col a (Refused u)
     unfolding Sees TextAt
-    see-bad t p l x z = sees-bad doc col a (λ z. h (k ∙ z)) s sp (omega (arith, sp .from)) p (rw z at x)
+    see-bad r u l x y = sees-bad doc col a dark s sp (omega (arith, sp .from)) u (rw y at x)
 
-pub ruleset seeing = (see-empty, see-over, see-text, see-bad, needs)
+pub see-inside : (doc : List ℕ) (a s : ℕ) → a ≤ length doc → s ≡ runEnd (only 32) doc a → s ≤ length doc
+see-inside doc a s inside q = spaced-of doc a s inside q .inside
+
+pub ruleset seeing = (see-empty, see-over, see-text, see-bad, see-inside, needs)
 
 -- ---- the lines, up to a so far
 pub record Bodying (doc : List ℕ) (e col a last least : ℕ) : Type 0 where
@@ -77,9 +89,9 @@ module _ (doc : List ℕ) (e col a last least : ℕ) (i : Bodying doc e col a la
   line-tame : Tame 1 (bodyLineR col)
   line-tame = bodyLine-exact col .moves
 
-  blank-of : r ≡ Empty → SeenBlank doc col a
+  blank-of : (n : ℕ) → r ≡ Empty n → SeenBlank doc col a n
   unfolding Sees
-  blank-of z = rw z at x
+  blank-of n z = rw z at x
 
   text-of : (s f : ℕ) → r ≡ Written s f → SeenText doc col a s f
   unfolding Sees
@@ -93,13 +105,15 @@ module _ (doc : List ℕ) (e col a last least : ℕ) (i : Bodying doc e col a la
   unfolding Sees
   bad-of p z = rw z at x
 
-  pub body-inner : r ≡ Empty → a < length doc
-  body-inner z = blank-of z .blank .inside
+  pub blank-further : (n : ℕ) → r ≡ Empty n → length doc - n < length doc - a
+  blank-further n z = let y = blank-of n z in omega (arith, y .next, y .blank .inside)
 
-  pub body-blank : r ≡ Empty → Bodying doc e col (a + 1) last least
-  body-blank z =
-      let y = blank-of z in
-      record {
+  pub body-blank : (n : ℕ) → r ≡ Empty n → Bodying doc e col n last least
+  body-blank n z =
+      let y = blank-of n z in
+      rw
+      (y .next)
+      (record {
         lines = i .lines ++ blank ∷ [];
         going = going-on (goesOn col) (lead col) (bodyLineR col) doc (e + 1) a (i .lines) line-tame 0 blank (a + 1) (y .look) (y .is) (omega arith) (omega arith) (omega (arith, y .blank .inside)) (i .going);
         placed = placed-blank (i .placed) (y .blank);
@@ -108,7 +122,7 @@ module _ (doc : List ℕ) (e col a last least : ℕ) (i : Bodying doc e col a la
         inside = omega (arith, y .blank .inside);
         small = i .small;
         low = i .low;
-      }
+      })
 
   module _ (s f : ℕ) (z : r ≡ Written s f) where
     pub text-deep : a + col + 1 ≤ s
@@ -117,8 +131,8 @@ module _ (doc : List ℕ) (e col a last least : ℕ) (i : Bodying doc e col a la
     pub text-inner : f < length doc
     text-inner = text-of s f z .text .inside
 
-    pub text-further : a < f
-    text-further = omega (arith, text-of s f z .text .deep, text-of s f z .text .ahead)
+    pub text-further : length doc - (f + 1) < length doc - a
+    text-further = omega (arith, text-of s f z .text .deep, text-of s f z .text .ahead, text-inner)
 
     pub body-text : (n : ℕ) → n ≡ min least (s - (a + col + 1)) → Bodying doc e col (f + 1) f n
     body-text n q =
@@ -155,4 +169,4 @@ module _ (doc : List ℕ) (e col a last least : ℕ) (i : Bodying doc e col a la
   unfolding BodyAt bodyR
   body-broken p z = let y = bad-of p z in going-bad (goesOn col) (lead col) (bodyLineR col) doc (e + 1) a (i .lines) p (y .inside) (y .look) (y .is) (i .going)
 
-pub ruleset bodying = (body-first, body-inner, body-blank, text-deep, text-inner, text-further, body-text, body-whole, body-broken, needs)
+pub ruleset bodying = (body-first, blank-further, body-blank, text-deep, text-inner, text-further, body-text, body-whole, body-broken, needs)

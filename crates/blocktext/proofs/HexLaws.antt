@@ -1,15 +1,15 @@
 -- Block bytes: hex lines, the leader, and the block that they make. Laws as `search` takes them. Assumes nothing.
 use mathlib.Core.Path.{_≡_, refl, sym, ap, subst, _∙_}
-use mathlib.Core.List.{List, [], _∷_, _++_}
-use mathlib.Core.Bool.{true, false}
-use Prim.Native.Nat.{ℕ, suc, _+_, _-_, _≤_, _<_}
+use mathlib.Core.List.{List, [], _∷_}
+use Prim.Native.Nat.{ℕ, _+_, _-_, _≤_, _<_}
 use native.Mathlib.Nat.{add-zero}
 use native.Mathlib.Omega.{arith}
 use lib.ListN.{length, drop}
 use lib.Seq.{sets}
 use lib.Dec.{lit<}
+use borrow.Author.Needs.{needs}
 use Rattle.exact.specs.Class.{is, only}
-use Rattle.exact.specs.Out.{Out, bind, fmap, ok, soft, bad, Tame}
+use Rattle.exact.specs.Out.{Out, bind, bad, Tame}
 use Rattle.exact.specs.Lang.{retR, byteR}
 use Rattle.exact.specs.Answers.{map-fmap}
 use Rattle.exact.specs.Comb.{seqR, mapR}
@@ -17,11 +17,10 @@ use Rattle.exact.specs.Ll.{wordR}
 use Rattle.exact.specs.Block.{lead}
 use Rattle.exact.specs.Place.{peek, peek-in, runEnd, byte-is, byte-not, alt-is, alt-not}
 use Rattle.language.specs.Kind.{BYTES}
-use Rattle.language.specs.Tree.{Tree, leaf}
-use Rattle.language.specs.BlockText.{Part, part, partBytes, partEnd}
+use Rattle.language.specs.BlockText.{part, partBytes, partEnd}
 use Rattle.characters.specs.declared.Skip.{Skip}
 use Rattle.characters.specs.declared.Skip.the-variants.{End}
-use Rattle.characters.specs.Reads.{Skips, Ends}
+use Rattle.characters.specs.Reads.{Skips}
 use Rattle.characters.specs.Comments.{commentR, optionalCommentR}
 use Rattle.rooms.specs.declared.Cursor.{Cursor}
 use Rattle.rooms.specs.declared.Ans.{Ans}
@@ -29,21 +28,21 @@ use Rattle.rooms.specs.declared.Ans.the-variants.{Ok, No}
 use Rattle.rooms.specs.declared.Far.{Far}
 use Rattle.rooms.specs.declared.Far.the-variants.{Upto, Not}
 use Rattle.rooms.specs.declared.Block.{Block}
-use Rattle.rooms.specs.declared.Block.the-variants.{Done, Bad}
-use Rattle.rooms.specs.Contract.{Ready, Blocks}
-use Rattle.rooms.specs.Laws.{not-block}
+use Rattle.rooms.specs.declared.Block.the-variants.{Bad}
+use Rattle.rooms.specs.Contract.{onward, Takes, Ready, Blocks}
+use Rattle.rooms.specs.Laws.{take-next, take-byte, take-place, take-other, not-block}
 use Rattle.strings.specs.Hexes.{Paired, PairsAt}
-use Rattle.blocktext.specs.Deeper.{deeper, deeperR, deeper-fails}
+use Rattle.blocktext.specs.Deeper.{deeper, deeper-fails}
 use Rattle.blocktext.specs.Plus.{plusR}
 use Rattle.blocktext.specs.HexLines.{hexRestR, hexLineR, hexLinesR, hexLine-exact}
 use Rattle.blocktext.specs.BlockBytes.{bytesTree, openBytesRestR, openBytesR, leaderCommentR, propertyBytesRestR, propertyBytesR}
 use Rattle.blocktext.specs.Spaces.{deep, shallow, shallow-far, deep-reads}
 use Rattle.blocktext.specs.Contract.{Asked, Spaced}
-use Rattle.blocktext.specs.Leaves.{Begun, Rowed, Further, Furthers, went, stopped, block-of}
+use Rattle.blocktext.specs.Leaves.{Begun, Rowed, Furthers, stopped, block-of}
 use Rattle.blocktext.specs.Parts.{closes, Closed, Unclosed, no-end, no-close, Closing, Parted, PartAt, below-first, further-plus}
 use Rattle.blocktext.specs.HexLooks.{comment-reach, bare-closed, bare-open, pairs-bad, pairs-closed, pairs-open}
 use Rattle.blocktext.proofs.LineLaws.{spaced-of}
-use Rattle.blocktext.proofs.PartLaws.{closing, Parting, part-first, part-on, part-small, part-done, part-stop}
+use Rattle.blocktext.proofs.PartLaws.{not-led, closing, Parting, part-on, part-small, part-done, part-stop}
 
 -- ---- the rest of a hex line
 module _ (doc : List ℕ) (c : Cursor) (b : ℕ) (k : b ≡ peek doc (c .at)) where
@@ -121,9 +120,6 @@ module _ (doc : List ℕ) (c : Cursor) (col e x : ℕ) where
     pub hex-from : n .at + 1 ≤ s
     hex-from = sp .from
 
-    pub hex-small : s ≤ length doc
-    hex-small = sp .inside
-
     pub hex-done : (parent : ℕ) (b : Block) (R R' : List ℕ) → s - (n .at + 1) ≤ col → Rowed c parent BYTES (n .at + 1) (n .text) s (n .at) b R R'
         → Furthers doc c parent BYTES (hexLinesR col (e + 1) (drop (e + 1) doc)) (partEnd e) partBytes (e + 1) x b R R' T₀ T
     unfolding hexLinesR
@@ -167,99 +163,125 @@ module _ (doc : List ℕ) (c : Cursor) (col e x : ℕ) where
             p
             z
 
-        pub hex-further : (m : Cursor) → a ≡ Ok m → (n .at < m .at) × (m .at < length doc)
+        pub hex-further : (m : Cursor) → a ≡ Ok m → length doc - m .at < length doc - n .at
         unfolding PartAt
-        hex-further m z = let y : Parted doc (record { at = s; row = 0; text = n .text }) (hexRestR s (drop s doc)) m T T' = rw z at p in (omega (arith, y .ahead, sp .from), y .inside)
+        hex-further m z = let y : Parted doc (record { at = s; row = 0; text = n .text }) (hexRestR s (drop s doc)) m T T' = rw z at p in omega (arith, y .ahead, sp .from, y .inside)
 
 -- ---- open block bytes
-module _ (doc : List ℕ) (c : Cursor) (col b : ℕ) (i : Asked doc c 62 col) (k : b ≡ peek doc (c .at + 1)) where
-  open-tail : openBytesR col (c .at) (drop (c .at) doc) ≡ bind (bind (byteR (is (only 32)) (c .at + 1) (drop (c .at + 1) doc)) (λ _. wordR [])) (λ _. openBytesRestR col (c .at))
+module _ (doc : List ℕ) (c : Cursor) (col : ℕ) (i : Asked doc c 62 col) (a : Ans) (t : Takes doc c 62 a) (n : Cursor) (z : a ≡ Ok n) (g : Ans) (y : Takes doc n 32 g) where
+  first-next : n ≡ onward c 1
+  first-next = take-next doc c 62 a t n z
+
+  open-tail : openBytesR col (c .at) (drop (c .at) doc) ≡ bind (bind (byteR (is (only 32)) (n .at) (drop (n .at) doc)) (λ _. wordR [])) (λ _. openBytesRestR col (c .at))
   unfolding openBytesR
-  open-tail = ap (λ o. bind (bind o (λ _. wordR (32 ∷ []))) (λ _. openBytesRestR col (c .at))) (byte-is doc (c .at) 62 (peek doc (c .at)) (omega arith) refl (i .first))
+  open-tail = rw first-next (ap (λ o. bind (bind o (λ _. wordR (32 ∷ []))) (λ _. openBytesRestR col (c .at))) (byte-is doc (c .at) 62 (peek doc (c .at)) (omega arith) refl (i .first)))
 
-  pub bytes-bad : (parent : ℕ) (R T : List ℕ) → (b ≡ 32 → ⊥) → Blocks doc c parent (openBytesR col (c .at) (drop (c .at) doc)) (Bad (c .at + 1)) R R T T
-  bytes-bad parent R T h =
-      not-block doc c parent _ R R T T (c .at + 1)
-      (open-tail ∙ ap (λ o. bind (bind o (λ _. wordR [])) (λ _. openBytesRestR col (c .at))) (byte-not doc (c .at + 1) 32 b (omega arith) k h))
+  pub bytes-bad : (p : ℕ) → g ≡ No p → (parent : ℕ) (R T : List ℕ) → Blocks doc c parent (openBytesR col (c .at) (drop (c .at) doc)) (Bad p) R R T T
+  bytes-bad p w parent R T =
+      not-block doc c parent _ R R T T p
+      (open-tail
+      ∙ (ap (λ o. bind (bind o (λ _. wordR [])) (λ _. openBytesRestR col (c .at))) (byte-not doc (n .at) 32 (peek doc (n .at)) (omega arith) refl (take-other doc n 32 g y p w))
+      ∙ ap bad (sym (take-place doc n 32 g y p w))))
 
-  module _ (h : b ≡ 32) where
+  module _ (m : Cursor) (w : g ≡ Ok m) where
+    behind : m ≡ onward n 1
+    behind = take-next doc n 32 g y m w
+
+    far-off : m .at ≡ c .at + 2
+    far-off = ap (λ (q : Cursor). q .at) behind ∙ (ap (λ (q : Cursor). q .at + 1) first-next ∙ omega arith)
+
+    same-text : m .text ≡ c .text
+    same-text = ap (λ (q : Cursor). q .text) behind ∙ ap (λ (q : Cursor). q .text) first-next
+
     open-in : c .at + 1 < length doc
-    open-in = peek-in doc (c .at + 1) b k (omega arith)
+    open-in = let k = peek-in doc (n .at) 32 (take-byte doc n 32 g y m w) (omega arith) in let e = ap (λ (q : Cursor). q .at) first-next in omega arith
 
-    pub bytes-ready : Ready doc (record { at = c .at + 2; row = 0; text = c .text })
+    pub bytes-ready : Ready doc (record { at = m .at; row = 0; text = m .text })
     bytes-ready =
-        let a = i .ready .fewRows in
         let d = i .ready .fewText in
-        record { small = i .ready .small; inside = omega (arith, open-in); fewRows = omega arith; fewText = omega arith }
+        record { small = i .ready .small; inside = omega (arith, open-in, far-off); fewRows = omega arith; fewText = omega (arith, far-off, same-text) }
 
-    open-is : openBytesR col (c .at) (drop (c .at) doc) ≡ openBytesRestR col (c .at) (c .at + 2) (drop (c .at + 2) doc)
+    open-is : openBytesR col (c .at) (drop (c .at) doc) ≡ openBytesRestR col (c .at) (m .at) (drop (m .at) doc)
     open-is =
-        let z : c .at + 1 + 1 ≡ c .at + 2 = omega arith in
-        open-tail
-        ∙ (ap (λ o. bind (bind o (λ _. wordR [])) (λ _. openBytesRestR col (c .at))) (byte-is doc (c .at + 1) 32 b (omega arith) k h)
-        ∙ ap (λ n. openBytesRestR col (c .at) n (drop n doc)) z)
+        rw behind
+        (open-tail ∙ ap (λ o. bind (bind o (λ _. wordR [])) (λ _. openBytesRestR col (c .at))) (byte-is doc (n .at) 32 (peek doc (n .at)) (omega arith) refl (sym (take-byte doc n 32 g y m w))))
 
-    module _ (a : Ans) (T T₁ : List ℕ) (p : PartAt doc (record { at = c .at + 2; row = 0; text = c .text }) (hexRestR (c .at + 2) (drop (c .at + 2) doc)) a T T₁) where
-      pub bytes-stop : (parent u : ℕ) (R : List ℕ) → a ≡ No u → Blocks doc c parent (openBytesR col (c .at) (drop (c .at) doc)) (Bad u) R R T T₁
+    module _ (r : Ans) (T T₁ : List ℕ) (p : PartAt doc (record { at = m .at; row = 0; text = m .text }) (hexRestR (m .at) (drop (m .at) doc)) r T T₁) where
+      pub bytes-stop : (u : ℕ) → r ≡ No u → (parent : ℕ) (R : List ℕ) → Blocks doc c parent (openBytesR col (c .at) (drop (c .at) doc)) (Bad u) R R T T₁
       unfolding PartAt
-      bytes-stop parent u R z =
-          let y : hexRestR (c .at + 2) (drop (c .at + 2) doc) ≡ bad u = rw z at p in
-          not-block doc c parent _ R R T T₁ u (open-is ∙ ap (λ o. bind o (λ h. mapR (λ hs. bytesTree (c .at) (h ∷ hs)) (hexLinesR col))) y)
+      bytes-stop u x parent R =
+          let q : hexRestR (m .at) (drop (m .at) doc) ≡ bad u = rw x at p in
+          not-block doc c parent _ R R T T₁ u (open-is ∙ ap (λ o. bind o (λ h. mapR (λ hs. bytesTree (c .at) (h ∷ hs)) (hexLinesR col))) q)
 
-      module _ (n : Cursor) (z : a ≡ Ok n) where
-        first : Parted doc (record { at = c .at + 2; row = 0; text = c .text }) (hexRestR (c .at + 2) (drop (c .at + 2) doc)) n T T₁
+      module _ (e : Cursor) (x : r ≡ Ok e) where
+        first : Parted doc (record { at = m .at; row = 0; text = m .text }) (hexRestR (m .at) (drop (m .at) doc)) e T T₁
         unfolding PartAt
-        first = rw z at p
+        first = rw x at p
 
-        pub bytes-begun : Begun doc c (n .at) (n .text) col
+        pub bytes-begun : Begun doc c (e .at) (e .text) col
         bytes-begun =
             let d = i .ready .fewText in
-            record { ready = i .ready; ahead = omega (arith, first .ahead); inside = first .inside; few = omega (arith, first .end, first .few); low = i .low }
+            record {
+              ready = i .ready;
+              ahead = omega (arith, first .ahead, far-off);
+              inside = first .inside;
+              few = omega (arith, first .end, first .few, far-off, same-text);
+              low = i .low;
+            }
 
-        pub bytes-block : (parent : ℕ) (r : Block) (R R' T' : List ℕ)
-            → Furthers doc c parent BYTES (hexLinesR col (n .at + 1) (drop (n .at + 1) doc)) (partEnd (n .at)) partBytes (n .at + 1) (n .text) r R R' T₁ T'
-            → Blocks doc c parent (openBytesR col (c .at) (drop (c .at) doc)) r R R' T T'
+        pub bytes-block : (parent : ℕ) (k : Block) (R R' T' : List ℕ)
+            → Furthers doc c parent BYTES (hexLinesR col (e .at + 1) (drop (e .at + 1) doc)) (partEnd (e .at)) partBytes (e .at + 1) (e .text) k R R' T₁ T'
+            → Blocks doc c parent (openBytesR col (c .at) (drop (c .at) doc)) k R R' T T'
         unfolding hexLinesR
-        bytes-block parent r R R' T' f =
-            block-of doc c parent BYTES (hexLinesR col (n .at + 1) (drop (n .at + 1) doc)) (partEnd (n .at)) partBytes (n .at + 1) (n .text) r R R' T T₁ T' _ (first .bytes)
+        bytes-block parent k R R' T' f =
+            block-of doc c parent BYTES (hexLinesR col (e .at + 1) (drop (e .at + 1) doc)) (partEnd (e .at)) partBytes (e .at + 1) (e .text) k R R' T T₁ T' _ (first .bytes)
             (open-is
             ∙ (ap (λ o. bind o (λ h. mapR (λ hs. bytesTree (c .at) (h ∷ hs)) (hexLinesR col))) (first .reads)
-            ∙ below-first (deeper col) (lead col) (hexLineR col) (hexLine-exact col .moves) (λ h hs. bytesTree (c .at) (h ∷ hs)) (first .far) (part (first .bytes) (n .at)) (n .at + 1) (drop (n .at + 1) doc) (first .near)))
+            ∙ below-first (deeper col) (lead col) (hexLineR col) (hexLine-exact col .moves) (λ h hs. bytesTree (c .at) (h ∷ hs)) (first .far) (part (first .bytes) (e .at)) (e .at + 1) (drop (e .at + 1) doc) (first .near)))
             (lit< tt)
-            (first .room)
-            (first .end)
-            (omega (arith, first .few))
+            (first .room ∙ ap (λ x. sets T x (first .bytes)) same-text)
+            (first .end ∙ ap (_+ length (first .bytes)) same-text)
+            (omega (arith, first .few, far-off))
             f
 
 -- ---- the leader of a property's block bytes
-module _ (doc : List ℕ) (n : Cursor) (b : ℕ) (k : b ≡ peek doc (n .at)) where
-  pub leader-comment : (g : Skip) (r : Ans) → b ≡ 32 → Skips doc (n .at + 1) (commentR (n .at + 1) (drop (n .at + 1) doc)) g → r ≡ closes doc n g
+module _ (doc : List ℕ) (n : Cursor) (a : Ans) (t : Takes doc n 32 a) where
+  pub leader-comment : (m : Cursor) → a ≡ Ok m → (g : Skip) (r : Ans) → Skips doc (m .at) (commentR (m .at) (drop (m .at) doc)) g → r ≡ closes doc n g
       → Closing doc (n .at) (leaderCommentR (n .at) (drop (n .at) doc)) n r
   unfolding leaderCommentR Closing
-  leader-comment g r h s z = go r (closing doc (n .at + 1) (commentR (n .at + 1) (drop (n .at + 1) doc)) n g r s z)
+  leader-comment m y g r s z = go r (closing doc (m .at) (commentR (m .at) (drop (m .at) doc)) n g r s z)
     where
-      same : leaderCommentR (n .at) (drop (n .at) doc) ≡ commentR (n .at + 1) (drop (n .at + 1) doc)
-      same =
-          alt-is doc (n .at) 32 b (omega arith) k (seqR (byteR (is (only 32))) λ _. commentR) (retR []) h
-          ∙ ap (λ o. bind o (λ _. commentR)) (byte-is doc (n .at) 32 b (omega arith) k h)
+      b : peek doc (n .at) ≡ 32
+      b = sym (take-byte doc n 32 a t m y)
 
-      go : (r : Ans) → Closing doc (n .at + 1) (commentR (n .at + 1) (drop (n .at + 1) doc)) n r → Closing doc (n .at) (leaderCommentR (n .at) (drop (n .at) doc)) n r
-      go (Ok m) y =
-          record { value = y .value; is = same ∙ y .is; from = omega (arith, y .from); inside = y .inside; feed = y .feed; row = y .row; text = y .text }
+      place : m .at ≡ n .at + 1
+      place = ap (λ (q : Cursor). q .at) (take-next doc n 32 a t m y)
+
+      same : leaderCommentR (n .at) (drop (n .at) doc) ≡ commentR (m .at) (drop (m .at) doc)
+      same =
+          rw place
+          (alt-is doc (n .at) 32 (peek doc (n .at)) (omega arith) refl (seqR (byteR (is (only 32))) λ _. commentR) (retR []) b
+          ∙ ap (λ o. bind o (λ _. commentR)) (byte-is doc (n .at) 32 (peek doc (n .at)) (omega arith) refl b))
+
+      go : (r : Ans) → Closing doc (m .at) (commentR (m .at) (drop (m .at) doc)) n r → Closing doc (n .at) (leaderCommentR (n .at) (drop (n .at) doc)) n r
+      go (Ok e) y =
+          record { value = y .value; is = same ∙ y .is; from = omega (arith, y .from, place); inside = y .inside; feed = y .feed; row = y .row; text = y .text }
       go (No p) (no-end y) = no-end (same ∙ y)
       go (No p) (no-close v y q) = no-close v (same ∙ y) q
 
-  pub leader-none : (r : Ans) → Ready doc n → (b ≡ 32 → ⊥) → r ≡ closes doc n (End (n .at)) → Closing doc (n .at) (leaderCommentR (n .at) (drop (n .at) doc)) n r
+  pub leader-none : (p : ℕ) → a ≡ No p → Ready doc n → (r : Ans) → r ≡ closes doc n (End p) → Closing doc (n .at) (leaderCommentR (n .at) (drop (n .at) doc)) n r
   unfolding leaderCommentR Skips
-  leader-none r i h z =
+  leader-none p y i r z =
       closing doc (n .at) (leaderCommentR (n .at) (drop (n .at) doc)) n (End (n .at)) r
       (record {
         value = [];
-        is = alt-not doc (n .at) 32 b (omega arith) k (seqR (byteR (is (only 32))) λ _. commentR) (retR []) h;
+        is = alt-not doc (n .at) 32 (peek doc (n .at)) (omega arith) refl (seqR (byteR (is (only 32))) λ _. commentR) (retR []) (take-other doc n 32 a t p y);
         behind = omega arith;
         inside = i .inside;
       })
-      z
+      (z ∙ ap (λ q. closes doc n (End q)) (take-place doc n 32 a t p y))
+
+pub ruleset leading = (leader-comment, leader-none, needs)
 
 -- ---- its hex lines, at least one
 module _ (doc : List ℕ) (c : Cursor) (col e : ℕ) (i : Begun doc c e (c .text) col) (s : ℕ) (q : s ≡ runEnd (only 32) doc (e + 1)) where
@@ -317,47 +339,51 @@ module _ (doc : List ℕ) (c : Cursor) (col e : ℕ) (i : Begun doc c e (c .text
             (subst (λ j. Furthers doc c parent BYTES (hexLinesR col (n .at + 1) (drop (n .at + 1) doc)) (partEnd (n .at)) partBytes (n .at + 1) j r R R' T₁ T') (line .end) f)
 
 -- ---- a property's block bytes
-module _ (doc : List ℕ) (c : Cursor) (col : ℕ) (i : Asked doc c 62 col) where
-  property-in : c .at < length doc
-  property-in = peek-in doc (c .at) 62 (sym (i .first)) (omega arith)
+module _ (doc : List ℕ) (c : Cursor) (col : ℕ) (i : Asked doc c 62 col) (g : Ans) (t : Takes doc c 62 g) (m : Cursor) (w : g ≡ Ok m) where
+  property-next : m ≡ onward c 1
+  property-next = take-next doc c 62 g t m w
 
-  pub property-ready : Ready doc (record { at = c .at + 1; row = c .row; text = c .text })
+  place : m .at ≡ c .at + 1
+  place = ap (λ (q : Cursor). q .at) property-next
+
+  pub property-ready : Ready doc m
   property-ready =
+      let k = peek-in doc (c .at) 62 (sym (i .first)) (omega arith) in
       let a = i .ready .fewRows in
       let d = i .ready .fewText in
-      record { small = i .ready .small; inside = omega (arith, property-in); fewRows = omega arith; fewText = omega arith }
+      rw property-next (record { small = i .ready .small; inside = omega arith; fewRows = omega arith; fewText = omega arith })
 
   property-tail : propertyBytesR col (c .at) (drop (c .at) doc)
-      ≡ bind (leaderCommentR (c .at + 1) (drop (c .at + 1) doc)) (λ _. seqR (byteR (is (only 10))) λ _. mapR (bytesTree (c .at)) (plusR (hexLineR col) (hexLinesR col)))
+      ≡ bind (leaderCommentR (m .at) (drop (m .at) doc)) (λ _. seqR (byteR (is (only 10))) λ _. mapR (bytesTree (c .at)) (plusR (hexLineR col) (hexLinesR col)))
   unfolding propertyBytesR
-  property-tail = ap (λ o. bind o (λ _. propertyBytesRestR col (c .at))) (byte-is doc (c .at) 62 (peek doc (c .at)) (omega arith) refl (i .first))
+  property-tail = rw place (ap (λ o. bind o (λ _. propertyBytesRestR col (c .at))) (byte-is doc (c .at) 62 (peek doc (c .at)) (omega arith) refl (i .first)))
 
-  module _ (a : Ans) (x : Closing doc (c .at + 1) (leaderCommentR (c .at + 1) (drop (c .at + 1) doc)) (record { at = c .at + 1; row = c .row; text = c .text }) a) where
-    pub property-stop : (parent u : ℕ) (R T : List ℕ) → a ≡ No u → Blocks doc c parent (propertyBytesR col (c .at) (drop (c .at) doc)) (Bad u) R R T T
+  module _ (a : Ans) (x : Closing doc (m .at) (leaderCommentR (m .at) (drop (m .at) doc)) m a) where
+    pub property-stop : (u : ℕ) → a ≡ No u → (parent : ℕ) (R T : List ℕ) → Blocks doc c parent (propertyBytesR col (c .at) (drop (c .at) doc)) (Bad u) R R T T
     unfolding Closing
-    property-stop parent u R T z = not-block doc c parent _ R R T T u (property-tail ∙ by (rw z at x))
+    property-stop u z parent R T = not-block doc c parent _ R R T T u (property-tail ∙ by (rw z at x))
       where
-        by : Unclosed doc (leaderCommentR (c .at + 1) (drop (c .at + 1) doc)) u
-            → bind (leaderCommentR (c .at + 1) (drop (c .at + 1) doc)) (λ _. seqR (byteR (is (only 10))) λ _. mapR (bytesTree (c .at)) (plusR (hexLineR col) (hexLinesR col))) ≡ bad u
+        by : Unclosed doc (leaderCommentR (m .at) (drop (m .at) doc)) u
+            → bind (leaderCommentR (m .at) (drop (m .at) doc)) (λ _. seqR (byteR (is (only 10))) λ _. mapR (bytesTree (c .at)) (plusR (hexLineR col) (hexLinesR col))) ≡ bad u
         by (no-end y) = ap (λ o. bind o (λ _. seqR (byteR (is (only 10))) λ _. mapR (bytesTree (c .at)) (plusR (hexLineR col) (hexLinesR col)))) y
         by (no-close v y q) =
             ap (λ o. bind o (λ _. seqR (byteR (is (only 10))) λ _. mapR (bytesTree (c .at)) (plusR (hexLineR col) (hexLinesR col)))) y
             ∙ ap (λ o. bind o (λ _. mapR (bytesTree (c .at)) (plusR (hexLineR col) (hexLinesR col)))) (byte-not doc u 10 (peek doc u) (omega arith) refl q)
 
     module _ (n : Cursor) (z : a ≡ Ok n) where
-      closed : Closed doc (c .at + 1) (leaderCommentR (c .at + 1) (drop (c .at + 1) doc)) (record { at = c .at + 1; row = c .row; text = c .text }) n
+      closed : Closed doc (m .at) (leaderCommentR (m .at) (drop (m .at) doc)) m n
       unfolding Closing
       closed = rw z at x
 
       pub property-begun : Begun doc c (n .at) (c .text) col
       property-begun =
           let d = i .ready .fewText in
-          record { ready = i .ready; ahead = omega (arith, closed .from); inside = closed .inside; few = omega (arith, closed .from); low = i .low }
+          record { ready = i .ready; ahead = omega (arith, closed .from, place); inside = closed .inside; few = omega (arith, closed .from, place); low = i .low }
 
-      pub property-bytes : (parent : ℕ) (r : Block) (R R' T T' : List ℕ)
+      pub property-block : (parent : ℕ) (r : Block) (R R' T T' : List ℕ)
           → Furthers doc c parent BYTES (plusR (hexLineR col) (hexLinesR col) (n .at + 1) (drop (n .at + 1) doc)) (partEnd 0) partBytes (n .at + 1) (c .text) r R R' T T'
           → Blocks doc c parent (propertyBytesR col (c .at) (drop (c .at) doc)) r R R' T T'
-      property-bytes parent r R R' T T' f =
+      property-block parent r R R' T T' f =
           block-of doc c parent BYTES (plusR (hexLineR col) (hexLinesR col) (n .at + 1) (drop (n .at + 1) doc)) (partEnd 0) partBytes (n .at + 1) (c .text) r R R' T T T' _ []
           (property-tail
           ∙ (ap (λ o. bind o (λ _. seqR (byteR (is (only 10))) λ _. mapR (bytesTree (c .at)) (plusR (hexLineR col) (hexLinesR col)))) (closed .is)
@@ -366,5 +392,15 @@ module _ (doc : List ℕ) (c : Cursor) (col : ℕ) (i : Asked doc c 62 col) wher
           (lit< tt)
           refl
           (sym (add-zero (c .text)))
-          (omega (arith, closed .from))
+          (omega (arith, closed .from, place))
           f
+
+pub ruleset open-bytes = (not-led, bytes-bad, bytes-ready, bytes-stop, bytes-begun, bytes-block, needs)
+
+pub ruleset property-bytes = (not-led, property-ready, property-stop, property-begun, property-block, needs)
+
+pub ruleset hexing = (hex-from, hex-done, hex-ready, hex-stop, hex-on, hex-further, part-small, needs)
+
+pub ruleset first-lines = (first-from, first-shallow, first-ready, first-stop, first-begun, first-went, needs)
+
+pub ruleset hex-resting = (rest-bare, rest-bad, rest-inside, rest-pairs, needs)

@@ -1,14 +1,14 @@
 -- Joined strings: a line, the lines below it, and the block that they make. Laws as `search` takes them. Assumes nothing.
 use mathlib.Core.Path.{_≡_, refl, sym, ap, subst, _∙_}
-use mathlib.Core.List.{List, [], _∷_, _++_}
+use mathlib.Core.List.{List, [], _∷_}
 use mathlib.Core.Bool.{Bool, true, false}
 use Prim.Native.Nat.{ℕ, zero, suc, _+_, _-_, _≤_, _<_}
 use native.Mathlib.Omega.{arith}
 use lib.ListN.{length, drop}
-use lib.Seq.{sets}
 use lib.Dec.{lit<}
+use borrow.Author.Needs.{needs}
 use Rattle.exact.specs.Class.{is, clash, or-of, within, range-of, _to_, nothing}
-use Rattle.exact.specs.Out.{Out, Reader, bind, fmap, ok, soft, bad, Tame, Firm, f-ok, f-bad}
+use Rattle.exact.specs.Out.{Out, bind, ok, soft, bad, Tame, Firm}
 use Rattle.exact.specs.Lang.{None, within-bar, weaken}
 use Rattle.exact.specs.Answers.{map-fmap}
 use Rattle.exact.specs.Comb.{mapR}
@@ -17,15 +17,14 @@ use Rattle.exact.specs.Lines.{reached}
 use Rattle.exact.specs.More.{ll-shuts}
 use Rattle.exact.specs.Place.{peek, peek-in}
 use Rattle.language.specs.Kind.{STRING}
-use Rattle.language.specs.Tree.{Tree, leaf}
-use Rattle.language.specs.BlockText.{Part, part, partBytes, partEnd}
+use Rattle.language.specs.BlockText.{part, partBytes, partEnd}
 use Rattle.rooms.specs.declared.Cursor.{Cursor}
 use Rattle.rooms.specs.declared.Ans.{Ans}
 use Rattle.rooms.specs.declared.Ans.the-variants.{Ok, No}
 use Rattle.rooms.specs.declared.Block.{Block}
-use Rattle.rooms.specs.declared.Block.the-variants.{Done, Bad}
-use Rattle.rooms.specs.Contract.{columns, Ready, Blocks}
-use Rattle.rooms.specs.Laws.{not-block}
+use Rattle.rooms.specs.declared.Block.the-variants.{Bad}
+use Rattle.rooms.specs.Contract.{columns, Takes, Ready, Blocks}
+use Rattle.rooms.specs.Laws.{take-byte, take-place, take-other, not-block}
 use Rattle.strings.specs.Contract.{Texted, Texts}
 use Rattle.strings.specs.Quoted.{quotedR}
 use Rattle.blocktext.specs.Plus.{plusR}
@@ -36,7 +35,7 @@ use Rattle.blocktext.specs.Joined.{quotes, joinedLineR, joinedLine-ll, j
 use Rattle.blocktext.specs.NextLine.{NextAt, Follows, Ceases, next-short, next-other, next-quote}
 use Rattle.blocktext.specs.declared.quotes.Next.{Next}
 use Rattle.blocktext.specs.declared.quotes.Next.the-variants.{Line, Over}
-use Rattle.blocktext.specs.Leaves.{Begun, Rowed, Further, Furthers, went, stopped, block-of}
+use Rattle.blocktext.specs.Leaves.{Begun, Rowed, Furthers, stopped, block-of}
 use Rattle.blocktext.specs.Parts.{Parted, PartAt, further-plus}
 use Rattle.blocktext.proofs.PartLaws.{Parting, part-on, part-done, part-stop}
 
@@ -83,30 +82,36 @@ module _ (doc : List ℕ) (c : Cursor) (g : Ans) (T T' : List ℕ) (x : Texts do
   unfolding Texts PartAt joinedLineR
   line-bad p z = ap (λ o. bind o (λ s. lineEndR (part s))) (rw z at x)
 
-  module _ (n : Cursor) (z : g ≡ Ok n) (b : ℕ) (k : b ≡ peek doc (n .at)) where
+  module _ (n : Cursor) (z : g ≡ Ok n) (a : Ans) (k : Takes doc n 10 a) where
     texted : Texted doc c (quotedR (c .at) (drop (c .at) doc)) n 0 T T'
     unfolding Texts
     texted = rw z at x
 
-    pub line-not : (b ≡ 10 → ⊥) → PartAt doc c (joinedLineR (c .at) (drop (c .at) doc)) (No (n .at)) T T'
+    pub line-not : (p : ℕ) → a ≡ No p → PartAt doc c (joinedLineR (c .at) (drop (c .at) doc)) (No p) T T'
     unfolding PartAt joinedLineR
-    line-not h = ap (λ o. bind o (λ s. lineEndR (part s))) (texted .is) ∙ line-open (part (texted .value)) doc (n .at) (λ y. h (k ∙ y))
+    line-not p h =
+        ap (λ o. bind o (λ s. lineEndR (part s))) (texted .is) ∙ (line-open (part (texted .value)) doc (n .at) (take-other doc n 10 a k p h) ∙ ap bad (sym (take-place doc n 10 a k p h)))
 
-    pub line-end : b ≡ 10 → PartAt doc c (joinedLineR (c .at) (drop (c .at) doc)) (Ok n) T T'
+    pub line-end : (m : Cursor) → a ≡ Ok m → PartAt doc c (joinedLineR (c .at) (drop (c .at) doc)) (Ok n) T T'
     unfolding PartAt joinedLineR
-    line-end h =
+    line-end m h =
         let t = texted .spelt in
+        let f = take-byte doc n 10 a k m h in
         record {
           bytes = texted .value;
           far = 0;
-          reads = ap (λ o. bind o (λ s. lineEndR (part s))) (texted .is) ∙ line-closed (part (texted .value)) doc (n .at) (sym k ∙ h);
+          reads = ap (λ o. bind o (λ s. lineEndR (part s))) (texted .is) ∙ line-closed (part (texted .value)) doc (n .at) (sym f);
           near = omega arith;
           ahead = t .ahead;
-          inside = peek-in doc (n .at) b k (omega arith);
+          inside = peek-in doc (n .at) 10 f (omega arith);
           end = t .end;
           few = t .few;
           room = t .room;
         }
+
+pub ruleset one-line = (line-bad, line-not, line-end, needs)
+
+pub ruleset next-lines = (see-short, see-double, see-single, see-none, needs)
 
 -- ---- further lines below the LF at e
 tame : (col : ℕ) → Tame 1 (indentedR col joinedLineR)

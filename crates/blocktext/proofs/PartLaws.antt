@@ -2,31 +2,39 @@
 use mathlib.Core.Path.{_≡_, refl, sym, ap, subst, _∙_}
 use mathlib.Core.List.{List, [], _∷_, _++_, append-assoc, append-nil}
 use mathlib.Core.Bool.{Bool, true, false}
-use Prim.Native.Nat.{ℕ, zero, suc, _+_, _-_, _≤_, _<_}
+use Prim.Native.Nat.{ℕ, _+_, _-_, _≤_, _<_}
 use native.Mathlib.Nat.{add-zero}
 use native.Mathlib.Omega.{arith}
 use lib.ListN.{length, drop, length-append}
 use lib.Seq.{sets}
-use Rattle.exact.specs.Class.{pick, is, only, only-eq, only-is, clash}
-use Rattle.exact.specs.Out.{Out, Reader, Tame, ok, soft, bad}
+use borrow.Author.Needs.{needs}
+use Rattle.exact.specs.Class.{pick, is, only, only-eq, only-is, only-no, clash}
+use Rattle.exact.specs.Out.{Out, Reader, Tame, soft, bad}
+use Rattle.exact.specs.Lang.{byteR}
 use Rattle.exact.specs.Block.{manyG}
-use Rattle.exact.specs.Lines.{reached}
 use Rattle.exact.specs.Place.{peek, peek-in}
+use Rattle.language.specs.Tree.{Tree}
 use Rattle.language.specs.BlockText.{Part, part, partBytes, partEnd}
-use Rattle.language.specs.Answered.{limit}
 use Rattle.characters.specs.declared.Skip.{Skip}
 use Rattle.characters.specs.declared.Skip.the-variants.{End}
 use Rattle.characters.specs.Reads.{Skips, Ends}
+use Rattle.characters.specs.Takes.{take-byte, take-place, take-other}
+use Rattle.blocktext.specs.Contract.{Asked}
 use Rattle.rooms.specs.declared.Cursor.{Cursor}
 use Rattle.rooms.specs.declared.Ans.{Ans}
 use Rattle.rooms.specs.declared.Ans.the-variants.{Ok, No}
 use Rattle.rooms.specs.declared.Block.{Block}
-use Rattle.rooms.specs.declared.Block.the-variants.{Done, Bad}
-use Rattle.rooms.specs.Contract.{Ready, Small}
+use Rattle.rooms.specs.declared.Block.the-variants.{Bad}
+use Rattle.rooms.specs.Contract.{Takes, Ready, Small, Blocks}
 use Rattle.rooms.specs.Stores.{sets-append}
 use Rattle.blocktext.specs.Going.{Going, going-first, going-over, going-bad, going-on}
-use Rattle.blocktext.specs.Leaves.{Begun, Rowed, Further, Furthers, went, stopped}
-use Rattle.blocktext.specs.Parts.{closes, Closed, Unclosed, no-end, no-close, Closing, Parted, PartAt}
+use Rattle.blocktext.specs.Leaves.{Begun, Rowed, Furthers, went, stopped}
+use Rattle.blocktext.specs.Parts.{closes, no-end, no-close, Closing, Parted, PartAt}
+
+-- ---- a leader whose first byte is known
+pub not-led : (doc : List ℕ) (c : Cursor) (b col : ℕ) → Asked doc c b col → (a : Ans) → Takes doc c b a → (p : ℕ) → a ≡ No p
+    → (parent : ℕ) (o : Out Tree) (R T : List ℕ) → Blocks doc c parent o (Bad p) R R T T
+not-led doc c b col i a t p z parent o R T = absurd (Rattle.rooms.specs.Laws.take-other doc c b a t p z (i .first))
 
 -- ---- an LF behind what was passed over
 module _ (doc : List ℕ) (n : Cursor) where
@@ -34,14 +42,16 @@ module _ (doc : List ℕ) (n : Cursor) where
   unfolding closes
   closes-bad g p z = rw z refl
 
-  module _ (g : Skip) (e : ℕ) (z : g ≡ End e) (b : ℕ) (k : b ≡ peek doc e) where
-    pub closes-open : (b ≡ 10 → ⊥) → No e ≡ closes doc n g
+  module _ (g : Skip) (e : ℕ) (z : g ≡ End e) (k : Skip) (t : Skips doc e (byteR (is (only 10)) e (drop e doc)) k) where
+    pub closes-open : (p : ℕ) → k ≡ Rattle.characters.specs.declared.Skip.the-variants.Bad p → No p ≡ closes doc n g
     unfolding closes
-    closes-open h = rw (z, Rattle.exact.specs.Class.only-no 10 (peek doc e) (λ y. h (k ∙ y))) refl
+    closes-open p y = rw (z, take-place doc e 10 (omega arith) k t p y, only-no 10 (peek doc e) (take-other doc e 10 (omega arith) k t p y)) refl
 
-    pub closes-end : b ≡ 10 → Ok (record { at = e; row = n .row; text = n .text }) ≡ closes doc n g
+    pub closes-end : (m : ℕ) → k ≡ End m → Ok (record { at = e; row = n .row; text = n .text }) ≡ closes doc n g
     unfolding closes
-    closes-end h = rw (z, sym k ∙ h) refl
+    closes-end m y = rw (z, ← take-byte doc e 10 (omega arith) k t m y) refl
+
+pub ruleset closed = (closes-bad, closes-open, closes-end, needs)
 
 pub closing : {X : Type 0} (doc : List ℕ) (at : ℕ) (o : Out X) (n : Cursor) (g : Skip) (r : Ans) → Skips doc at o g → r ≡ closes doc n g → Closing doc at o n r
 unfolding Closing Skips closes

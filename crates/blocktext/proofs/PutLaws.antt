@@ -1,23 +1,26 @@
 -- The text of a body, written a line at a time: laws as `search` takes them. Assumes nothing.
 use mathlib.Core.Path.{_≡_, refl, sym, ap, subst, _∙_}
-use mathlib.Core.List.{List, [], _∷_, _++_, append-assoc, append-nil}
+use mathlib.Core.List.{List, [], _∷_, _++_, append-assoc}
 use mathlib.Core.Logic.{_⊎_, inl, inr}
 use Prim.Native.Nat.{ℕ, suc, _+_, _-_, _≤_, _<_, min}
 use native.Mathlib.Omega.{arith}
 use native.Mathlib.Decide.{decLe}
-use lib.ListN.{length, getD, set, length-append}
+use lib.ListN.{length, set, length-append}
 use lib.Seq.{sets, slice, length-slice}
 use borrow.Author.Needs.{needs}
-use Rattle.exact.specs.Out.{ok, soft, bad}
 use Rattle.exact.specs.Place.{peek}
 use Rattle.language.specs.BlockText.{Line, blank, line, hold, trim, lower, spaces, unlines, bodyText, bodyEnd}
 use Rattle.language.specs.Answered.{limit}
 use Rattle.rooms.specs.Stores.{sets-append}
 use Rattle.rooms.specs.declared.Cursor.{Cursor}
-use Rattle.rooms.specs.Contract.{columns}
+use Rattle.rooms.specs.declared.Ans.{Ans}
+use Rattle.rooms.specs.declared.Ans.the-variants.{Ok, No}
+use Rattle.rooms.specs.Contract.{columns, Takes}
+use Rattle.rooms.specs.Laws.{take-next, take-byte, take-place, take-other}
+use Rattle.characters.specs.Runs.{Fed}
 use Rattle.blocktext.specs.Spaces.{slice-front}
-use Rattle.blocktext.specs.Placed.{Blank, Text, lineAt, Placed, First, first, first-none, first-blank, first-text, lower-self, lower-le, trim-none, text-ahead, text-least, length-line}
-use Rattle.blocktext.specs.Contract.{Fed, bodyLines, Known, Stored, One, one-blank, one-text, Lined, LinePut}
+use Rattle.blocktext.specs.Placed.{Text, lineAt, Placed, First, first, first-none, first-blank, first-text, lower-self, lower-le, trim-none, text-ahead, text-least, length-line}
+use Rattle.blocktext.specs.Contract.{bodyLines, Known, Stored, One, one-blank, one-text, Lined, LinePut}
 
 -- ---- one line
 spaced-first : {doc : List ℕ} {c a s e : ℕ} → Text doc c a s e → peek doc a ≡ 32
@@ -38,12 +41,15 @@ same-feed {doc} {c} {a} {s} {e} r t f = by (decLe (suc r) e) (decLe (suc e) r)
     by (no h) (yes k) = absurd (f .dried .dry e (omega (arith, t .deep, t .ahead)) k (t .feed))
     by (no h) (no k) = omega arith
 
-module _ (doc : List ℕ) (col m : ℕ) (n : Cursor) (b : ℕ) (k : b ≡ peek doc (n .at)) (T : List ℕ) where
-  pub put-blank : b ≡ 10 → (T' : List ℕ) → T' ≡ set T (n .text) 10 → LinePut doc col m n (record { at = n .at + 1; row = n .row; text = n .text + 1 }) T T'
-  put-blank h T' r = record { at = at; stored = stored }
+module _ (doc : List ℕ) (col m : ℕ) (n : Cursor) (a : Ans) (t : Takes doc n 10 a) (T : List ℕ) where
+  pub put-blank : (n' : Cursor) → a ≡ Ok n' → (T' : List ℕ) → T' ≡ set T (n .text) 10 → LinePut doc col m n (record { at = n' .at; row = n' .row; text = n .text + 1 }) T T'
+  put-blank n' y T' r = rw (take-next doc n 10 a t n' y) (record { at = at; stored = stored })
     where
+      h : peek doc (n .at) ≡ 10
+      h = sym (take-byte doc n 10 a t n' y)
+
       no : {s e : ℕ} → Text doc col (n .at) s e → ⊥
-      no t = let y = spaced-first t in omega arith
+      no t = let y = spaced-first t in let k = h in omega arith
 
       at : (l : Line) (z : ℕ) → One doc col m (n .at) l z → n .at + 1 ≡ z
       at _ _ (one-blank x) = refl
@@ -53,28 +59,43 @@ module _ (doc : List ℕ) (col m : ℕ) (n : Cursor) (b : ℕ) (k : b ≡ peek d
       stored _ _ (one-blank x) = record { end = omega arith; room = r }
       stored _ _ (one-text t x) = absurd (no t)
 
-  module _ (h : b ≡ 10 → ⊥) (e : ℕ) (f : Fed doc (n .at) e) where
-    pub put-fits : Lined doc col m n → n .at + col + 1 + m ≤ e
-    put-fits y = go (y .one)
+  pub put-place : (p : ℕ) → a ≡ No p → Lined doc col m n → p ≤ length doc
+  put-place p y i = omega (arith, take-place doc n 10 a t p y, i .inside)
+
+  module _ (p : ℕ) (y : a ≡ No p) (e : ℕ) (fed : Fed doc p e) where
+    place : p ≡ n .at
+    place = take-place doc n 10 a t p y
+
+    h : peek doc (n .at) ≡ 10 → ⊥
+    h = take-other doc n 10 a t p y
+
+    f : Fed doc (n .at) e
+    f = subst (λ q. Fed doc q e) place fed
+
+    pub put-fits : Lined doc col m n → p + col + 1 + m ≤ e
+    put-fits y = rw place (go (y .one))
       where
         go : {l : Line} {z : ℕ} → One doc col m (n .at) l z → n .at + col + 1 + m ≤ e
-        go (one-blank x) = absurd (h (k ∙ x .feed))
+        go (one-blank x) = absurd (h (x .feed))
         go (one-text {s} t x) = let q = same-feed e t f in omega (arith, t .deep, t .ahead)
 
     pub put-inside : e ≤ length doc
     put-inside = f .dried .inside
 
-    pub put-text : (from : ℕ) → from ≡ n .at + col + 1 + m → (T₁ T' : List ℕ) → T₁ ≡ sets T (n .text) (slice from e doc) → T' ≡ set T₁ (n .text + (e - from)) 10
+    put-from : (from : ℕ) → from ≡ p + col + 1 + m → (T₁ T' : List ℕ) → T₁ ≡ sets T (n .text) (slice from e doc) → T' ≡ set T₁ (n .text + (e - from)) 10
         → LinePut doc col m n (record { at = e + 1; row = n .row; text = n .text + (e - from) + 1 }) T T'
-    put-text from q T₁ T' r r' = record { at = at; stored = stored }
+    put-from from o T₁ T' r r' = record { at = at; stored = stored }
       where
+        q : from ≡ n .at + col + 1 + m
+        q = o ∙ ap (λ i. i + col + 1 + m) place
+
         at : (l : Line) (z : ℕ) → One doc col m (n .at) l z → e + 1 ≡ z
-        at _ _ (one-blank x) = absurd (h (k ∙ x .feed))
+        at _ _ (one-blank x) = absurd (h (x .feed))
         at _ _ (one-text t x) = ap (_+ 1) (same-feed e t f)
 
         go : {s d : ℕ} → Text doc col (n .at) s d → d ≡ e → m ≤ s - (n .at + suc col) → Stored (n .text) (n .text + (e - from) + 1) (unlines m (lineAt doc col (n .at) s d ∷ [])) T T'
         go {s} {d} t z x =
-            let i : from + (s - (n .at + suc col) - m) ≡ s = let y = t .deep in omega arith in
+            let i : from + (s - (n .at + suc col) - m) ≡ s = let y = t .deep in let k = q in omega arith in
             let w : slice from e doc ≡ spaces (s - (n .at + suc col) - m) ++ slice s e doc =
             slice-front doc (s - (n .at + suc col) - m) from s e i (omega (arith, t .ahead)) (f .dried .inside) (λ j l o. t .spaced j (omega arith) o) in
             let u : unlines m (lineAt doc col (n .at) s d ∷ []) ≡ slice from e doc ++ 10 ∷ [] = ap (λ v. unlines m (line (s - (n .at + suc col)) (slice s v doc) v ∷ [])) z ∙ ap (_++ 10 ∷ []) (sym w) in
@@ -85,10 +106,14 @@ module _ (doc : List ℕ) (col m : ℕ) (n : Cursor) (b : ℕ) (k : b ≡ peek d
             }
 
         stored : (l : Line) (z : ℕ) → One doc col m (n .at) l z → Stored (n .text) (n .text + (e - from) + 1) (unlines m (l ∷ [])) T T'
-        stored _ _ (one-blank x) = absurd (h (k ∙ x .feed))
+        stored _ _ (one-blank x) = absurd (h (x .feed))
         stored _ _ (one-text t x) = go t (sym (same-feed e t f)) x
 
-pub ruleset putting-line = (put-blank, put-fits, put-inside, put-text, needs)
+    pub put-text : (T₁ T' : List ℕ) → T₁ ≡ sets T (n .text) (slice (p + col + 1 + m) e doc) → T' ≡ set T₁ (n .text + (e - (p + col + 1 + m))) 10
+        → LinePut doc col m n (record { at = e + 1; row = n .row; text = n .text + (e - (p + col + 1 + m)) + 1 }) T T'
+    put-text T₁ T' r r' = put-from (p + col + 1 + m) refl T₁ T' r r'
+
+pub ruleset putting-line = (put-blank, put-place, put-fits, put-inside, put-text, needs)
 
 -- ---- the lines that are left: with them the text would be the goal, and end at stop
 pub record Putting (doc : List ℕ) (col m last stop : ℕ) (goal : List ℕ) (n : Cursor) (T : List ℕ) : Type 0 where

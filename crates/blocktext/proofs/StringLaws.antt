@@ -1,7 +1,7 @@
 -- Block strings: the leader, the body below it, and the block that they make. Laws as `search` takes them. Assumes nothing.
 use mathlib.Core.Path.{_≡_, refl, sym, ap, subst, _∙_}
 use mathlib.Core.List.{List, [], _∷_, _++_, append-assoc}
-use Prim.Native.Nat.{ℕ, suc, _+_, _-_, _≤_, _<_}
+use Prim.Native.Nat.{ℕ, _+_, _-_, _≤_, _<_}
 use native.Mathlib.Omega.{arith}
 use lib.ListN.{length, drop, set, length-append}
 use lib.Seq.{sets, slice, length-slice}
@@ -15,15 +15,18 @@ use Rattle.exact.specs.Comb.{seqR, mapR}
 use Rattle.exact.specs.Place.{peek, peek-in, byte-is, byte-not, alt-is, alt-not}
 use Rattle.language.specs.Kind.{STRING}
 use Rattle.language.specs.Tree.{Tree, leaf}
-use Rattle.language.specs.BlockText.{Line, trim, unlines, bodyText, bodyEnd}
-use Rattle.language.specs.Answered.{limit}
+use Rattle.language.specs.BlockText.{Line, bodyText, bodyEnd}
 use Rattle.characters.specs.declared.Skip.{Skip}
 use Rattle.characters.specs.declared.Skip.the-variants.{End}
 use Rattle.rooms.specs.declared.Cursor.{Cursor}
 use Rattle.rooms.specs.declared.Block.{Block}
-use Rattle.rooms.specs.declared.Block.the-variants.{Done, Bad}
-use Rattle.rooms.specs.Contract.{Ready, Blocks, Small}
-use Rattle.rooms.specs.Laws.{not-block}
+use Rattle.rooms.specs.declared.Block.the-variants.{Bad}
+use Rattle.rooms.specs.declared.Step.{Step}
+use Rattle.rooms.specs.declared.Step.the-variants.{Byte, Over}
+use Rattle.rooms.specs.declared.Ans.{Ans}
+use Rattle.rooms.specs.declared.Ans.the-variants.{Ok, No}
+use Rattle.rooms.specs.Contract.{onward, Stepped, Takes, Blocks, Small}
+use Rattle.rooms.specs.Laws.{step-byte, step-next, step-inside, step-over, take-next, take-byte, take-place, take-other, not-block}
 use Rattle.rooms.specs.Stores.{sets-append}
 use Rattle.blocktext.specs.declared.body.Extent.{Extent}
 use Rattle.blocktext.specs.declared.body.Extent.the-variants.{Whole, Broken}
@@ -32,7 +35,8 @@ use Rattle.blocktext.specs.TextLines.{bodyR}
 use Rattle.blocktext.specs.BlockStrings.{belowR, leaderTextR, openStringTree, openStringRestR, openStringR, propertyStringTree, propertyStringR}
 use Rattle.blocktext.specs.Placed.{text-least, text-few, ends-inner}
 use Rattle.blocktext.specs.Contract.{Asked, Led, TextAt, Texted, Untexted, no-text, no-feed, Bodied, BodyAt, bodyLines, Known, Stored}
-use Rattle.blocktext.specs.Leaves.{Begun, Rowed, Further, Furthers, went, stopped, block-of}
+use Rattle.blocktext.specs.Leaves.{Begun, Rowed, Furthers, went, stopped, block-of}
+use Rattle.blocktext.proofs.PartLaws.{not-led}
 
 pub fmap-same : {X Y : Type 0} (f g : X → Y) (o : Out X) → ((x : X) → f x ≡ g x) → fmap f o ≡ fmap g o
 fmap-same f g (ok v a t) h = ap (λ y. ok y a t) (h v)
@@ -131,53 +135,52 @@ leader-some doc a h =
     ∙ ap (λ o. bind o (λ _. solidR)) (byte-is doc a 32 (peek doc a) (omega arith) refl h)
 
 -- ---- a leader with a text
-module _ (doc : List ℕ) (c : Cursor) (col : ℕ) (i : Led doc c col) where
+module _ (doc : List ℕ) (c : Cursor) (col : ℕ) (a : ℕ) (i : Led doc c col a) where
   led-is : openStringR col (c .at) (drop (c .at) doc)
-      ≡ bind (solidR (c .at + 2) (drop (c .at + 2) doc)) (λ t. belowR (openStringTree (c .at) t) col)
+      ≡ bind (solidR (a) (drop (a) doc)) (λ t. belowR (openStringTree (c .at) t) col)
   led-is =
-      let z : c .at + 1 + 1 ≡ c .at + 2 = omega arith in
       open-is doc col (c .at) (i .asked .first)
       ∙ (ap (λ o. bind o (λ t. belowR (openStringTree (c .at) t) col)) (leader-some doc (c .at + 1) (i .spaced))
-      ∙ ap (λ n. bind (solidR n (drop n doc)) (λ t. belowR (openStringTree (c .at) t) col)) z)
+      ∙ ap (λ n. bind (solidR n (drop n doc)) (λ t. belowR (openStringTree (c .at) t) col)) (sym (i .from)))
 
-  module _ (g : Skip) (x : TextAt doc (c .at + 2) g) where
+  module _ (g : Skip) (x : TextAt doc (a) g) where
     pub led-bad : (parent p : ℕ) (R T : List ℕ) → g ≡ Rattle.characters.specs.declared.Skip.the-variants.Bad p
         → Blocks doc c parent (openStringR col (c .at) (drop (c .at) doc)) (Bad p) R R T T
     unfolding TextAt
     led-bad parent p R T z = not-block doc c parent _ R R T T p (led-is ∙ by (rw z at x))
       where
-        by : Untexted doc (c .at + 2) p → bind (solidR (c .at + 2) (drop (c .at + 2) doc)) (λ t. belowR (openStringTree (c .at) t) col) ≡ bad p
+        by : Untexted doc (a) p → bind (solidR (a) (drop (a) doc)) (λ t. belowR (openStringTree (c .at) t) col) ≡ bad p
         by (no-text h) = ap (λ o. bind o (λ t. belowR (openStringTree (c .at) t) col)) h
         by (no-feed v h k) = ap (λ o. bind o (λ t. belowR (openStringTree (c .at) t) col)) h ∙ below-not (openStringTree (c .at) v) doc col p k
 
     module _ (e : ℕ) (z : g ≡ End e) where
-      texted : Texted doc (c .at + 2) e
+      texted : Texted doc (a) e
       unfolding TextAt
       texted = rw z at x
 
-      pub led-ahead : c .at + 2 < e
+      pub led-ahead : a < e
       led-ahead = texted .ahead
 
       pub led-inside : e < length doc
       led-inside = texted .inside
 
-      pub led-begun : Begun doc c e (c .text + (e - (c .at + 2)) + 1) col
+      pub led-begun : Begun doc c e (c .text + (e - (a)) + 1) col
       led-begun =
           record {
             ready = i .asked .ready;
-            ahead = omega (arith, texted .ahead);
+            ahead = omega (arith, texted .ahead, i .from);
             inside = texted .inside;
-            few = omega (arith, texted .ahead, i .asked .ready .fewText);
+            few = omega (arith, texted .ahead, i .from, i .asked .ready .fewText);
             low = i .asked .low;
           }
 
-      pub led-block : (parent : ℕ) (r : Block) (R R' T₀ T₁ T T' : List ℕ) → T₁ ≡ sets T₀ (c .text) (slice (c .at + 2) e doc)
-          → T ≡ set T₁ (c .text + (e - (c .at + 2))) 10
-          → Furthers doc c parent STRING (bodyR col (e + 1) (drop (e + 1) doc)) (bodyEnd e) bodyText (e + 1) (c .text + (e - (c .at + 2)) + 1) r R R' T T'
+      pub led-block : (parent : ℕ) (r : Block) (R R' T₀ T₁ T T' : List ℕ) → T₁ ≡ sets T₀ (c .text) (slice (a) e doc)
+          → T ≡ set T₁ (c .text + (e - (a))) 10
+          → Furthers doc c parent STRING (bodyR col (e + 1) (drop (e + 1) doc)) (bodyEnd e) bodyText (e + 1) (c .text + (e - (a)) + 1) r R R' T T'
           → Blocks doc c parent (openStringR col (c .at) (drop (c .at) doc)) r R R' T₀ T'
       led-block parent r R R' T₀ T₁ T T' s s' f =
-          let t : List ℕ = slice (c .at + 2) e doc in
-          let n : length t ≡ e - (c .at + 2) = length-slice (c .at + 2) e doc (let k = texted .inside in omega arith) in
+          let t : List ℕ = slice (a) e doc in
+          let n : length t ≡ e - (a) = length-slice (a) e doc (let k = texted .inside in omega arith) in
           let m : length (t ++ 10 ∷ []) ≡ length t + 1 = length-append t (10 ∷ []) in
           block-of
           doc
@@ -188,7 +191,7 @@ module _ (doc : List ℕ) (c : Cursor) (col : ℕ) (i : Led doc c col) where
           (bodyEnd e)
           bodyText
           (e + 1)
-          (c .text + (e - (c .at + 2)) + 1)
+          (c .text + (e - (a)) + 1)
           r
           R
           R'
@@ -206,55 +209,94 @@ module _ (doc : List ℕ) (c : Cursor) (col : ℕ) (i : Led doc c col) where
           (bodyR col (e + 1) (drop (e + 1) doc))
           (λ ls. ap (leaf STRING (c .at) (bodyEnd e ls)) (sym (append-assoc t (10 ∷ []) (bodyText ls)))))))
           (lit< tt)
-          (s' ∙ (ap (λ l. set l (c .text + (e - (c .at + 2))) 10) s ∙ (ap (λ j. set (sets T₀ (c .text) t) (c .text + j) 10) (sym n) ∙ sym (sets-append T₀ (c .text) t (10 ∷ [])))))
+          (s' ∙ (ap (λ l. set l (c .text + (e - (a))) 10) s ∙ (ap (λ j. set (sets T₀ (c .text) t) (c .text + j) 10) (sym n) ∙ sym (sets-append T₀ (c .text) t (10 ∷ [])))))
           (omega arith)
-          (omega (arith, texted .ahead))
+          (omega (arith, texted .ahead, i .from))
           f
 
--- ---- a bare leader, and one that is none
-module _ (doc : List ℕ) (c : Cursor) (col b : ℕ) (i : Asked doc c 96 col) (k : b ≡ peek doc (c .at + 1)) where
-  open-in : c .at < length doc
-  open-in = peek-in doc (c .at) 96 (sym (i .first)) (omega arith)
+pub ruleset led-strings = (led-bad, led-ahead, led-inside, led-begun, led-block, needs)
 
-  pub open-led : b ≡ 32 → Led doc c col
-  open-led h = record { asked = i; spaced = sym k ∙ h; inside = peek-in doc (c .at + 1) b k (omega arith) }
+-- ---- a leader with another byte behind the grave
+module _ (doc : List ℕ) (c : Cursor) (col : ℕ) (i : Asked doc c 96 col) (a : Ans) (t : Takes doc c 96 a) (n : Cursor) (z : a ≡ Ok n) where
+  next : n ≡ onward c 1
+  next = take-next doc c 96 a t n z
 
-  pub string-begun : b ≡ 10 → (x : ℕ) → x ≤ c .text + 1 → Begun doc c (c .at + 1) x col
-  string-begun h x l =
-      record { ready = i .ready; ahead = omega arith; inside = peek-in doc (c .at + 1) b k (omega arith); few = omega (arith, i .ready .fewText); low = i .low }
+  place : n .at ≡ c .at + 1
+  place = ap (λ (q : Cursor). q .at) next
 
-  open-bare : (b ≡ 32 → ⊥) → openStringR col (c .at) (drop (c .at) doc) ≡ belowR (openStringTree (c .at) []) col (c .at + 1) (drop (c .at + 1) doc)
+  begun : 10 ≡ peek doc (n .at) → (x : ℕ) → x ≤ c .text + 1 → Begun doc c (n .at) x col
+  begun f x l =
+      record { ready = i .ready; ahead = omega (arith, place); inside = peek-in doc (n .at) 10 f (omega arith); few = omega (arith, i .ready .fewText, place); low = i .low }
+
+  open-bare : (peek doc (n .at) ≡ 32 → ⊥) → openStringR col (c .at) (drop (c .at) doc) ≡ belowR (openStringTree (c .at) []) col (n .at) (drop (n .at) doc)
   open-bare h =
-      open-is doc col (c .at) (i .first) ∙ ap (λ o. bind o (λ t. belowR (openStringTree (c .at) t) col)) (leader-none doc (c .at + 1) (λ z. h (k ∙ z)))
+      open-is doc col (c .at) (i .first)
+      ∙ (ap (λ q. openStringRestR col (c .at) q (drop q doc)) (sym place) ∙ ap (λ o. bind o (λ t. belowR (openStringTree (c .at) t) col)) (leader-none doc (n .at) h))
 
-  pub open-bad : (parent : ℕ) (R T : List ℕ) → (b ≡ 32 → ⊥) → (b ≡ 10 → ⊥)
-      → Blocks doc c parent (openStringR col (c .at) (drop (c .at) doc)) (Bad (c .at + 1)) R R T T
-  open-bad parent R T h n = not-block doc c parent _ R R T T (c .at + 1) (open-bare h ∙ below-not (openStringTree (c .at) []) doc col (c .at + 1) (λ z. n (k ∙ z)))
+  property-bare : propertyStringR col (c .at) (drop (c .at) doc) ≡ belowR (propertyStringTree (c .at)) col (n .at) (drop (n .at) doc)
+  property-bare = property-is doc col (c .at) (i .first) ∙ ap (λ q. belowR (propertyStringTree (c .at)) col q (drop q doc)) (sym place)
 
-  pub open-block : (parent : ℕ) (r : Block) (R R' T₀ T T' : List ℕ) → (b ≡ 32 → ⊥) → b ≡ 10 → T ≡ set T₀ (c .text) 10
-      → Furthers doc c parent STRING (bodyR col (c .at + 1 + 1) (drop (c .at + 1 + 1) doc)) (bodyEnd (c .at + 1)) bodyText (c .at + 1 + 1) (c .text + 1) r R R' T T'
-      → Blocks doc c parent (openStringR col (c .at) (drop (c .at) doc)) r R R' T₀ T'
-  open-block parent r R R' T₀ T T' h n s f =
-      block-of doc c parent STRING _ (bodyEnd (c .at + 1)) bodyText (c .at + 1 + 1) (c .text + 1) r R R' T₀ T T' _ (10 ∷ [])
-      (open-bare h ∙ below-is (openStringTree (c .at) []) doc col (c .at + 1) (sym k ∙ n))
-      (lit< tt)
-      s
-      (omega arith)
-      (omega arith)
-      f
+  module _ (s : Step) (y : Stepped doc n s) where
+    pub open-over : s ≡ Over → (parent : ℕ) (R T : List ℕ) → Blocks doc c parent (openStringR col (c .at) (drop (c .at) doc)) (Bad (n .at)) R R T T
+    open-over w parent R T =
+        let e = step-over doc n s y w in
+        not-block doc c parent _ R R T T (n .at) (open-bare (λ q. omega arith) ∙ below-not (openStringTree (c .at) []) doc col (n .at) (λ q. omega arith))
 
-  pub property-bad : (parent : ℕ) (R T : List ℕ) → (b ≡ 10 → ⊥) → Blocks doc c parent (propertyStringR col (c .at) (drop (c .at) doc)) (Bad (c .at + 1)) R R T T
-  property-bad parent R T n =
-      not-block doc c parent _ R R T T (c .at + 1) (property-is doc col (c .at) (i .first) ∙ below-not (propertyStringTree (c .at)) doc col (c .at + 1) (λ z. n (k ∙ z)))
+    module _ (b : ℕ) (m : Cursor) (w : s ≡ Byte b m) where
+      byte : b ≡ peek doc (n .at)
+      byte = step-byte doc n s y b m w
 
-  pub property-block : (parent : ℕ) (r : Block) (R R' T T' : List ℕ) → b ≡ 10
-      → Furthers doc c parent STRING (bodyR col (c .at + 1 + 1) (drop (c .at + 1 + 1) doc)) (bodyEnd (c .at + 1)) bodyText (c .at + 1 + 1) (c .text) r R R' T T'
-      → Blocks doc c parent (propertyStringR col (c .at) (drop (c .at) doc)) r R R' T T'
-  property-block parent r R R' T T' n f =
-      block-of doc c parent STRING _ (bodyEnd (c .at + 1)) bodyText (c .at + 1 + 1) (c .text) r R R' T T T' _ []
-      (property-is doc col (c .at) (i .first) ∙ below-is (propertyStringTree (c .at)) doc col (c .at + 1) (sym k ∙ n))
-      (lit< tt)
-      refl
-      (omega arith)
-      (omega arith)
-      f
+      pub open-led : b ≡ 32 → Led doc c col (m .at)
+      open-led h =
+          let l = step-inside doc n s y b m w in
+          record {
+            asked = i;
+            spaced = ap (peek doc) (sym place) ∙ (sym byte ∙ h);
+            inside = omega (arith, place);
+            from = ap (λ (q : Cursor). q .at) (step-next doc n s y b m w) ∙ ap (_+ 1) place;
+          }
+
+      pub open-begun : b ≡ 10 → Begun doc c (n .at) (c .text + 1) col
+      open-begun h = begun (sym h ∙ byte) (c .text + 1) (omega arith)
+
+      pub open-bad : (b ≡ 32 → ⊥) → (b ≡ 10 → ⊥) → (parent : ℕ) (R T : List ℕ) → Blocks doc c parent (openStringR col (c .at) (drop (c .at) doc)) (Bad (n .at)) R R T T
+      open-bad h k parent R T =
+          not-block doc c parent _ R R T T (n .at) (open-bare (λ q. h (byte ∙ q)) ∙ below-not (openStringTree (c .at) []) doc col (n .at) (λ q. k (byte ∙ q)))
+
+      pub open-block : b ≡ 10 → (parent : ℕ) (r : Block) (R R' T₀ T T' : List ℕ) → T ≡ set T₀ (c .text) 10
+          → Furthers doc c parent STRING (bodyR col (n .at + 1) (drop (n .at + 1) doc)) (bodyEnd (n .at)) bodyText (n .at + 1) (c .text + 1) r R R' T T'
+          → Blocks doc c parent (openStringR col (c .at) (drop (c .at) doc)) r R R' T₀ T'
+      open-block h parent r R R' T₀ T T' e f =
+          block-of doc c parent STRING _ (bodyEnd (n .at)) bodyText (n .at + 1) (c .text + 1) r R R' T₀ T T' _ (10 ∷ [])
+          (open-bare (λ q. let k = byte ∙ q in omega arith) ∙ below-is (openStringTree (c .at) []) doc col (n .at) (sym byte ∙ h))
+          (lit< tt)
+          e
+          (omega arith)
+          (omega (arith, place))
+          f
+
+  module _ (g : Ans) (y : Takes doc n 10 g) where
+    pub property-bad : (p : ℕ) → g ≡ No p → (parent : ℕ) (R T : List ℕ) → Blocks doc c parent (propertyStringR col (c .at) (drop (c .at) doc)) (Bad p) R R T T
+    property-bad p w parent R T =
+        not-block doc c parent _ R R T T p
+        (property-bare ∙ (below-not (propertyStringTree (c .at)) doc col (n .at) (take-other doc n 10 g y p w) ∙ ap bad (sym (take-place doc n 10 g y p w))))
+
+    module _ (m : Cursor) (w : g ≡ Ok m) where
+      pub property-begun : Begun doc c (n .at) (c .text) col
+      property-begun = begun (take-byte doc n 10 g y m w) (c .text) (omega arith)
+
+      pub property-block : (parent : ℕ) (r : Block) (R R' T T' : List ℕ)
+          → Furthers doc c parent STRING (bodyR col (n .at + 1) (drop (n .at + 1) doc)) (bodyEnd (n .at)) bodyText (n .at + 1) (c .text) r R R' T T'
+          → Blocks doc c parent (propertyStringR col (c .at) (drop (c .at) doc)) r R R' T T'
+      property-block parent r R R' T T' f =
+          block-of doc c parent STRING _ (bodyEnd (n .at)) bodyText (n .at + 1) (c .text) r R R' T T T' _ []
+          (property-bare ∙ below-is (propertyStringTree (c .at)) doc col (n .at) (sym (take-byte doc n 10 g y m w)))
+          (lit< tt)
+          refl
+          (omega arith)
+          (omega (arith, place))
+          f
+
+pub ruleset open-strings = (not-led, open-over, open-led, open-begun, open-bad, open-block, needs)
+
+pub ruleset property-strings = (not-led, property-bad, property-begun, property-block, needs)

@@ -35,17 +35,6 @@ pub record Spaced (doc : List ℕ) (at s : ℕ) : Type 0 where
   pub from : at ≤ s
   pub inside : s ≤ length doc
 
--- no LF stands from `at` up to e
-pub record Dried (doc : List ℕ) (at e : ℕ) : Type 0 where
-  pub from : at ≤ e
-  pub inside : e ≤ length doc
-  pub dry : (j : ℕ) → at ≤ j → j < e → peek doc j ≡ 10 → ⊥
-
--- .. and where the document goes on, it goes on with one
-pub record Fed (doc : List ℕ) (at e : ℕ) : Type 0 where
-  pub dried : Dried doc at e
-  pub feed : e < length doc → peek doc e ≡ 10
-
 -- a text stands at `at`, and behind it, at e, an LF
 pub record Texted (doc : List ℕ) (at e : ℕ) : Type 0 where
   pub is : solidR at (drop at doc) ≡ ok (slice at e doc) e (drop e doc)
@@ -63,8 +52,9 @@ unfoldable pub TextAt : List ℕ → ℕ → Skip → Type 0
 TextAt doc at (End e) = Texted doc at e
 TextAt doc at (Bad p) = Untexted doc at p
 
--- A LINE OF A BODY that begins at a: blank, with a text from s to e, none (and how far one would begin), or refused
-pub record SeenBlank (doc : List ℕ) (col a : ℕ) : Type 0 where
+-- A LINE OF A BODY that begins at a: blank, up to n, with a text from s to e, none (and how far one would begin), or refused
+pub record SeenBlank (doc : List ℕ) (col a n : ℕ) : Type 0 where
+  pub next : n ≡ a + 1
   pub look : goesOn col (drop a doc) ≡ true
   pub is : bodyLineR col a (drop a doc) ≡ ok blank (a + 1) (drop (a + 1) doc)
   pub blank : Blank doc a
@@ -84,7 +74,7 @@ pub record SeenBad (doc : List ℕ) (col a p : ℕ) : Type 0 where
   pub inside : a < length doc
 
 unfoldable pub Sees : List ℕ → ℕ → ℕ → Seen → Type 0
-Sees doc col a Empty = SeenBlank doc col a
+Sees doc col a (Empty n) = SeenBlank doc col a n
 Sees doc col a (Written s e) = SeenText doc col a s e
 Sees doc col a (Over far) = SeenNone doc col a far
 Sees doc col a (Refused p) = SeenBad doc col a p
@@ -144,8 +134,9 @@ pub record LinePut (doc : List ℕ) (col m : ℕ) (n n' : Cursor) (text text' : 
   pub at : (l : Line) (z : ℕ) → One doc col m (n .at) l z → n' .at ≡ z
   pub stored : (l : Line) (z : ℕ) → One doc col m (n .at) l z → Stored (n .text) (n' .text) (unlines m (l ∷ [])) text text'
 
--- ASKED of a cursor at an open block string whose leader has a space
-pub record Led (doc : List ℕ) (c : Cursor) (col : ℕ) : Type 0 where
+-- ASKED of a cursor at an open block string whose leader has a space, and its text from a on
+pub record Led (doc : List ℕ) (c : Cursor) (col a : ℕ) : Type 0 where
   pub asked : Asked doc c 96 col
   pub spaced : peek doc (c .at + 1) ≡ 32
   pub inside : c .at + 1 < length doc
+  pub from : a ≡ c .at + 1 + 1

@@ -17,7 +17,7 @@ use Rattle.exact.specs.Block.{lead}
 use Rattle.exact.specs.Lines.{reached}
 use Rattle.exact.specs.Place.{peek, There, there, byte-there, none-there, byte-is, alt-peek}
 use Rattle.characters.specs.Comments.{commentR, comment-ll, optionalCommentR}
-use Rattle.characters.specs.Pieces.{comment-none}
+use Rattle.characters.specs.Marks.{comment-none}
 use Rattle.strings.specs.Bytes.{pairR, pair-ll, pairsR}
 use Rattle.blocktext.specs.LineEnd.{lineEndR}
 use Rattle.blocktext.specs.HexLines.{commentedR, contentR, hexRestR}

@@ -81,11 +81,12 @@ goes-deep c [] e = absurd (ind-none (is (only 32)) c e)
 goes-deep c (b ∷ s) e = or-right (is (only 10) b) e
 
 module _ (doc : List ℕ) (col a : ℕ) where
-  pub sees-blank : peek doc a ≡ 10 → a < length doc → SeenBlank doc col a
+  pub sees-blank : (n : ℕ) → n ≡ a + 1 → peek doc a ≡ 10 → a < length doc → SeenBlank doc col a n
   unfolding bodyLineR
-  sees-blank h l =
+  sees-blank n z h l =
       let d : drop a doc ≡ 10 ∷ drop (suc a) doc = peek-cons doc a 10 (sym h) (omega arith) in
       record {
+        next = z;
         look = rw d refl;
         is = alt-is doc a 10 (peek doc a) (omega arith) refl blankR (deeperR col textLineR) h ∙ ap (λ o. bind o (λ _. retR blank)) (byte-is doc a 10 (peek doc a) (omega arith) refl h);
         blank = record { inside = l; feed = h };

@@ -6,18 +6,17 @@ ghost use Rattle.language.specs.Answered.{limit};
 ghost use Rattle.language.specs.BlockText.{bodyText};
 ghost use Rattle.rooms.specs.Contract.{columns};
 ghost use Rattle.blocktext.specs.Contract.{Sees, BodyAt, bodyLines, Known, Stored, Lined, LinePut};
-use super::lines::byte_at;
-use super::lines::line_feed;
 use super::lines::text_line;
+use characters::Reading;
 use characters::Skip;
-use characters::spaces_end;
+use rooms::Ans;
 use rooms::Cursor;
 use rooms::copy;
 use rooms::put_byte;
 
-// What stands at a line: nothing but an LF; a text and the place of its LF; no line of the body, and how far one would begin; or a line that is refused.
+// What stands at a line: nothing but an LF, and the place behind it; a text and the place of its LF; no line of the body, and how far one would begin; or a line that is refused.
 pub enum Seen {
-    Empty,
+    Empty(usize),
     Written(usize, usize),
     Over(usize),
     Refused(usize),
@@ -34,20 +33,19 @@ fn body_line(doc: &[u8], a: usize, col: usize) -> Seen
     requires { ⌜ a ≤ length (now doc) ⌝ }
     ensures { λ r. ⌜ Sees (now (doc .entry)) col a r ⌝ }
 {
-    if byte_at(&*doc, a) == 10 {
-        return Seen::Empty;
-    }
-    let s = spaces_end(&*doc, a);
-    if s - a <= col {
-        return Seen::Over(s);
-    }
-    let got = text_line(&*doc, s);
-    match got {
-        Skip::Bad(p) => {
-            return Seen::Refused(p);
-        }
-        Skip::End(e) => {
-            return Seen::Written(s, e);
+    let here = Reading { at: a };
+    match here.take(&*doc, 10) {
+        Skip::End(n) => Seen::Empty(n),
+        Skip::Bad(_) => {
+            let dark = here.spaces(&*doc);
+            let s = dark.at;
+            if s - a <= col {
+                return Seen::Over(s);
+            }
+            match text_line(&*doc, dark) {
+                Skip::Bad(p) => Seen::Refused(p),
+                Skip::End(e) => Seen::Written(s, e),
+            }
         }
     }
 }
@@ -74,8 +72,8 @@ pub fn body(doc: &[u8], e: usize, col: usize) -> Extent
     loop {
         let seen = body_line(&*doc, a, col);
         match seen {
-            Seen::Empty => {
-                a += 1;
+            Seen::Empty(n) => {
+                a = n;
             }
             Seen::Over(far) => {
                 return Extent::Whole(a, far, last, least);
@@ -97,24 +95,28 @@ fn put_line(doc: &[u8], text: &mut [u8], n: Cursor, col: usize, least: usize) ->
     requires { ⌜ Lined (now doc) col least n ⌝ }
     ensures { λ r. ⌜ LinePut (now (doc .entry)) col least n r (now (text .entry)) (now (text .exit)) ⌝ }
 {
-    let a = n.at;
     let x = n.text;
-    if byte_at(&*doc, a) == 10 {
-        put_byte(text, x, 10);
-        return Cursor {
-            at: a + 1,
-            row: n.row,
-            text: x + 1,
-        };
-    }
-    let e = line_feed(&*doc, a);
-    let from = a + col + 1 + least;
-    copy(&*doc, from, e, text, x);
-    put_byte(text, x + (e - from), 10);
-    Cursor {
-        at: e + 1,
-        row: n.row,
-        text: x + (e - from) + 1,
+    match n.take(&*doc, 10) {
+        Ans::Ok(m) => {
+            put_byte(text, x, 10);
+            Cursor {
+                at: m.at,
+                row: m.row,
+                text: x + 1,
+            }
+        }
+        Ans::No(a) => {
+            let here = Reading { at: a };
+            let e = here.line_end(&*doc).at;
+            let from = a + col + 1 + least;
+            copy(&*doc, from, e, text, x);
+            put_byte(text, x + (e - from), 10);
+            Cursor {
+                at: e + 1,
+                row: n.row,
+                text: x + (e - from) + 1,
+            }
+        }
     }
 }
 

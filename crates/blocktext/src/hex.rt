@@ -13,11 +13,8 @@ ghost use Rattle.blocktext.specs.Contract.{Asked};
 ghost use Rattle.blocktext.specs.Leaves.{Begun, Furthers};
 ghost use Rattle.blocktext.specs.Parts.{closes, Closing, PartAt};
 use super::leaf::put_leaf;
-use super::lines::byte_at;
+use characters::Reading;
 use characters::Skip;
-use characters::comment;
-use characters::optional_comment;
-use characters::spaces_end;
 use language::Kind;
 use rooms::Ans;
 use rooms::Block;
@@ -30,18 +27,17 @@ fn ended(doc: &[u8], n: Cursor, got: Skip) -> Ans
     ensures { λ r. ⌜ r ≡ closes (now (doc .entry)) n got ⌝ }
 {
     match got {
-        Skip::Bad(p) => {
-            return Ans::No(p);
-        }
+        Skip::Bad(p) => Ans::No(p),
         Skip::End(e) => {
-            if byte_at(&*doc, e) != 10 {
-                return Ans::No(e);
+            let feed = Reading { at: e };
+            match feed.take(&*doc, 10) {
+                Skip::Bad(p) => Ans::No(p),
+                Skip::End(_) => Ans::Ok(Cursor {
+                    at: e,
+                    row: n.row,
+                    text: n.text,
+                }),
             }
-            return Ans::Ok(Cursor {
-                at: e,
-                row: n.row,
-                text: n.text,
-            });
         }
     }
 }
@@ -56,8 +52,9 @@ fn hex_rest(doc: &[u8], text: &mut [u8], at: usize, x: usize) -> Ans
         row: 0,
         text: x,
     };
-    if byte_at(&*doc, at) == 35 {
-        let bare = comment(&*doc, at);
+    if c.look(&*doc) == 35 {
+        let here = Reading { at: c.at };
+        let bare = here.comment(&*doc);
         return ended(&*doc, c, bare);
     }
     let got = pairs(&*doc, text, c);
@@ -66,8 +63,8 @@ fn hex_rest(doc: &[u8], text: &mut [u8], at: usize, x: usize) -> Ans
             return Ans::No(p);
         }
         Far::Upto(n, _) => {
-            let e = n.at;
-            let more = optional_comment(&*doc, e);
+            let behind = Reading { at: n.at };
+            let more = behind.optional_comment(&*doc);
             return ended(&*doc, n, more);
         }
     }
@@ -94,7 +91,8 @@ fn hex_lines(
     };
     loop {
         let a = n.at + 1;
-        let s = spaces_end(&*doc, a);
+        let here = Reading { at: a };
+        let s = here.spaces(&*doc).at;
         if s - a <= col {
             return put_leaf(rows, c, parent, Kind::BYTES, a, n.text, s, n.at);
         }
@@ -122,18 +120,15 @@ pub fn open_bytes(
     requires { ⌜ Asked (now doc) c 62 col ⌝ }
     ensures { λ r. ⌜ Blocks (now (doc .entry)) c parent (openBytesR col (c .at) (drop (c .at) (now (doc .entry)))) r (now (rows .entry)) (now (rows .exit)) (now (text .entry)) (now (text .exit)) ⌝ }
 {
-    let at = c.at;
-    if byte_at(&*doc, at + 1) != 32 {
-        return Block::Bad(at + 1);
-    }
-    let got = hex_rest(&*doc, text, at + 2, c.text);
-    match got {
-        Ans::No(p) => {
-            return Block::Bad(p);
-        }
-        Ans::Ok(n) => {
-            return hex_lines(&*doc, rows, text, c, parent, col, n.at, n.text);
-        }
+    match c.take(&*doc, 62) {
+        Ans::No(p) => Block::Bad(p),
+        Ans::Ok(n) => match n.take(&*doc, 32) {
+            Ans::No(p) => Block::Bad(p),
+            Ans::Ok(m) => match hex_rest(&*doc, text, m.at, m.text) {
+                Ans::No(p) => Block::Bad(p),
+                Ans::Ok(e) => hex_lines(&*doc, rows, text, c, parent, col, e.at, e.text),
+            },
+        },
     }
 }
 
@@ -142,12 +137,14 @@ fn leader(doc: &[u8], n: Cursor) -> Ans
     requires { ⌜ Ready (now doc) n ⌝ }
     ensures { λ r. ⌜ Closing (now (doc .entry)) (n .at) (leaderCommentR (n .at) (drop (n .at) (now (doc .entry)))) n r ⌝ }
 {
-    let at = n.at;
-    if byte_at(&*doc, at) == 32 {
-        let got = comment(&*doc, at + 1);
-        return ended(&*doc, n, got);
+    match n.take(&*doc, 32) {
+        Ans::No(p) => ended(&*doc, n, Skip::End(p)),
+        Ans::Ok(m) => {
+            let behind = Reading { at: m.at };
+            let got = behind.comment(&*doc);
+            ended(&*doc, n, got)
+        }
     }
-    ended(&*doc, n, Skip::End(at))
 }
 
 // The hex lines of a property's block bytes below the LF at e, at least one.
@@ -164,7 +161,8 @@ fn property_lines(
     ensures { λ r. ⌜ Furthers (now (doc .entry)) c parent BYTES (plusR (hexLineR col) (hexLinesR col) (e + 1) (drop (e + 1) (now (doc .entry)))) (partEnd 0) partBytes (e + 1) (c .text) r (now (rows .entry)) (now (rows .exit)) (now (text .entry)) (now (text .exit)) ⌝ }
 {
     let a = e + 1;
-    let s = spaces_end(&*doc, a);
+    let here = Reading { at: a };
+    let s = here.spaces(&*doc).at;
     if s - a <= col {
         return Block::Bad(s);
     }
@@ -191,20 +189,11 @@ pub fn property_bytes(
     requires { ⌜ Asked (now doc) c 62 col ⌝ }
     ensures { λ r. ⌜ Blocks (now (doc .entry)) c parent (propertyBytesR col (c .at) (drop (c .at) (now (doc .entry)))) r (now (rows .entry)) (now (rows .exit)) (now (text .entry)) (now (text .exit)) ⌝ }
 {
-    let got = leader(
-        &*doc,
-        Cursor {
-            at: c.at + 1,
-            row: c.row,
-            text: c.text,
+    match c.take(&*doc, 62) {
+        Ans::No(p) => Block::Bad(p),
+        Ans::Ok(m) => match leader(&*doc, m) {
+            Ans::No(p) => Block::Bad(p),
+            Ans::Ok(n) => property_lines(&*doc, rows, text, c, parent, col, n.at),
         },
-    );
-    match got {
-        Ans::No(p) => {
-            return Block::Bad(p);
-        }
-        Ans::Ok(n) => {
-            return property_lines(&*doc, rows, text, c, parent, col, n.at);
-        }
     }
 }

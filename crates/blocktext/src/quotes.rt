@@ -12,12 +12,10 @@ ghost use Rattle.blocktext.specs.Leaves.{Begun, Furthers};
 ghost use Rattle.blocktext.specs.Parts.{PartAt};
 ghost use Rattle.blocktext.specs.NextLine.{NextAt};
 use super::leaf::put_leaf;
-use super::lines::byte_at;
 use language::Kind;
 use rooms::Ans;
 use rooms::Block;
 use rooms::Cursor;
-use rooms::indent;
 use strings::quoted;
 
 // Where the quoted string of a further line begins; or that there is none, and how far one would begin.
@@ -31,19 +29,26 @@ fn next_line(doc: &[u8], a: usize, col: usize) -> Next
     requires { ⌜ a ≤ length (now doc) ⌝ }
     ensures { λ r. ⌜ NextAt (now (doc .entry)) col a r ⌝ }
 {
-    let i = indent(&*doc, a, col);
+    let start = Cursor {
+        at: a,
+        row: 0,
+        text: 0,
+    };
+    let i = start.indent(&*doc, col);
     let s = a + i;
     if i < col {
         return Next::Over(s);
     }
-    let b = byte_at(&*doc, s);
-    if b == 34 {
-        return Next::Line(s);
+    let quote = Cursor {
+        at: s,
+        row: 0,
+        text: 0,
+    };
+    match quote.look(&*doc) {
+        34 => Next::Line(s),
+        39 => Next::Line(s),
+        _ => Next::Over(s),
     }
-    if b == 39 {
-        return Next::Line(s);
-    }
-    Next::Over(s)
 }
 
 // One line behind its spaces, up to its LF.
@@ -56,17 +61,12 @@ fn joined_line(doc: &[u8], text: &mut [u8], at: usize, x: usize) -> Ans
         row: 0,
         text: x,
     };
-    let got = quoted(&*doc, text, c);
-    match got {
-        Ans::No(p) => {
-            return Ans::No(p);
-        }
-        Ans::Ok(n) => {
-            if byte_at(&*doc, n.at) != 10 {
-                return Ans::No(n.at);
-            }
-            return Ans::Ok(n);
-        }
+    match quoted(&*doc, text, c) {
+        Ans::No(p) => Ans::No(p),
+        Ans::Ok(n) => match n.take(&*doc, 10) {
+            Ans::No(p) => Ans::No(p),
+            Ans::Ok(_) => Ans::Ok(n),
+        },
     }
 }
 

@@ -13,12 +13,14 @@ use super::body::Extent;
 use super::body::body;
 use super::body::put_body;
 use super::leaf::put_leaf;
-use super::lines::byte_at;
 use super::lines::text_line;
+use characters::Reading;
 use characters::Skip;
 use language::Kind;
+use rooms::Ans;
 use rooms::Block;
 use rooms::Cursor;
+use rooms::Step;
 use rooms::copy;
 use rooms::put_byte;
 
@@ -48,7 +50,7 @@ fn below(
     }
 }
 
-// An open block string whose leader has a text, behind a space.
+// An open block string whose leader has a text from a on, behind the grave and a space.
 fn led_string(
     doc: &[u8],
     rows: &mut [u32],
@@ -56,22 +58,20 @@ fn led_string(
     c: Cursor,
     parent: u32,
     col: usize,
+    a: usize,
 ) -> Block
-    requires { ⌜ Led (now doc) c col ⌝ }
+    requires { ⌜ Led (now doc) c col a ⌝ }
     ensures { λ r. ⌜ Blocks (now (doc .entry)) c parent (openStringR col (c .at) (drop (c .at) (now (doc .entry)))) r (now (rows .entry)) (now (rows .exit)) (now (text .entry)) (now (text .exit)) ⌝ }
 {
-    let at = c.at;
     let x = c.text;
-    let got = text_line(&*doc, at + 2);
-    match got {
-        Skip::Bad(p) => {
-            return Block::Bad(p);
-        }
+    let here = Reading { at: a };
+    match text_line(&*doc, here) {
+        Skip::Bad(p) => Block::Bad(p),
         Skip::End(e) => {
-            copy(&*doc, at + 2, e, text, x);
-            let y = x + (e - (at + 2));
+            copy(&*doc, a, e, text, x);
+            let y = x + (e - a);
             put_byte(text, y, 10);
-            return below(&*doc, rows, text, c, parent, col, e, y + 1);
+            below(&*doc, rows, text, c, parent, col, e, y + 1)
         }
     }
 }
@@ -88,17 +88,20 @@ pub fn open_string(
     requires { ⌜ Asked (now doc) c 96 col ⌝ }
     ensures { λ r. ⌜ Blocks (now (doc .entry)) c parent (openStringR col (c .at) (drop (c .at) (now (doc .entry)))) r (now (rows .entry)) (now (rows .exit)) (now (text .entry)) (now (text .exit)) ⌝ }
 {
-    let at = c.at;
-    let x = c.text;
-    let b = byte_at(&*doc, at + 1);
-    if b == 32 {
-        return led_string(&*doc, rows, text, c, parent, col);
+    match c.take(&*doc, 96) {
+        Ans::No(p) => Block::Bad(p),
+        Ans::Ok(n) => match n.step(&*doc) {
+            Step::Over => Block::Bad(n.at),
+            Step::Byte(b, m) => match b {
+                32 => led_string(&*doc, rows, text, c, parent, col, m.at),
+                10 => {
+                    put_byte(text, c.text, 10);
+                    below(&*doc, rows, text, c, parent, col, n.at, c.text + 1)
+                }
+                _ => Block::Bad(n.at),
+            },
+        },
     }
-    if b != 10 {
-        return Block::Bad(at + 1);
-    }
-    put_byte(text, x, 10);
-    below(&*doc, rows, text, c, parent, col, at + 1, x + 1)
 }
 
 // A property's block string, whose grave stands at the cursor.
@@ -113,9 +116,11 @@ pub fn property_string(
     requires { ⌜ Asked (now doc) c 96 col ⌝ }
     ensures { λ r. ⌜ Blocks (now (doc .entry)) c parent (propertyStringR col (c .at) (drop (c .at) (now (doc .entry)))) r (now (rows .entry)) (now (rows .exit)) (now (text .entry)) (now (text .exit)) ⌝ }
 {
-    let e = c.at + 1;
-    if byte_at(&*doc, e) != 10 {
-        return Block::Bad(e);
+    match c.take(&*doc, 96) {
+        Ans::No(p) => Block::Bad(p),
+        Ans::Ok(n) => match n.take(&*doc, 10) {
+            Ans::No(p) => Block::Bad(p),
+            Ans::Ok(_) => below(&*doc, rows, text, c, parent, col, n.at, c.text),
+        },
     }
-    below(&*doc, rows, text, c, parent, col, e, c.text)
 }

@@ -10,8 +10,9 @@ use borrow.Author.Needs.{needs}
 use Rattle.characters.specs.declared.Skip.{Skip}
 use Rattle.characters.specs.declared.Skip.the-variants.{End, Bad}
 use Rattle.characters.specs.declared.Read.the-variants.{Scalar, Not}
-use Rattle.utf8.specs.Utf8.{charR}
+use Rattle.utf8.specs.Utf8.{charR, start}
 use Rattle.characters.specs.Reads.{Stands, ReadAt, Wide, WideAt}
+use Rattle.characters.specs.Rest.{Rest, rest-whole}
 use Rattle.characters.specs.Going.{low-stands, Going, going-first, going-over, going-none, going-more, going-done, wide-refused}
 use Rattle.characters.specs.Value.{Between, Tail, Added, wide-digits, stands-as}
 use Rattle.utf8.specs.Allowed.{bad-char}
@@ -139,18 +140,22 @@ module _ (doc : List ℕ) (at : ℕ) where
   unfolding ReadAt
   read-low b l e h = low-stands doc at b l e h
 
-  pub read-wide : (r : Skip) (n v : ℕ) → r ≡ End n → Stands doc at v n → ReadAt doc at (Scalar v (record { at = n }))
+  pub read-wide : (n v : ℕ) → Stands doc at v n → ReadAt doc at (Scalar v (record { at = n }))
   unfolding ReadAt
-  read-wide r n v e s = s
+  read-wide n v s = s
 
   pub read-not : (r : Skip) (p : ℕ) → r ≡ Bad p → WideAt doc at r → ReadAt doc at (Not p)
   unfolding ReadAt WideAt
   read-not r p e h = rw e at h
 
-  pub wide-known : (r : Skip) (n : ℕ) → r ≡ End n → WideAt doc at r → Wide doc at n
+  -- where it ends, by the table and by the states
+  pub wide-known : (r : Skip) (e n : ℕ) → WideAt doc at r → r ≡ End n → e ≡ n → Wide doc at e
   unfolding WideAt
-  wide-known r n e h = rw e at h
+  wide-known r e n h k z = rw z (rw k at h)
 
-pub ruleset reading = (read-none, read-low, read-wide, read-not, wide-known, needs)
+  pub whole-known : (e n : ℕ) → Rest doc at start n → 128 ≤ getD doc at 0 → (n ≡ 0 → ⊥) → e ≡ n → Wide doc at e
+  whole-known e n r h k z = rw z (rest-whole doc at n r h k)
+
+pub ruleset reading = (read-none, read-low, read-wide, read-not, wide-known, whole-known, needs)
 
 pub ruleset chars = (step-found, step-next, step-none, is-bad, row-other, row-low, row-high, row-yes, catch-other, catch-low, catch-high, catch-tail, table-long, scan-first, scanned-more, needs)

@@ -5,69 +5,100 @@ use mathlib.Core.Bool.{Bool, true, false, _&&_}
 use Prim.Native.Nat.{ℕ, zero, suc, _+_, _-_, _≤_, _<_}
 use native.Mathlib.Omega.{arith}
 use native.Mathlib.Decide.{decLe}
-use lib.ListN.{length, drop, getD, drop-of-length-le, List·getD-eq-default}
-use lib.Dec.{eqb, leb}
+use lib.ListN.{length, drop, getD, drop-of-length-le}
+use lib.Dec.{leb}
 use borrow.Author.Needs.{needs}
-use borrow.Author.Tests.{ne-eqb, eqb-true, eqb-false, leb-true}
+use borrow.Author.Tests.{leb-true}
 use Rattle.exact.specs.Class.{clash, only, only-no, only-yes}
 use Rattle.exact.specs.Out.{bad}
-use Rattle.exact.specs.Place.{peek, peek-in, runEnd, run-over, run-none, run-more, getD-any}
-use Rattle.language.specs.Characters.{dark, character}
+use Rattle.exact.specs.Place.{peek, runEnd, run-over, run-none, run-more, getD-any}
+use Rattle.language.specs.Characters.{dark}
+use Rattle.utf8.specs.Utf8.{charR}
+use Rattle.characters.specs.declared.Reading.{Reading}
+use Rattle.characters.specs.declared.Took.{Took}
+use Rattle.characters.specs.declared.Took.the-variants.{Byte, Over}
 use Rattle.characters.specs.declared.Skip.{Skip}
 use Rattle.characters.specs.declared.Skip.the-variants.{End, Bad}
-use Rattle.characters.specs.Comments.{pieceR, piecesR, commentR, lineCommentR, optionalCommentR}
-use Rattle.characters.specs.Reads.{WideAt, Skips, ends-of, bad-of}
-use Rattle.utf8.specs.Utf8.{charR}
+use Rattle.characters.specs.Comments.{pieceR, piecesR}
+use Rattle.characters.specs.Reads.{ByteRead, byte-inside, byte-there, byte-next, byte-past, Stands, WideAt, Ends, Skips, ends-of, bad-of}
+use Rattle.characters.specs.Runs.{Dried, Fed}
 use Rattle.characters.specs.Going.{low-stands}
-use Rattle.characters.specs.Rest.{ByteAt}
-use Rattle.characters.specs.Pieces.{dark-below, dark-among, dark-delete, dark-above, piece-bad, piece-light, piece-ends, piece-ahead, Along, along-first, Smooth, smooth-none, smooth-more, Printable, Block, pieces-over, pieces-end, pieces-bad, pieces-on, comment-none, comment-ends, comment-bad, line-none, line-half, line-ends, line-bad, option-none, option-ends, option-bad}
+use Rattle.characters.specs.Pieces.{dark-below, dark-among, dark-delete, dark-above, piece-bad, piece-light, piece-ends, piece-ahead, Along, along-first, Smooth, smooth-none, smooth-more, Printable, Block, pieces-over, pieces-end, pieces-bad}
+use Rattle.characters.specs.Marks.{comment-absent, comment-on, comment-inside, line-absent, line-half, line-on, option-absent, option-on}
 
--- ---- a byte, and spaces
+-- ---- a run of one byte
+
+module _ (doc : List ℕ) (at b : ℕ) where
+  pub same-over : length doc ≤ at → at ≡ runEnd (only b) doc at
+  same-over l = sym (run-over (only b) doc at l)
+
+  pub same-none : b < 256 → at < length doc → (getD doc at 0 ≡ b → ⊥) → at ≡ runEnd (only b) doc at
+  same-none s l n = sym (run-none (only b) doc at (only-no b 256 (λ e. omega arith)) (only-no b (peek doc at) (λ e. n (getD-any doc at 0 256 l ∙ e))))
+
+  same-more : at < length doc → getD doc at 0 ≡ b → runEnd (only b) doc at ≡ runEnd (only b) doc (at + 1)
+  same-more l e = run-more (only b) doc at l (only-yes b (peek doc at) (sym (getD-any doc at 0 256 l) ∙ e))
+
+pub same-end : (doc : List ℕ) (at i b : ℕ) → runEnd (only b) doc at ≡ runEnd (only b) doc i → i ≡ runEnd (only b) doc i → i ≡ runEnd (only b) doc at
+same-end doc at i b h e = e ∙ sym h
+
+pub end-on : (doc : List ℕ) (at i b : ℕ) → runEnd (only b) doc at ≡ runEnd (only b) doc i → i < length doc → getD doc i 0 ≡ b
+    → runEnd (only b) doc at ≡ runEnd (only b) doc (i + 1)
+end-on doc at i b h l e = h ∙ same-more doc i b l e
+
+pub ruleset running = (same-over, same-none, same-end, end-on, needs)
+
+-- ---- no LF, up to e so far
 
 module _ (doc : List ℕ) (at : ℕ) where
-  pub has-byte : (b : ℕ) → at < length doc → eqb (getD doc at 0) b ≡ eqb (peek doc at) b
-  has-byte b l = ap (λ n. eqb n b) (getD-any doc at 0 256 l)
+  pub dried-first : at ≤ length doc → Dried doc at at
+  dried-first h = record { from = omega arith; inside = h; dry = λ j l k z. omega arith }
 
-  pub has-none : (b : ℕ) → b < 256 → length doc ≤ at → false ≡ eqb (peek doc at) b
-  has-none b h l = sym (ap (λ n. eqb n b) (List·getD-eq-default doc 256 l) ∙ ne-eqb 256 b (λ e. omega arith))
+  module _ (e : ℕ) (i : Dried doc at e) where
+    pub dried-on : e < length doc → (getD doc e 0 ≡ 10 → ⊥) → Dried doc at (e + 1)
+    dried-on l h = record { from = let x = i .from in omega arith; inside = omega arith; dry = λ j m k z. by j m z (decLe (suc j) e) k }
+      where
+        by : (j : ℕ) → at ≤ j → peek doc j ≡ 10 → Dec (suc j ≤ e) → j < e + 1 → ⊥
+        by j m z (yes k) q = i .dry j m k z
+        by j m z (no k) q = let y : j ≡ e = omega arith in h (getD-any doc e 0 256 l ∙ (ap (peek doc) (sym y) ∙ z))
 
-  pub spaces-over : length doc ≤ at → at ≡ runEnd (only 32) doc at
-  spaces-over l = sym (run-over (only 32) doc at l)
+    pub fed-over : length doc ≤ e → Fed doc at e
+    fed-over l = record { dried = i; feed = λ k. absurd (omega arith) }
 
-  pub spaces-none : at < length doc → (getD doc at 0 ≡ 32 → ⊥) → at ≡ runEnd (only 32) doc at
-  spaces-none l n = sym (run-none (only 32) doc at refl (only-no 32 (peek doc at) (λ e. n (getD-any doc at 0 256 l ∙ e))))
+    pub fed-here : e < length doc → getD doc e 0 ≡ 10 → Fed doc at e
+    fed-here l h = record { dried = i; feed = λ k. getD-any doc e 256 0 l ∙ h }
 
-  pub spaces-more : at < length doc → getD doc at 0 ≡ 32 → runEnd (only 32) doc at ≡ runEnd (only 32) doc (at + 1)
-  spaces-more l e = run-more (only 32) doc at l (only-yes 32 (peek doc at) (sym (getD-any doc at 0 256 l) ∙ e))
-
-pub same-end : (doc : List ℕ) (at i : ℕ) → runEnd (only 32) doc at ≡ runEnd (only 32) doc i → i ≡ runEnd (only 32) doc i → i ≡ runEnd (only 32) doc at
-same-end doc at i h e = e ∙ sym h
-
-pub end-on : (doc : List ℕ) (at i : ℕ) → runEnd (only 32) doc at ≡ runEnd (only 32) doc i → i < length doc → getD doc i 0 ≡ 32
-    → runEnd (only 32) doc at ≡ runEnd (only 32) doc (i + 1)
-end-on doc at i h l e = h ∙ spaces-more doc i l e
-
-pub ruleset lining = (has-byte, has-none, spaces-over, spaces-none, same-end, end-on, needs)
+pub ruleset feeding = (dried-first, dried-on, fed-over, fed-here, needs)
 
 -- ---- a piece
 
 module _ (doc : List ℕ) (at j : ℕ) (e : j ≡ runEnd (only 32) doc at) where
-  module _ (b : ℕ) (h : ByteAt doc j b) where
-    pub piece-dark : 33 ≤ b → b < 127 → Skips doc at (pieceR at (drop at doc)) (End (j + 1))
+  module _ (t : Took) (h : ByteRead doc j t) where
+    pub piece-over : t ≡ Over → Skips doc at (pieceR at (drop at doc)) (Bad j)
     unfolding Skips
-    piece-dark l k = piece-ends doc at j e b (j + 1) (low-stands doc j b (omega (arith, h .inside)) (h .is) (omega arith)) (dark-among b l k)
+    piece-over z = piece-bad doc at j e j (ap (charR dark j) (drop-of-length-le doc (byte-past doc j t h z)))
 
-    low-not : b < 128 → false ≡ character dark b → Dec (length doc ≤ j) → Skips doc at (pieceR at (drop at doc)) (Bad j)
-    unfolding Skips
-    low-not k f (yes o) = piece-bad doc at j e j (ap (charR dark j) (drop-of-length-le doc o))
-    low-not k f (no i) = piece-light doc at j e b (j + 1) (low-stands doc j b (omega arith) (h .is) k) f
+    module _ (b : ℕ) (n : Reading) (z : t ≡ Byte b n) where
+      stands : b < 128 → Stands doc j b (j + 1)
+      stands k =
+          let i = byte-inside doc j t h b n z in
+          low-stands doc j b i (byte-there doc j t h b n z ∙ sym (getD-any doc j 0 256 i)) k
 
-    pub piece-low : b < 33 → Skips doc at (pieceR at (drop at doc)) (Bad j)
-    piece-low k = low-not (omega arith) (dark-below b k) (decLe (length doc) j)
+      pub piece-dark : 33 ≤ b → b < 127 → Skips doc at (pieceR at (drop at doc)) (End (n .at))
+      unfolding Skips
+      piece-dark l k = rw (byte-next doc j t h b n z) (piece-ends doc at j e b (j + 1) (stands (omega arith)) (dark-among b l k))
 
-    pub piece-delete : 127 ≤ b → b < 128 → Skips doc at (pieceR at (drop at doc)) (Bad j)
-    piece-delete k l = low-not l (dark-delete b (omega arith)) (decLe (length doc) j)
+      pub piece-low : b < 33 → Skips doc at (pieceR at (drop at doc)) (Bad j)
+      unfolding Skips
+      piece-low k = piece-light doc at j e b (j + 1) (stands (omega arith)) (dark-below b k)
 
+      pub piece-delete : 127 ≤ b → b < 128 → Skips doc at (pieceR at (drop at doc)) (Bad j)
+      unfolding Skips
+      piece-delete k l = piece-light doc at j e b (j + 1) (stands l) (dark-delete b (omega arith))
+
+      pub wide-there : 128 ≤ b → 128 ≤ getD doc j 0
+      wide-there high = let i = byte-inside doc j t h b n z in subst (128 ≤_) (byte-there doc j t h b n z ∙ sym (getD-any doc j 0 256 i)) high
+
+  -- a character of several bytes is none that is light
   pub piece-wide : (r : Skip) → WideAt doc j r → Skips doc at (pieceR at (drop at doc)) r
   unfolding Skips WideAt
   piece-wide (End n) w =
@@ -75,7 +106,7 @@ module _ (doc : List ℕ) (at j : ℕ) (e : j ≡ runEnd (only 32) doc at) where
       piece-ends doc at j e (w .value) n (w .stands) (dark-above (w .value) (w .stands .allowed) (omega arith) (λ z. omega arith))
   piece-wide (Bad p) w = piece-bad doc at j e p (w dark)
 
-pub ruleset piecing = (piece-dark, piece-low, piece-delete, piece-wide, needs)
+pub ruleset piecing = (piece-over, piece-dark, piece-low, piece-delete, byte-inside, wide-there, piece-wide, needs)
 
 -- ---- printable bytes
 
@@ -83,7 +114,7 @@ pub smooth-dark : (doc : List ℕ) (at k i : ℕ) → Smooth doc at k → runEnd
     → 32 ≤ getD doc i 0 → getD doc i 0 ≤ 126 → (getD doc i 0 ≡ 32 → ⊥) → Smooth doc at (i + 1)
 smooth-dark doc at k i s h b l x y n =
     smooth-more doc at k (i + 1) s (omega arith)
-    (piece-ends doc k i (spaces-none doc i l n ∙ sym h) (getD doc i 0) (i + 1) (low-stands doc i (getD doc i 0) l refl (omega arith))
+    (piece-ends doc k i (same-none doc i 32 (omega arith) l n ∙ sym h) (getD doc i 0) (i + 1) (low-stands doc i (getD doc i 0) l refl (omega arith))
     (dark-among (getD doc i 0) (let z : getD doc i 0 ≡ 32 → ⊥ = n in omega arith) (omega arith)))
 
 -- on the way over printable bytes: the pieces up to `last` are read, and there are spaces up to i
@@ -98,7 +129,7 @@ way-more doc at i w l p = by (decLe (getD doc i 0) 32)
   where
     by : Dec (getD doc i 0 ≤ 32) → Way doc at (i + 1)
     by (yes x) =
-        record { last = w .last; smooth = w .smooth; spaces = w .spaces ∙ spaces-more doc i l (omega arith); behind = omega (arith, w .behind) }
+        record { last = w .last; smooth = w .smooth; spaces = w .spaces ∙ same-more doc i 32 l (omega arith); behind = omega (arith, w .behind) }
     by (no x) =
         record {
           last = i + 1;
@@ -170,80 +201,47 @@ pub ruleset printing = (no-block, printed-none, printed-more, printed-all, needs
 
 pub ruleset smoothly = (smooth-none, smooth-dark, block-on, end-on, needs)
 
--- ---- the pieces
+-- ---- the pieces: behind blocks, and what is smooth, those up to i
 
-module _ (doc : List ℕ) (at i : ℕ) (a : Along doc at i) where
-  pub lines-over : i ≤ length doc → length doc ≤ i → Skips doc at (piecesR at (drop at doc)) (End i)
+smooth-then : (doc : List ℕ) (i m n : ℕ) → Smooth doc i m → Smooth doc m n → Smooth doc i n
+smooth-then doc i m n s t = record { behind = omega (arith, s .behind, t .behind); inside = t .inside; on = λ at a. t .on at (s .on at a) }
+
+module _ (doc : List ℕ) (at far first i : ℕ) (s : Smooth doc at far) (t : Smooth doc far first) (u : Smooth doc first i) where
+  along : Along doc at i
+  along = u .on at (t .on at (s .on at (along-first doc at)))
+
+  pub lines-over : length doc ≤ i → Skips doc at (piecesR at (drop at doc)) (End i)
   unfolding Skips
-  lines-over l h = pieces-over doc at i a l h
+  lines-over h = pieces-over doc at i along (u .inside) h
 
   module _ (l : i < length doc) (r : Skip) (h : Skips doc i (pieceR i (drop i doc)) r) where
-    pub lines-end : (p : ℕ) → r ≡ Bad p → p ≡ i → Skips doc at (piecesR at (drop at doc)) (End i)
+    pub lines-end : (p : ℕ) → r ≡ Bad p → p ≡ i → Skips doc at (piecesR at (drop at doc)) (End p)
     unfolding Skips
-    lines-end p e k = pieces-end doc at i a l (bad-of doc i (pieceR i (drop i doc)) r p e h ∙ ap bad k)
+    lines-end p e k = rw k (pieces-end doc at i along l (bad-of doc i (pieceR i (drop i doc)) r p e h ∙ ap bad k))
 
     pub lines-bad : (p : ℕ) → r ≡ Bad p → (p ≡ i → ⊥) → Skips doc at (piecesR at (drop at doc)) (Bad p)
     unfolding Skips
-    lines-bad p e n = pieces-bad doc at i a l p (bad-of doc i (pieceR i (drop i doc)) r p e h) n
+    lines-bad p e n = pieces-bad doc at i along l p (bad-of doc i (pieceR i (drop i doc)) r p e h) n
 
-    pub lines-in : (n : ℕ) → r ≡ End n → n ≤ length doc
-    lines-in n e = ends-of doc i (pieceR i (drop i doc)) r n e h .inside
+module _ (doc : List ℕ) (i : ℕ) (r : Skip) (h : Skips doc i (pieceR i (drop i doc)) r) (n : ℕ) (e : r ≡ End n) where
+  one-piece : Ends doc i (pieceR i (drop i doc)) n
+  one-piece = ends-of doc i (pieceR i (drop i doc)) r n e h
 
-    module _ (n : ℕ) (e : r ≡ End n) (m : ℕ) (s : Smooth doc n m) where
-      pub lines-on : Along doc at m
-      lines-on = s .on at (pieces-on doc at i a l n (ends-of doc i (pieceR i (drop i doc)) r n e h))
+  pub lines-in : n ≤ length doc
+  lines-in = one-piece .inside
 
-      pub lines-less : length doc - m < length doc - i
-      lines-less = let g = piece-ahead doc i n (ends-of doc i (pieceR i (drop i doc)) r n e h) in omega (arith, s .behind, s .inside)
+  module _ (l : i < length doc) (m : ℕ) (s : Smooth doc n m) where
+    pub lines-on : (first : ℕ) → Smooth doc first i → Smooth doc first m
+    lines-on first u = smooth-then doc first n m (smooth-more doc first i n u l one-piece) s
 
-pub lines-first : (doc : List ℕ) (at m i : ℕ) → Smooth doc at m → Smooth doc m i → Along doc at i
-lines-first doc at m i s t = t .on at (s .on at (along-first doc at))
+    pub lines-less : length doc - m < length doc - i
+    lines-less = let g = piece-ahead doc i n one-piece in omega (arith, s .behind, s .inside)
+
+pub lines-first : (doc : List ℕ) (at i : ℕ) → Smooth doc at i → Smooth doc i i
+lines-first doc at i s = smooth-none doc i (s .inside)
 
 pub ruleset lines = (lines-over, lines-end, lines-bad, lines-on, lines-in, lines-less, lines-first, needs)
 
 -- ---- comments
 
-module _ (doc : List ℕ) (at : ℕ) (x : Bool) (b : ℕ) (h : x ≡ eqb (peek doc at) b) where
-  pub has-it : x ≡ true → peek doc at ≡ b
-  has-it t = eqb-true (peek doc at) b (sym h ∙ t)
-
-  pub has-not : x ≡ false → peek doc at ≡ b → ⊥
-  has-not f = eqb-false (peek doc at) b (sym h ∙ f)
-
-  pub has-in : b < 256 → x ≡ true → at < length doc
-  has-in l t = peek-in doc at (peek doc at) refl (let e = has-it t in omega arith)
-
-module _ (doc : List ℕ) (at : ℕ) (x : Bool) where
-  pub comment-absent : x ≡ eqb (peek doc at) 35 → x ≡ false → Skips doc at (commentR at (drop at doc)) (Bad at)
-  unfolding Skips
-  comment-absent h f = comment-none doc at (has-not doc at x 35 h f)
-
-  pub comment-there : x ≡ eqb (peek doc at) 35 → x ≡ true → (r : Skip) → Skips doc (at + 1) (piecesR (at + 1) (drop (at + 1) doc)) r → Skips doc at (commentR at (drop at doc)) r
-  unfolding Skips
-  comment-there h t (End n) s = comment-ends doc at n (has-it doc at x 35 h t) s
-  comment-there h t (Bad p) s = comment-bad doc at p (has-it doc at x 35 h t) s
-
-  pub line-absent : x ≡ eqb (peek doc at) 32 → x ≡ false → Skips doc at (lineCommentR at (drop at doc)) (Bad at)
-  unfolding Skips
-  line-absent h f = line-none doc at (has-not doc at x 32 h f)
-
-  pub option-absent : at ≤ length doc → x ≡ eqb (peek doc at) 32 → x ≡ false → Skips doc at (optionalCommentR at (drop at doc)) (End at)
-  unfolding Skips
-  option-absent l h f = option-none doc at l (has-not doc at x 32 h f)
-
-  pub option-there : x ≡ eqb (peek doc at) 32 → x ≡ true → (r : Skip) → Skips doc at (lineCommentR at (drop at doc)) r → Skips doc at (optionalCommentR at (drop at doc)) r
-  unfolding Skips
-  option-there h t (End n) s = option-ends doc at n (has-it doc at x 32 h t) s
-  option-there h t (Bad p) s = option-bad doc at p (has-it doc at x 32 h t) s
-
-  module _ (h : x ≡ eqb (peek doc at) 32) (t : x ≡ true) (y : Bool) (k : y ≡ eqb (peek doc (at + 1)) 32) where
-    pub line-broken : y ≡ false → Skips doc at (lineCommentR at (drop at doc)) (Bad (at + 1))
-    unfolding Skips
-    line-broken f = line-half doc at (has-it doc at x 32 h t) (has-not doc (at + 1) y 32 k f)
-
-    pub line-there : y ≡ true → (r : Skip) → Skips doc (at + 2) (commentR (at + 2) (drop (at + 2) doc)) r → Skips doc at (lineCommentR at (drop at doc)) r
-    unfolding Skips
-    line-there u (End n) s = line-ends doc at n (has-it doc at x 32 h t) (has-it doc (at + 1) y 32 k u) s
-    line-there u (Bad p) s = line-bad doc at p (has-it doc at x 32 h t) (has-it doc (at + 1) y 32 k u) s
-
-pub ruleset commenting = (comment-absent, comment-there, line-absent, line-broken, line-there, option-absent, option-there, has-in, needs)
+pub ruleset commenting = (comment-absent, comment-on, comment-inside, line-absent, line-half, line-on, option-absent, option-on, needs)

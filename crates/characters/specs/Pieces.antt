@@ -1,4 +1,4 @@
--- What code learns of the pieces of a line, of comments and line comments at a place of a document. Assumes nothing.
+-- What code learns of the pieces of a line at a place of a document. Assumes nothing.
 use mathlib.Core.Path.{_≡_, refl, sym, ap, subst, _∙_}
 use mathlib.Core.List.{List, [], _∷_, _++_}
 use mathlib.Core.Bool.{Bool, true, false}
@@ -13,13 +13,13 @@ use Rattle.exact.specs.Lang.{retR, ret-exact}
 use Rattle.exact.specs.Answers.{map-fmap}
 use Rattle.exact.specs.Comb.{seqR, seq-tame, manyR, starR, cat}
 use Rattle.exact.specs.Run.{runL, run-exact}
-use Rattle.exact.specs.Place.{peek, run, runEnd, run-end, many-run, byte-is, byte-not, alt-is, alt-not}
+use Rattle.exact.specs.Place.{run, runEnd, run-end, many-run}
 use Rattle.language.specs.Characters.{dark, character, utf8, wide}
 use Rattle.utf8.specs.Utf8.{Arrow, _to-be_, table, follow, live, full, Classes, found, next, laws, start, charR}
 use Rattle.utf8.specs.Char.{char-ll}
 use Rattle.utf8.specs.Tails.{every}
 use Rattle.characters.specs.Reads.{Stands, Ends}
-use Rattle.characters.specs.Comments.{pieceR, pieceS, piece-ll, piecesR, commentR, lineCommentR, optionalCommentR}
+use Rattle.characters.specs.Comments.{pieceR, pieceS, piece-ll, piecesR}
 
 -- A DARK CHARACTER, among those that are allowed
 module _ (v : ℕ) where
@@ -224,47 +224,3 @@ Printable doc at n = (k : ℕ) → at ≤ k → k < n → (32 ≤ getD doc k 0) 
 pub record Block (doc : List ℕ) (at : ℕ) : Type 0 where
   pub bytes : Printable doc at (at + 64)
   pub dark : getD doc (at + 63) 0 ≡ 32 → ⊥
-
--- A COMMENT, A LINE COMMENT, AND NONE, by the byte at the place
-module _ (doc : List ℕ) (at : ℕ) where
-  pub comment-none : (peek doc at ≡ 35 → ⊥) → commentR at (drop at doc) ≡ bad at
-  comment-none n = rw (byte-not doc at 35 (peek doc at) (omega arith) refl n) refl
-
-  comment-is : peek doc at ≡ 35 → commentR at (drop at doc) ≡ piecesR (at + 1) (drop (at + 1) doc)
-  comment-is e = rw (byte-is doc at 35 (peek doc at) (omega arith) refl e) refl
-
-  pub comment-ends : (n : ℕ) → peek doc at ≡ 35 → Ends doc (at + 1) (piecesR (at + 1) (drop (at + 1) doc)) n → Ends doc at (commentR at (drop at doc)) n
-  comment-ends n e h = record { value = h .value; is = comment-is e ∙ h .is; behind = omega (arith, h .behind); inside = h .inside }
-
-  pub comment-bad : (p : ℕ) → peek doc at ≡ 35 → piecesR (at + 1) (drop (at + 1) doc) ≡ bad p → commentR at (drop at doc) ≡ bad p
-  comment-bad p e h = comment-is e ∙ h
-
-  pub line-none : (peek doc at ≡ 32 → ⊥) → lineCommentR at (drop at doc) ≡ bad at
-  line-none n = rw (byte-not doc at 32 (peek doc at) (omega arith) refl n) refl
-
-  pub line-half : peek doc at ≡ 32 → (peek doc (at + 1) ≡ 32 → ⊥) → lineCommentR at (drop at doc) ≡ bad (at + 1)
-  line-half e n = rw (byte-is doc at 32 (peek doc at) (omega arith) refl e, byte-not doc (at + 1) 32 (peek doc (at + 1)) (omega arith) refl n) refl
-
-  line-is : peek doc at ≡ 32 → peek doc (at + 1) ≡ 32 → lineCommentR at (drop at doc) ≡ commentR (at + 2) (drop (at + 2) doc)
-  line-is e f =
-      let z : at + 1 + 1 ≡ at + 2 = omega arith in
-      rw (byte-is doc at 32 (peek doc at) (omega arith) refl e, byte-is doc (at + 1) 32 (peek doc (at + 1)) (omega arith) refl f, z) refl
-
-  pub line-ends : (n : ℕ) → peek doc at ≡ 32 → peek doc (at + 1) ≡ 32 → Ends doc (at + 2) (commentR (at + 2) (drop (at + 2) doc)) n
-      → Ends doc at (lineCommentR at (drop at doc)) n
-  line-ends n e f h = record { value = h .value; is = line-is e f ∙ h .is; behind = omega (arith, h .behind); inside = h .inside }
-
-  pub line-bad : (p : ℕ) → peek doc at ≡ 32 → peek doc (at + 1) ≡ 32 → commentR (at + 2) (drop (at + 2) doc) ≡ bad p → lineCommentR at (drop at doc) ≡ bad p
-  line-bad p e f h = line-is e f ∙ h
-
-  pub option-none : at ≤ length doc → (peek doc at ≡ 32 → ⊥) → Ends doc at (optionalCommentR at (drop at doc)) at
-  option-none l n = record { value = []; is = alt-not doc at 32 (peek doc at) (omega arith) refl lineCommentR (retR []) n; behind = omega arith; inside = l }
-
-  option-is : peek doc at ≡ 32 → optionalCommentR at (drop at doc) ≡ lineCommentR at (drop at doc)
-  option-is e = alt-is doc at 32 (peek doc at) (omega arith) refl lineCommentR (retR []) e
-
-  pub option-ends : (n : ℕ) → peek doc at ≡ 32 → Ends doc at (lineCommentR at (drop at doc)) n → Ends doc at (optionalCommentR at (drop at doc)) n
-  option-ends n e h = record { value = h .value; is = option-is e ∙ h .is; behind = h .behind; inside = h .inside }
-
-  pub option-bad : (p : ℕ) → peek doc at ≡ 32 → lineCommentR at (drop at doc) ≡ bad p → optionalCommentR at (drop at doc) ≡ bad p
-  option-bad p e h = option-is e ∙ h

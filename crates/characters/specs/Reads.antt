@@ -2,18 +2,26 @@
 use mathlib.Core.Path.{_≡_}
 use mathlib.Core.List.{List}
 use mathlib.Core.Bool.{true}
-use Prim.Native.Nat.{ℕ, _≤_, _<_}
+use Prim.Native.Nat.{ℕ, _+_, _≤_, _<_}
 use lib.ListN.{length, drop}
 use lib.Seq.{slice}
 use Rattle.exact.specs.Class.{Class, pick}
 use Rattle.exact.specs.Out.{Out, ok, bad}
+use Rattle.exact.specs.Place.{peek}
 use Rattle.language.specs.Characters.{character, utf8, wide}
 use Rattle.utf8.specs.Utf8.{charR}
 use Rattle.characters.specs.declared.Reading.{Reading}
+use Rattle.characters.specs.declared.Took.{Took}
+use Rattle.characters.specs.declared.Took.the-variants.{Byte, Over}
 use Rattle.characters.specs.declared.Read.{Read}
 use Rattle.characters.specs.declared.Read.the-variants.{Scalar, Not}
 use Rattle.characters.specs.declared.Skip.{Skip}
 use Rattle.characters.specs.declared.Skip.the-variants.{End, Bad}
+
+-- A BYTE, and the place behind it; or the document's end
+unfoldable pub ByteRead : List ℕ → ℕ → Took → Type 0
+ByteRead doc at (Byte b n) = (at < length doc) × (b ≡ peek doc at) × (n .at ≡ at + 1)
+ByteRead doc at Over = (length doc ≤ at) × (peek doc at ≡ 256)
 
 -- allowed, if it is 128 or more
 abbrev pub Permitted : ℕ → Type 0
@@ -82,3 +90,24 @@ module _ (doc : List ℕ) (at : ℕ) (r : Read) (h : ReadAt doc at r) where
   pub read-refused : (p : ℕ) → r ≡ Not p → (plain : Class) → charR plain at (drop at doc) ≡ bad p
   unfolding ReadAt
   read-refused p e plain = (rw e at h) plain
+
+module _ (doc : List ℕ) (at : ℕ) (r : Took) (h : ByteRead doc at r) where
+  pub byte-inside : (b : ℕ) (n : Reading) → r ≡ Byte b n → at < length doc
+  unfolding ByteRead
+  byte-inside b n e = (rw e at h) .0
+
+  pub byte-there : (b : ℕ) (n : Reading) → r ≡ Byte b n → b ≡ peek doc at
+  unfolding ByteRead
+  byte-there b n e = (rw e at h) .1
+
+  pub byte-next : (b : ℕ) (n : Reading) → r ≡ Byte b n → n .at ≡ at + 1
+  unfolding ByteRead
+  byte-next b n e = (rw e at h) .2
+
+  pub byte-over : r ≡ Over → peek doc at ≡ 256
+  unfolding ByteRead
+  byte-over e = (rw e at h) .1
+
+  pub byte-past : r ≡ Over → length doc ≤ at
+  unfolding ByteRead
+  byte-past e = (rw e at h) .0

@@ -2,13 +2,14 @@
 ghost use Prim.Native.Nat.{_≤_, _<_};
 ghost use lib.ListN.{length, getD};
 ghost use Rattle.characters.specs.Rest.{ByteAt, Rest};
-ghost use Rattle.utf8.specs.Utf8.{start, one-more, two-more, after-c2, after-e0, after-ed, after-ef, after-ef-b7, after-f0, after-f1, after-f4, plane-end, last};
 ghost use Rattle.characters.specs.Reads.{WideAt};
+ghost use Rattle.utf8.specs.Utf8.{start, one-more, two-more, after-c2, after-e0, after-ed, after-ef, after-ef-b7, after-f0, after-f1, after-f4, plane-end, last};
+use super::Reading;
 use super::Skip;
 use super::table::walk_end;
 
-// The byte at i; behind the end 0, with which no character goes on.
-pub fn byte(doc: &[u8], i: usize) -> u8
+// A byte inside a character, the one at i; behind the end 0, with which no character goes on.
+fn byte(doc: &[u8], i: usize) -> u8
     ensures { λ r. ⌜ ByteAt (now (doc .entry)) i r ⌝ }
 {
     if i < doc.len() {
@@ -182,15 +183,18 @@ pub fn whole(doc: &[u8], at: usize) -> usize
     }
 }
 
-// Where the character of 128 or more ends that begins at `at`; the table tells the byte that refuses it.
-pub fn wide_end(doc: &[u8], at: usize) -> Skip
-    requires { ⌜ at < length (now doc) ⌝ }
-    requires { ⌜ 128 ≤ getD (now doc) at 0 ⌝ }
-    ensures { λ r. ⌜ WideAt (now (doc .entry)) at r ⌝ }
-{
-    let e = whole(&*doc, at);
-    if e == 0 {
-        return walk_end(&*doc, at);
+impl Reading {
+    // The character of several bytes here, passed at once: the place behind it, or the byte that refuses it. It is a step of `scalar` whose value nobody asks for.
+    pub fn wide(self, doc: &[u8]) -> Skip
+        requires { ⌜ self .at < length (now doc) ⌝ }
+        requires { ⌜ 128 ≤ getD (now doc) (self .at) 0 ⌝ }
+        ensures { λ r. ⌜ WideAt (now (doc .entry)) (self .at) r ⌝ }
+    {
+        let at = self.at;
+        let e = whole(&*doc, at);
+        if e == 0 {
+            return walk_end(&*doc, at);
+        }
+        Skip::End(e)
     }
-    Skip::End(e)
 }

@@ -1,4 +1,4 @@
--- What the theorems say: Objects, Once, Find, Kinds, Read (find-exactly). The rest serves the proofs.
+-- What the theorems say: Objects, Once, Find, Kinds, Spans, Read (find-exactly, spans-in-table). The rest serves the proofs.
 pub mod Objects
 pub mod Stands
 pub mod Rows
@@ -8,4 +8,5 @@ pub mod Walks
 pub mod Once
 pub mod Find
 pub mod Kinds
+pub mod Spans
 pub mod Read

@@ -1,26 +1,28 @@
--- FINDING ON WHAT `read` FILLED: on the table of an accepted document `find` answers the value of the key in that object, exactly if the object has the key
--- (01, Questions). Assumes nothing.
-use mathlib.Core.Path.{_≡_, refl, subst}
+-- ON WHAT `read` FILLED: on the table of an accepted document `find` answers the value of the key in that object, exactly if the object has the key
+-- (01, Questions), and the spans are in their place (01, What the reader takes and gives). Assumes nothing.
+use mathlib.Core.Path.{_≡_, refl, sym, subst}
 use mathlib.Core.List.{List}
 use mathlib.Core.Bool.{Bool, true, false}
 use mathlib.Core.Logic.{_↔_}
-use Prim.Native.Nat.{ℕ, _*_}
+use Prim.Native.Nat.{ℕ, _*_, _<_}
+use native.Mathlib.Omega.{arith}
 use lib.ListN.{length, drop}
-use Rattle.language.specs.declared.Answer.the-variants.{Accepted}
 use Rattle.language.specs.Tree.{Tree, width, size, textOf, rowsOf}
 use Rattle.language.specs.Document.{Document}
-use Rattle.language.specs.Answered.{deepest, Reads, Answered, accepted}
+use Rattle.language.specs.Answered.{deepest, Stops, char, syntax, deep, end, Reads, Answered, accepted, stopped}
 use Rattle.questions.specs.declared.Found.{Found}
 use Rattle.questions.specs.declared.Found.the-variants.{BadRow}
 use Rattle.questions.specs.Walk.{foundReply, object, Finds, refused}
 use Rattle.questions.specs.Unique.{one-found}
-use Rattle.spans.specs.Document.{sound}
+use Rattle.spans.specs.Document.{placed, sound, in-document}
+use Rattle.spans.specs.Placed.{itself}
 use Rattle.found.specs.Objects.{RowOf, Pair, Holds, ObjectAt}
 use Rattle.found.specs.Stands.{stands-first}
 use Rattle.found.specs.Rooted.{value-row, one-object}
 use Rattle.found.specs.Once.{Once, once}
 use Rattle.found.specs.Find.{Filled, Answers, answers, find-value}
 use Rattle.found.specs.Kinds.{Object, objects}
+use Rattle.found.specs.Spans.{RowSpans, row-spans}
 
 -- the tree of a document that was read, and what its table and its room hold
 pub record Filling (doc : List ℕ) (n : ℕ) (table room : List ℕ) : Type 0 where
@@ -28,7 +30,15 @@ pub record Filling (doc : List ℕ) (n : ℕ) (table room : List ℕ) : Type 0 w
   pub reads : Reads doc tree
   pub filled : Filled tree n table room
 
-pub filling : {doc table text table′ text′ : List ℕ} {n m : ℕ} → Answered doc table text (Accepted n m) table′ text′ → Filling doc n table′ text′
+-- a document that stops has a number
+refused-so : {doc : List ℕ} {n p : ℕ} → Stops doc n p → 0 < n
+refused-so (char p l b d) = omega arith
+refused-so (syntax p l b d a) = omega arith
+refused-so (deep p k l b d x) = omega arith
+refused-so (end b z) = omega arith
+
+pub filling : {doc table text table′ text′ : List ℕ} {n m : ℕ} → Answered doc table text 0 n m table′ text′ → Filling doc n table′ text′
+filling (stopped n p l x) = let h = refused-so x in absurd (omega arith)
 filling {table = table} {text = text} (accepted t r l k) =
     record {
       tree = t;
@@ -71,12 +81,20 @@ pub record Finding (doc : List ℕ) (n : ℕ) (table room : List ℕ) : Type 0 w
   pub reads : Reads doc tree
   pub exactly : FindsExactly tree n table room
 
-pub find-exactly : {doc table text table′ text′ : List ℕ} {n m : ℕ} → Answered doc table text (Accepted n m) table′ text′ → Finding doc n table′ text′
+pub find-exactly : {doc table text table′ text′ : List ℕ} {n m : ℕ} → Answered doc table text 0 n m table′ text′ → Finding doc n table′ text′
 find-exactly x = let z = filling x in record { tree = z .tree; reads = z .reads; exactly = finds-exactly (z .reads) (z .filled) }
 
 -- .. and in any tree of it, where a document has one tree
 pub find-in-tree : {doc table text table′ text′ : List ℕ} {n m : ℕ} {t : Tree} → ((u v : Tree) → Document deepest doc u → Document deepest doc v → u ≡ v)
-    → Answered doc table text (Accepted n m) table′ text′ → Document deepest doc t → FindsExactly t n table′ text′
+    → Answered doc table text 0 n m table′ text′ → Document deepest doc t → FindsExactly t n table′ text′
 find-in-tree {table′ = table′} {text′ = text′} {n = n} {t = t} one x d =
     let z = find-exactly x in
     subst (λ (u : Tree). FindsExactly u n table′ text′) (one (z .tree) t (z .reads .word) d) (z .exactly)
+
+-- THE SPANS of an accepted document, in the words of its rows
+pub spans-in-table : {doc table text table′ text′ : List ℕ} {n m : ℕ} → Answered doc table text 0 n m table′ text′ → RowSpans (length doc) n table′
+spans-in-table {doc} {table′ = table′} x =
+    let z = filling x in
+    let t = z .tree in
+    let d = z .reads .word in
+    subst (λ (k : ℕ). RowSpans (length doc) k table′) (sym (z .filled .count)) (row-spans table′ (z .filled .rows) (placed deepest doc t d) (in-document deepest doc t d itself))

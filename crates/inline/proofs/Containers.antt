@@ -9,25 +9,31 @@ use lib.Seq.{sets}
 use borrow.Author.Needs.{needs}
 use Rattle.language.specs.Tree.{Tree, count, width, rowList}
 use Rattle.exact.specs.Class.{is}
-use Rattle.exact.specs.Out.{Out, Reader, bind, ok}
+use Rattle.exact.specs.Out.{Out, Reader, bind, ok, bad}
 use Rattle.exact.specs.Lang.{retR}
 use Rattle.exact.specs.Comb.{seqR}
-use Rattle.exact.specs.Place.{peek, peek-in, byte-is, alt-is, alt-not, listR}
-use Rattle.language.specs.declared.Kind.{Kind}
+use Rattle.exact.specs.Ll.{hereR}
+use Rattle.exact.specs.Place.{peek, peek-in, byte-is, byte-not, alt-is, alt-not, listR}
 use Rattle.rooms.specs.declared.Cursor.{Cursor}
 use Rattle.rooms.specs.declared.Words.{Words}
+use Rattle.rooms.specs.declared.Ans.{Ans}
 use Rattle.rooms.specs.declared.Ans.the-variants.{Ok, No}
-use Rattle.rooms.specs.Contract.{Ready, Answers}
+use Rattle.rooms.specs.Contract.{onward, Takes, Ready, Answers}
 use Rattle.rooms.specs.Laws
 use Rattle.inline.specs.declared.Sep.{Sep}
 use Rattle.inline.specs.declared.Sep.the-variants.{More, Last, Bad}
 use Rattle.inline.specs.Lists.{listedR}
 use Rattle.inline.specs.Brackets.{opens, closes, kindOf, Member, children, memberR, enclosed, bracketR, closes-small, opens-small, children-none, count-then}
 use Rattle.inline.specs.Written.{Written, written-none, node-span, node-filled}
-use Rattle.inline.specs.Contract.{Enclosed, onward, Goes, Ends, Stops, Turned}
-use Rattle.inline.proofs.Listing.{within, Loop, loop-start, written-more, loop-more, loop-last, loop-stops}
+use Rattle.inline.specs.Contract.{Enclosed, Closed, within, Opened, Goes, Ends, Stops, Turned}
+use Rattle.inline.proofs.Listing.{Loop, loop-start, written-more, loop-more, loop-last, loop-stops}
 
--- ---- behind the bracket
+-- ---- the bracket
+
+pub bracket-none : (o : Bool) (r : Reader Tree) (doc : List ℕ) (at : ℕ) → (peek doc at ≡ opens o → ⊥) → bracketR o r at (drop at doc) ≡ bad at
+unfolding bracketR
+bracket-none o r doc at n =
+    ap (λ (u : Out ℕ). bind u (λ _. seqR (listedR (closes o) (memberR o r)) λ ms. seqR hereR λ e. retR (enclosed o at e ms))) (byte-not doc at (opens o) (peek doc at) (opens-small o) refl n)
 
 module _ (o : Bool) (r : Reader Tree) (doc : List ℕ) (at y : ℕ) (h : peek doc at ≡ opens o) (g : y ≡ peek doc (at + 1)) where
   abbrev made : List (Member o) → ℕ → List ℕ → Out Tree
@@ -48,47 +54,74 @@ module _ (o : Bool) (r : Reader Tree) (doc : List ℕ) (at y : ℕ) (h : peek do
       ∙ (ap (λ (u : Out (List (Member o))). bind u made) (alt-is doc (at + 1) (closes o) y (closes-small o) g _ _ n)
       ∙ ap (λ (u : Out ℕ). bind (bind u (λ _. retR [])) made) (byte-is doc (at + 1) (closes o) y (closes-small o) g n))
 
--- ---- a container of nothing
+-- ---- behind the bracket
 
-pub none-fits : (doc : List ℕ) (c n : Cursor) → Ready doc c → n ≡ onward (within c) 1 → Enclosed c n 0
-none-fits doc c n d u =
-    rw u
-    (record {
-      first-fits = omega (arith, d .small, d .inside);
-      after-fits = omega (arith, d .small, d .inside);
-      count-fits = omega arith;
-      row-fits = omega (arith, d .small, d .inside, d .fewRows);
-      next-fits = omega (arith, d .small, d .inside, d .fewRows);
-    })
+module _ (doc : List ℕ) (c d : Cursor) (x : ℕ) (b : Ans) (op : Opened doc c x b) (e : b ≡ Ok d) where
+  inner-is : d ≡ within c
+  unfolding Opened
+  inner-is = (rw e at op) .0
 
-module _ (o : Bool) (r : Reader Tree) (doc : List ℕ) (c : Cursor) (p y k : ℕ) (R R' T : List ℕ) (n : Cursor) (d : Ready doc c) (h : peek doc (c .at) ≡ opens o) (g : y ≡ peek doc (c .at + 1))
-    (j : k ≡ closes o) (e : y ≡ k) (u : n ≡ onward (within c) 1) where
-  none-inside : c .at + 1 < length doc
-  none-inside = peek-in doc (c .at + 1) y g (let s = closes-small o in omega arith)
+  opened-at : x ≡ peek doc (c .at)
+  unfolding Opened
+  opened-at = (rw e at op) .1
 
-  none-written : Written doc (within c) n (c .row) (children o []) R R T T
-  none-written =
-      let i = none-inside in
-      rw (children-none o, u) (written-none doc (within c) (onward (within c) 1) (c .row) R T (omega arith) (omega arith) refl refl)
-
-  pub container-none : R' ≡ sets R (width * c .row) (rowList (kindOf o) (c .at) (n .at) 0 0 p (n .row)) → Answers doc c p (bracketR o r (c .at) (drop (c .at) doc)) (Ok n) R R' T T
-  container-none s =
-      let w = none-written in
-      let a : n .at ≡ c .at + 1 + 1 = ap (λ (m : Cursor). m .at) u in
-      Laws.took doc c p _ R R' T T n
+  -- a container of nothing
+  pub none-fits : (y : ℕ) (k : Ans) (n : Cursor) → Ready doc c → Takes doc d y k → k ≡ Ok n → Enclosed c n 0
+  none-fits y k n r t z =
+      let u : n ≡ onward (within c) 1 = Laws.take-next doc d y k t n z ∙ ap (λ (m : Cursor). onward m 1) inner-is in
+      rw u
       (record {
-        tree = enclosed o (c .at) (n .at) [];
-        is = rw a (bracket-empty o r doc (c .at) y h g (e ∙ j));
-        span = node-span doc c (within c) n p (kindOf o) 0 (children o []) R R R' T T (omega arith) refl refl w;
-        filled = node-filled doc c (within c) n p (kindOf o) 0 (children o []) R R R' T T (omega arith) refl refl w s;
+        first-fits = omega (arith, r .small, r .inside);
+        after-fits = omega (arith, r .small, r .inside);
+        count-fits = omega arith;
+        row-fits = omega (arith, r .small, r .inside, r .fewRows);
+        next-fits = omega (arith, r .small, r .inside, r .fewRows);
       })
+
+module _ (o : Bool) (r : Reader Tree) (doc : List ℕ) (c : Cursor) (p : ℕ) (R T : List ℕ) (b : Ans) (op : Opened doc c (opens o) b) where
+  pub container-shut : (q : ℕ) → b ≡ No q → Answers doc c p (bracketR o r (c .at) (drop (c .at) doc)) (No (c .at)) R R T T
+  unfolding Opened
+  container-shut q e = let h : (q ≡ c .at) × (peek doc (c .at) ≡ opens o → ⊥) = rw e at op in Laws.refused doc c p _ R R T T (c .at) (bracket-none o r doc (c .at) (h .1))
+
+  module _ (d : Cursor) (e : b ≡ Ok d) (k : Ans) (t : Takes doc d (closes o) k) where
+    inner : d ≡ within c
+    inner = inner-is doc c d (opens o) b op e
+
+    bracketed : peek doc (c .at) ≡ opens o
+    bracketed = sym (opened-at doc c d (opens o) b op e)
+
+    module _ (n : Cursor) (z : k ≡ Ok n) where
+      u : n ≡ onward (within c) 1
+      u = Laws.take-next doc d (closes o) k t n z ∙ ap (λ (m : Cursor). onward m 1) inner
+
+      shut : closes o ≡ peek doc (c .at + 1)
+      shut = Laws.take-byte doc d (closes o) k t n z ∙ ap (λ (m : Cursor). peek doc (m .at)) inner
+
+      none-written : Written doc (within c) n (c .row) (children o []) R R T T
+      none-written =
+          let i = peek-in doc (c .at + 1) (closes o) shut (closes-small o) in
+          rw (children-none o, u) (written-none doc (within c) (onward (within c) 1) (c .row) R T (omega arith) (omega arith) refl refl)
+
+      pub container-none : (s : Ans) (R' : List ℕ) → Closed c n p 0 (kindOf o) s R R' → Answers doc c p (bracketR o r (c .at) (drop (c .at) doc)) s R R' T T
+      container-none s R' x =
+          let w = none-written in
+          let a : n .at ≡ c .at + 1 + 1 = ap (λ (m : Cursor). m .at) u in
+          rw (x .answer)
+          (Laws.took doc c p _ R R' T T n
+          (record {
+            tree = enclosed o (c .at) (n .at) [];
+            is = rw a (bracket-empty o r doc (c .at) (closes o) bracketed shut refl);
+            span = node-span doc c (within c) n p (kindOf o) 0 (children o []) R R R' T T (omega arith) refl refl w;
+            filled = node-filled doc c (within c) n p (kindOf o) 0 (children o []) R R R' T T (omega arith) refl refl w (x .table);
+          }))
+
+    pub loop-first : (q : ℕ) → Ready doc c → k ≡ No q → Loop o r doc c R T R T d 0
+    loop-first q f z =
+        rw inner (loop-start o r doc c R T f bracketed (λ y. Laws.take-other doc d (closes o) k t q z (ap (λ (m : Cursor). peek doc (m .at)) inner ∙ y)))
 
 -- ---- the loop
 
 module _ (o : Bool) (r : Reader Tree) (doc : List ℕ) (c : Cursor) (R0 T0 R T R' T' : List ℕ) (cur : Cursor) (cnt : ℕ) where
-  pub loop-first : (y k : ℕ) → Ready doc c → peek doc (c .at) ≡ opens o → y ≡ peek doc (c .at + 1) → k ≡ closes o → (y ≡ k → ⊥) → Loop o r doc c R0 T0 R0 T0 (within c) 0
-  loop-first y k d h g j z = loop-start o r doc c R0 T0 d h (λ e. z (g ∙ (e ∙ sym j)))
-
   module _ (l : Loop o r doc c R0 T0 R T cur cnt) (a : Sep) (e : Turned o (closes o) doc cur (c .row) (memberR o r) a R R' T T') where
     goes-of : (n : Cursor) → a ≡ More n → Goes o doc cur (c .row) (memberR o r) n R R' T T'
     unfolding Turned
@@ -129,27 +162,27 @@ module _ (o : Bool) (r : Reader Tree) (doc : List ℕ) (c : Cursor) (R0 T0 R T R
           Laws.refused doc c p _ R0 R' T0 T' q
           (listed ∙ ap (λ (u : Out (List (Member o))). bind u (λ ms e. retR (enclosed o (c .at) e ms) e)) (loop-stops o r doc c R0 T0 R T R' T' cur cur cnt l q (stops-of q k)))
 
-      pub container-last : (n : Cursor) (R'' : List ℕ) → a ≡ Last n → R'' ≡ sets R' (width * c .row) (rowList (kindOf o) (c .at) (n .at) 0 (cnt + 1) p (n .row))
-          → Answers doc c p (bracketR o r (c .at) (drop (c .at) doc)) (Ok n) R0 R'' T0 T'
-      container-last n R'' k s =
+      pub container-last : (n : Cursor) (s : Ans) (R'' : List ℕ) → a ≡ Last n → Closed c n p (cnt + 1) (kindOf o) s R' R'' → Answers doc c p (bracketR o r (c .at) (drop (c .at) doc)) s R0 R'' T0 T'
+      container-last n s R'' k x =
           let z = ends-of n k in
           let ms = l .done ++ z .read .member ∷ [] in
           let w = written-more o r doc c R0 T0 R T R' T' cur n cnt l (z .read) in
           let t : cnt + 1 ≡ count ms = omega (arith, count-then (l .done) (z .read .member), l .counted) in
-          Laws.took doc c p _ R0 R'' T0 T' n
+          rw (x .answer)
+          (Laws.took doc c p _ R0 R'' T0 T' n
           (record {
             tree = enclosed o (c .at) (n .at) ms;
             is = listed ∙ ap (λ (u : Out (List (Member o))). bind u (λ ms e. retR (enclosed o (c .at) e ms) e)) (loop-last o r doc c R0 T0 R T R' T' cur n cnt l z);
             span = node-span doc c (within c) n p (kindOf o) (count ms) (children o ms) R0 R' R'' T0 T' (omega arith) refl refl w;
-            filled = node-filled doc c (within c) n p (kindOf o) (count ms) (children o ms) R0 R' R'' T0 T' (omega arith) refl refl w (rw (← t) s);
-          })
+            filled = node-filled doc c (within c) n p (kindOf o) (count ms) (children o ms) R0 R' R'' T0 T' (omega arith) refl refl w (rw (← t) (x .table));
+          }))
 
 -- ---- the row
 
-pub enclosed-row : (c n : Cursor) (p cnt : ℕ) (o : Bool) (R R' : List ℕ) (k : Kind) (w : Words) → k .0 ≡ kindOf o
-    → w ≡ record { kind = k .0; first = c .at; after = n .at; from = 0; to = cnt; parent = p; next = n .row }
-    → R' ≡ sets R (width * c .row) (rowList (w .kind) (w .first) (w .after) (w .from) (w .to) (w .parent) (w .next))
-    → R' ≡ sets R (width * c .row) (rowList (kindOf o) (c .at) (n .at) 0 cnt p (n .row))
-enclosed-row c n p cnt o R R' k w e f h = h ∙ rw (f, e) refl
+pub closed-row : (c n : Cursor) (p cnt k : ℕ) (R R' : List ℕ) (w : Words) → w ≡ record { kind = k; first = c .at; after = n .at; from = 0; to = cnt; parent = p; next = n .row }
+    → R' ≡ sets R (width * c .row) (rowList (w .kind) (w .first) (w .after) (w .from) (w .to) (w .parent) (w .next)) → Closed c n p cnt k (Ok n) R R'
+closed-row c n p cnt k R R' w f h = record { answer = refl; table = h ∙ rw f refl }
 
-pub ruleset containing = (container-none, none-fits, loop-first, loop-again, loop-falls, last-fits, container-bad, container-last, enclosed-row, needs)
+pub ruleset containing = (closed-row, needs)
+
+pub ruleset looping = (none-fits, container-shut, container-none, loop-first, loop-again, loop-falls, last-fits, container-bad, container-last, needs)

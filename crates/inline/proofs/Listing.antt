@@ -15,11 +15,7 @@ use Rattle.rooms.specs.Contract.{Ready}
 use Rattle.rooms.specs.Laws
 use Rattle.inline.specs.Brackets.{opens, closes, Member, children, memberR, closes-small, closes-other, opens-small, children-none, children-append, count-then}
 use Rattle.inline.specs.Written.{Written, written-none, written-append}
-use Rattle.inline.specs.Contract.{Fails, no-first, no-second, Read, Goes, Ends, Stops, no-member, no-part}
-
--- behind the bracket of a container at c, where its first child's row comes next
-abbrev pub within : Cursor → Cursor
-within c = record { at = c .at + 1; row = c .row + 1; text = c .text }
+use Rattle.inline.specs.Contract.{within, Fails, no-first, no-second, Read, Goes, Ends, Stops, no-member, no-part}
 
 -- At the loop's head: `done` has been read and written, and what is left is read from the cursor, with a bound that is enough for it.
 pub record Loop (o : Bool) (r : Reader Tree) (doc : List ℕ) (c : Cursor) (R₀ T₀ R T : List ℕ) (cur : Cursor) (cnt : ℕ) : Type 0 where

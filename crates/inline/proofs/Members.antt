@@ -1,13 +1,12 @@
 -- A member with what follows it: an element from its value, a pair from its key and its value.
 use mathlib.Core.Path.{_≡_, refl, sym, ap, _∙_}
 use mathlib.Core.List.{List, [], _∷_}
-use mathlib.Core.Bool.{Bool, true, false}
-use Prim.Native.Nat.{ℕ, _+_, _≤_}
+use mathlib.Core.Bool.{true, false}
+use Prim.Native.Nat.{ℕ, _+_, _≤_, _<_}
 use native.Mathlib.Omega.{arith}
 use lib.ListN.{length, drop}
 use borrow.Author.Needs.{needs}
 use Rattle.language.specs.Tree.{Tree, field}
-use Rattle.exact.specs.Class.{clash}
 use Rattle.exact.specs.Out.{Out, Reader, bind, ok}
 use Rattle.exact.specs.Lang.{retR}
 use Rattle.exact.specs.Comb.{seqR}
@@ -15,20 +14,20 @@ use Rattle.exact.specs.Place.{peek, peek-in}
 use Rattle.rooms.specs.declared.Cursor.{Cursor}
 use Rattle.rooms.specs.declared.Ans.{Ans}
 use Rattle.rooms.specs.declared.Ans.the-variants.{Ok, No}
-use Rattle.rooms.specs.Contract.{Taken, Answers}
+use Rattle.rooms.specs.Contract.{onward, Taken, Answers}
 use Rattle.rooms.specs.Laws
 use Rattle.inline.specs.declared.Sep.{Sep}
 use Rattle.inline.specs.declared.Sep.the-variants.{More, Last, Bad}
 use Rattle.inline.specs.Lists.{inlinePairR}
-use Rattle.inline.specs.Brackets.{closes, closes-small, memberR, labelR, pair-label}
+use Rattle.inline.specs.Brackets.{labelR, pair-label}
 use Rattle.inline.specs.Written.{written-one, written-append}
-use Rattle.inline.specs.Contract.{onward, Parted, Read, Stops, no-member, no-part, Turned}
+use Rattle.inline.specs.Contract.{Parted, Read, Stops, no-member, no-part, Turned}
 use Rattle.inline.proofs.Passing.{span-on, ready-after}
 
 -- ---- an element
 
-module _ (o : Bool) (doc : List ℕ) (c : Cursor) (p : ℕ) (r : Reader Tree) (a : Ans) (R R' T T' : List ℕ) (w : Answers doc c p (r (c .at) (drop (c .at) doc)) a R R' T T') where
-  pub element-none : (q : ℕ) → a ≡ No q → Turned false (closes o) doc c p r (Bad q) R R' T T'
+module _ (close : ℕ) (small : close < 256) (doc : List ℕ) (c : Cursor) (p : ℕ) (r : Reader Tree) (a : Ans) (R R' T T' : List ℕ) (w : Answers doc c p (r (c .at) (drop (c .at) doc)) a R R' T T') where
+  pub element-none : (q : ℕ) → a ≡ No q → Turned false close doc c p r (Bad q) R R' T T'
   unfolding Turned
   element-none q e = no-member (Laws.refusal doc c p _ R R' T T' a q e w)
 
@@ -43,18 +42,17 @@ module _ (o : Bool) (doc : List ℕ) (c : Cursor) (p : ℕ) (r : Reader Tree) (a
         written = written-one doc c n p (k .tree) R R' T T' (span-on doc c m n (k .tree) i h l (k .span)) (k .filled);
       }
 
-  pub element-turned : (m : Cursor) (k : ℕ) (s : Sep) → k ≡ closes o → a ≡ Ok m → Parted doc k m s → Turned false (closes o) doc c p r s R R' T T'
+  pub element-turned : (m : Cursor) (s : Sep) → a ≡ Ok m → Parted doc close m s → Turned false close doc c p r s R R' T T'
   unfolding Turned Parted value-read
-  element-turned m k (More n) j e h =
+  element-turned m (More n) e h =
       let i = peek-in doc (m .at + 1) 32 (h .2) (omega arith) in
       record { read = value-read m n 2 e (h .0) (omega arith); to = ap (λ (d : Cursor). d .at) (h .0); comma = h .1; space = h .2 }
-  element-turned m k (Last n) j e h =
-      let closed : closes o ≡ peek doc (m .at) = sym j ∙ h .1 in
-      let i = peek-in doc (m .at) (closes o) closed (closes-small o) in
-      record { read = value-read m n 1 e (h .0) (omega arith); to = ap (λ (d : Cursor). d .at) (h .0); closed = closed }
-  element-turned m k (Bad q) j e h =
+  element-turned m (Last n) e h =
+      let i = peek-in doc (m .at) close (h .1) small in
+      record { read = value-read m n 1 e (h .0) (omega arith); to = ap (λ (d : Cursor). d .at) (h .0); closed = h .1 }
+  element-turned m (Bad q) e h =
       let t = Laws.taken doc c p _ R R' T T' a m e w in
-      no-part (t .tree) (m .at) (t .is) (t .span .ahead) (λ z. h .0 (z ∙ sym j)) (h .1)
+      no-part (t .tree) (m .at) (t .is) (t .span .ahead) (h .0) (h .1)
 
 -- ---- a pair
 
@@ -95,24 +93,4 @@ module _ (close : ℕ) (doc : List ℕ) (c : Cursor) (p : ℕ) (r : Reader Tree)
     pair-turned (Last n) x = record { read = pair-read n (x .read); to = x .to; closed = x .closed }
     pair-turned (Bad q) x = pair-stops q x
 
--- ---- either
-
-module _ (doc : List ℕ) (c : Cursor) (p : ℕ) (r : Reader Tree) (o : Bool) (s : Sep) (R R' T T' : List ℕ) where
-  abbrev Either : Bool → Type 0
-  Either o = Turned o (closes o) doc c p (memberR o r) s R R' T T'
-
-  pub member-element : o ≡ false → Turned false (closes o) doc c p r s R R' T T' → Either o
-  member-element e x = go o e x
-    where
-      go : (o : Bool) → o ≡ false → Turned false (closes o) doc c p r s R R' T T' → Either o
-      go false e x = x
-      go true e x = absurd (clash refl e)
-
-  pub member-pair : o ≡ true → Turned true (closes o) doc c p (inlinePairR r) s R R' T T' → Either o
-  member-pair e x = go o e x
-    where
-      go : (o : Bool) → o ≡ true → Turned true (closes o) doc c p (inlinePairR r) s R R' T T' → Either o
-      go false e x = absurd (clash e refl)
-      go true e x = x
-
-pub ruleset turning = (element-none, element-turned, pair-none, pair-turned, member-element, member-pair, ready-after, needs)
+pub ruleset turning = (element-none, element-turned, pair-none, pair-turned, ready-after, needs)

@@ -1,4 +1,4 @@
--- What two bytes, the end of a member, and a key with its colon say of their readers.
+-- What two bytes, the end of a member, a bracket, and a key with its colon say of their readers.
 use mathlib.Core.Path.{_≡_, refl, sym, ap, _∙_}
 use mathlib.Core.List.{List, [], _∷_}
 use Prim.Native.Nat.{ℕ, _+_, _≤_, _<_}
@@ -6,73 +6,67 @@ use native.Mathlib.Omega.{arith}
 use lib.ListN.{length, drop}
 use borrow.Author.Needs.{needs}
 use Rattle.language.specs.Tree.{Tree}
-use Rattle.exact.specs.Out.{Out, bind, ok, bad}
+use Rattle.exact.specs.Out.{Out, bind}
 use Rattle.exact.specs.Lang.{retR}
 use Rattle.exact.specs.Comb.{seqR}
 use Rattle.exact.specs.Ll.{wordR}
-use Rattle.exact.specs.Place.{peek, peek-in, byte-is, byte-not}
+use Rattle.exact.specs.Place.{peek}
 use Rattle.rooms.specs.declared.Cursor.{Cursor}
 use Rattle.rooms.specs.declared.Ans.{Ans}
 use Rattle.rooms.specs.declared.Ans.the-variants.{Ok, No}
-use Rattle.rooms.specs.Contract.{Ready, Span, Taken, Answers}
+use Rattle.rooms.specs.Contract.{onward, Takes, Ready, Span, Taken, Answers}
 use Rattle.rooms.specs.Laws
 use Rattle.inline.specs.declared.Sep.the-variants.{More, Last, Bad}
 use Rattle.strings.specs.Keys.{keyR}
 use Rattle.inline.specs.Brackets.{labelR}
-use Rattle.inline.specs.Contract.{onward, Fails, no-first, no-second, Passed, Parted}
+use Rattle.inline.specs.Passes.{word-two, word-none, passed-in}
+use Rattle.inline.specs.Contract.{no-first, no-second, Passed, Parted, Opened}
 
 -- ---- two bytes
 
-module _ (doc : List ℕ) (c : Cursor) (first second b : ℕ) (h : b ≡ peek doc (c .at)) where
-  pub pass-none : (b ≡ first → ⊥) → Passed doc c first second (No (c .at))
+module _ (doc : List ℕ) (c : Cursor) (first second : ℕ) (a : Ans) (h : Takes doc c first a) where
+  pub pass-none : (p : ℕ) → a ≡ No p → Passed doc c first second (No p)
   unfolding Passed
-  pass-none k = no-first (λ e. k (h ∙ e))
+  pass-none p e = rw (Laws.take-place doc c first a h p e) (no-first (Laws.take-other doc c first a h p e))
 
-  module _ (n : Cursor) (y : ℕ) (e : b ≡ first) (on : n ≡ onward c 1) (g : y ≡ peek doc (n .at)) where
-    next : y ≡ peek doc (c .at + 1)
-    next = g ∙ ap (λ m. peek doc (m .at)) on
-
-    pub pass-one : (y ≡ second → ⊥) → Passed doc c first second (No (c .at + 1))
-    unfolding Passed
-    pass-one k = no-second (sym e ∙ h) (λ z. k (next ∙ z))
-
-    pub pass-two : (m : Cursor) → y ≡ second → m ≡ onward c 2 → Passed doc c first second (Ok m)
-    unfolding Passed
-    pass-two m k o = (o, sym e ∙ h, sym k ∙ next)
-
--- the reader of the two bytes
-module _ (doc : List ℕ) (c : Cursor) (first second : ℕ) (small : first < 256) (small₂ : second < 256) where
-  pub word-two : (n : Cursor) → Passed doc c first second (Ok n) → wordR (first ∷ second ∷ []) (c .at) (drop (c .at) doc) ≡ ok 0 (c .at + 2) (drop (c .at + 2) doc)
-  unfolding Passed
-  word-two n h =
+  -- .. by what the second take says
+  pub pass-on : (n : Cursor) (b : Ans) → a ≡ Ok n → Takes doc n second b → Passed doc c first second b
+  unfolding Passed Takes
+  pass-on n (Ok m) e g =
+      let k = Laws.take-next doc c first a h n e in
       let z : c .at + 1 + 1 ≡ c .at + 2 = omega arith in
-      ap (λ (o : Out ℕ). bind o (λ _. wordR (second ∷ []))) (byte-is doc (c .at) first first small (h .1) refl)
-      ∙ (ap (λ (o : Out ℕ). bind o (λ _. retR 0)) (byte-is doc (c .at + 1) second second small₂ (h .2) refl) ∙ ap (λ k. ok 0 k (drop k doc)) z)
-
-  word-fails : (p : ℕ) → Fails doc (c .at) first second p → wordR (first ∷ second ∷ []) (c .at) (drop (c .at) doc) ≡ bad p
-  word-fails _ (no-first k) = ap (λ (o : Out ℕ). bind o (λ _. wordR (second ∷ []))) (byte-not doc (c .at) first (peek doc (c .at)) small refl k)
-  word-fails _ (no-second e k) =
-      ap (λ (o : Out ℕ). bind o (λ _. wordR (second ∷ []))) (byte-is doc (c .at) first first small e refl)
-      ∙ ap (λ (o : Out ℕ). bind o (λ _. retR 0)) (byte-not doc (c .at + 1) second (peek doc (c .at + 1)) small₂ refl k)
-
-  pub word-none : (p : ℕ) → Passed doc c first second (No p) → wordR (first ∷ second ∷ []) (c .at) (drop (c .at) doc) ≡ bad p
-  unfolding Passed
-  word-none p h = word-fails p h
+      (g .0 ∙ rw (k, z) refl, Laws.take-byte doc c first a h n e, g .1 ∙ ap (λ m. peek doc (m .at)) k)
+  pass-on n (No p) e g =
+      let k = Laws.take-next doc c first a h n e in
+      let z : p ≡ c .at + 1 = g .0 ∙ ap (λ m. m .at) k in
+      rw z (no-second (Laws.take-byte doc c first a h n e) (λ y. g .1 (ap (λ m. peek doc (m .at)) k ∙ y)))
 
 -- ---- what follows a member
 
-module _ (doc : List ℕ) (close : ℕ) (m : Cursor) (b : ℕ) (h : b ≡ peek doc (m .at)) where
-  pub parted-last : (n : Cursor) → b ≡ close → n ≡ onward m 1 → Parted doc close m (Last n)
+module _ (doc : List ℕ) (close : ℕ) (m : Cursor) (t : Ans) (h : Takes doc m close t) where
+  pub parted-last : (n : Cursor) → t ≡ Ok n → Parted doc close m (Last n)
   unfolding Parted
-  parted-last n k e = (e, sym k ∙ h)
+  parted-last n e = (Laws.take-next doc m close t h n e, Laws.take-byte doc m close t h n e)
 
-  pub parted-more : (a : Ans) (n : Cursor) → (b ≡ close → ⊥) → a ≡ Ok n → Passed doc m 44 32 a → Parted doc close m (More n)
-  unfolding Parted Passed
-  parted-more a n k e w = rw e at w
+  module _ (q : ℕ) (k : t ≡ No q) (a : Ans) (w : Passed doc m 44 32 a) where
+    pub parted-more : (n : Cursor) → a ≡ Ok n → Parted doc close m (More n)
+    unfolding Parted Passed
+    parted-more n e = rw e at w
 
-  pub parted-bad : (a : Ans) (p : ℕ) → (b ≡ close → ⊥) → a ≡ No p → Passed doc m 44 32 a → Parted doc close m (Bad p)
-  unfolding Parted Passed
-  parted-bad a p k e w = (λ z. k (h ∙ z), rw e at w)
+    pub parted-bad : (p : ℕ) → a ≡ No p → Parted doc close m (Bad p)
+    unfolding Parted Passed
+    parted-bad p e = (Laws.take-other doc m close t h q k, rw e at w)
+
+-- ---- behind a bracket
+
+module _ (doc : List ℕ) (c : Cursor) (b : ℕ) (t : Ans) (h : Takes doc c b t) where
+  pub opened-not : (p : ℕ) → t ≡ No p → Opened doc c b (No p)
+  unfolding Opened
+  opened-not p e = (Laws.take-place doc c b t h p e, Laws.take-other doc c b t h p e)
+
+  pub opened-in : (n : Cursor) → t ≡ Ok n → Opened doc c b (Ok (record { at = n .at; row = c .row + 1; text = c .text }))
+  unfolding Opened
+  opened-in n e = (rw (Laws.take-next doc c b t h n e) refl, Laws.take-byte doc c b t h n e)
 
 -- ---- the cursor behind a tree
 
@@ -99,10 +93,6 @@ span-on doc c m n t i e l s =
       fewRows = omega (arith, s .fewRows);
       fewText = omega (arith, s .fewText);
     })
-
-pub passed-in : (doc : List ℕ) (c n : Cursor) (first second : ℕ) → second < 256 → Passed doc c first second (Ok n) → (n ≡ onward c 2) × (c .at + 2 ≤ length doc)
-unfolding Passed
-passed-in doc c n first second l h = let i = peek-in doc (c .at + 1) second (h .2) l in (h .0, omega arith)
 
 -- ---- a key and its colon
 
@@ -135,4 +125,4 @@ module _ (doc : List ℕ) (c : Cursor) (p : ℕ) (a : Ans) (R R' T T' : List ℕ
           })
       go (No q) x = Laws.refused doc c p _ R R' T T' q (behind ∙ ap (λ (o : Out ℕ). bind o (λ _. retR (k .tree))) (word-none doc m 58 32 (omega arith) (omega arith) q x))
 
-pub ruleset passing = (pass-none, pass-one, pass-two, parted-last, parted-more, parted-bad, ready-after, label-none, label-passed, needs)
+pub ruleset passing = (pass-none, pass-on, parted-last, parted-more, parted-bad, opened-not, opened-in, ready-after, label-none, label-passed, needs)

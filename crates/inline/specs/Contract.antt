@@ -2,14 +2,16 @@
 use mathlib.Core.Path.{_≡_}
 use mathlib.Core.List.{List, [], _∷_}
 use mathlib.Core.Bool.{Bool}
-use Prim.Native.Nat.{ℕ, _+_, _<_}
+use Prim.Native.Nat.{ℕ, _+_, _*_, _<_}
 use lib.ListN.{drop}
+use lib.Seq.{sets}
 use Rattle.exact.specs.Out.{Reader, ok, bad}
 use Rattle.exact.specs.Place.{peek}
 use Rattle.rooms.specs.declared.Cursor.{Cursor}
 use Rattle.rooms.specs.declared.Ans.{Ans}
 use Rattle.rooms.specs.declared.Ans.the-variants.{Ok, No}
-use Rattle.rooms.specs.Contract.{ample}
+use Rattle.language.specs.Tree.{width, rowList}
+use Rattle.rooms.specs.Contract.{ample, onward}
 use Rattle.inline.specs.declared.Sep.{Sep}
 use Rattle.inline.specs.declared.Sep.the-variants.{More, Last, Bad}
 use Rattle.inline.specs.Brackets.{Member, children}
@@ -23,9 +25,18 @@ pub record Enclosed (c n : Cursor) (count : ℕ) : Type 0 where
   pub row-fits : c .row < ample
   pub next-fits : n .row < ample
 
--- the cursor i bytes on
-abbrev pub onward : Cursor → ℕ → Cursor
-onward c i = record { at = c .at + i; row = c .row; text = c .text }
+-- the row of a container of that kind from c up to n is stored, and n is answered
+pub record Closed (c n : Cursor) (parent count kind : ℕ) (r : Ans) (R R' : List ℕ) : Type 0 where
+  pub answer : r ≡ Ok n
+  pub table : R' ≡ sets R (width * c .row) (rowList kind (c .at) (n .at) 0 count parent (n .row))
+
+-- BEHIND THE BRACKET b of a container at c, where its first child's row comes next; or another byte stands there
+abbrev pub within : Cursor → Cursor
+within c = record { at = c .at + 1; row = c .row + 1; text = c .text }
+
+unfoldable pub Opened : List ℕ → Cursor → ℕ → Ans → Type 0
+Opened doc c b (Ok n) = (n ≡ within c) × (b ≡ peek doc (c .at))
+Opened doc c b (No p) = (p ≡ c .at) × (peek doc (c .at) ≡ b → ⊥)
 
 -- TWO BYTES: where they fail, and what a pass over them says
 pub data Fails (doc : List ℕ) (at first second : ℕ) : ℕ → Type 0 where

@@ -5,4 +5,5 @@ pub mod Clean
 pub mod Written
 pub mod Brackets
 pub mod Contract
+pub mod Passes
 pub mod Vectors

@@ -1,16 +1,13 @@
 // Inline values: scalars, and containers in brackets. Elements and pairs are read in a loop; a container inside another takes one of the allowance.
 ghost use mathlib.Core.Path.{_≡_};
 ghost use mathlib.Core.Bool.{true, false};
-ghost use Prim.Native.Nat.{ℕ, _+_, _*_, _≤_, _<_};
-ghost use lib.ListN.{length, drop};
-ghost use lib.Seq.{sets};
-ghost use Rattle.exact.specs.Place.{peek};
-ghost use Rattle.language.specs.Tree.{width, rowList};
-ghost use Rattle.rooms.specs.Contract.{ample, Ready, Answers, Reaches};
+ghost use lib.ListN.{drop};
+ghost use Rattle.rooms.specs.Contract.{Ready, Answers, Reaches};
 ghost use Rattle.exact.specs.Class.{is};
 ghost use Rattle.inline.specs.Values.{marks, scalarR, valueR};
-ghost use Rattle.inline.specs.Brackets.{opens, closes, kindOf, labelR, memberR, bracketR};
-ghost use Rattle.inline.specs.Contract.{Enclosed, Passed, Parted, Turned};
+ghost use Rattle.inline.specs.Lists.{inlinePairR};
+ghost use Rattle.inline.specs.Brackets.{labelR, bracketR};
+ghost use Rattle.inline.specs.Contract.{Enclosed, Closed, Opened, Passed, Parted, Turned};
 use language::Kind;
 use numbers::plain;
 use numbers::plain_inside;
@@ -42,32 +39,14 @@ fn scalar(doc: &[u8], rows: &mut [u32], text: &mut [u8], c: Cursor, parent: u32)
     }
 }
 
-// The cursor some bytes on.
-fn ahead(c: Cursor, i: usize) -> Cursor
-    requires { ⌜ c .at + i < ample ⌝ }
-    ensures { λ r. ⌜ r ≡ record { at = c .at + i; row = c .row; text = c .text } ⌝ }
-{
-    Cursor {
-        at: c.at + i,
-        row: c.row,
-        text: c.text,
-    }
-}
-
 // Two bytes, one behind the other.
-pub fn pass(doc: &[u8], c: Cursor, first: u32, second: u32) -> Ans
-    requires { ⌜ Ready (now doc) c ⌝ }
+pub fn pass(doc: &[u8], c: Cursor, first: u8, second: u8) -> Ans
     ensures { λ r. ⌜ Passed (now (doc .entry)) c first second r ⌝ }
 {
-    let at = c.at;
-    if c.look(&*doc) != first {
-        return Ans::No(at);
+    match c.take(&*doc, first) {
+        Ans::No(p) => Ans::No(p),
+        Ans::Ok(n) => n.take(&*doc, second),
     }
-    let n = ahead(c, 1);
-    if n.look(&*doc) != second {
-        return Ans::No(at + 1);
-    }
-    Ans::Ok(ahead(c, 2))
 }
 
 // A pair's key, and the colon and the space behind it.
@@ -82,39 +61,41 @@ fn label(doc: &[u8], rows: &mut [u32], text: &mut [u8], c: Cursor, parent: u32) 
 }
 
 // What follows an element or a pair that ends at the cursor.
-fn after(doc: &[u8], n: Cursor, close: u32) -> Sep
-    requires { ⌜ Ready (now doc) n ⌝ }
+fn after(doc: &[u8], n: Cursor, close: u8) -> Sep
     ensures { λ r. ⌜ Parted (now (doc .entry)) close n r ⌝ }
 {
-    if n.look(&*doc) == close {
-        return Sep::Last(ahead(n, 1));
+    match n.take(&*doc, close) {
+        Ans::Ok(m) => Sep::Last(m),
+        Ans::No(_) => match pass(&*doc, n, 44, 32) {
+            Ans::Ok(m) => Sep::More(m),
+            Ans::No(p) => Sep::Bad(p),
+        },
     }
-    match pass(&*doc, n, 44, 32) {
-        Ans::Ok(m) => Sep::More(m),
-        Ans::No(p) => Sep::Bad(p),
+}
+
+// Behind the bracket of a container, where its first child's row comes next; or the place where no such bracket stands.
+fn open(doc: &[u8], c: Cursor, bracket: u8) -> Ans
+    requires { ⌜ Ready (now doc) c ⌝ }
+    ensures { λ r. ⌜ Opened (now (doc .entry)) c bracket r ⌝ }
+{
+    match c.take(&*doc, bracket) {
+        Ans::No(p) => Ans::No(p),
+        Ans::Ok(n) => Ans::Ok(Cursor {
+            at: n.at,
+            row: c.row + 1,
+            text: c.text,
+        }),
     }
 }
 
-// The byte that closes a container, and its kind.
-fn closing(object: bool) -> u32
-    ensures { λ r. ⌜ r ≡ closes object ⌝ }
-{
-    if object { 125 } else { 93 }
-}
-
-fn kind_of(object: bool) -> Kind
-    ensures { λ r. ⌜ r .0 ≡ kindOf object ⌝ }
-{
-    if object { Kind::OBJECT } else { Kind::ARRAY }
-}
-
-// The row of a container that stands from c up to n.
-fn enclose(rows: &mut [u32], c: Cursor, n: Cursor, parent: u32, count: usize, object: bool)
+// The row of a container of that kind, which stands from c up to n; n is the answer.
+fn enclose(rows: &mut [u32], c: Cursor, n: Cursor, parent: u32, count: usize, kind: Kind) -> Ans
     requires { ⌜ Enclosed c n count ⌝ }
-    ensures { λ _. ⌜ now (rows .exit) ≡ sets (now (rows .entry)) (width * c .row) (rowList (kindOf object) (c .at) (n .at) 0 count parent (n .row)) ⌝ }
+    ensures { λ r. ⌜ Closed c n parent count (kind .0) r (now (rows .entry)) (now (rows .exit)) ⌝ }
 {
-    let w = row_of(kind_of(object), c.at, n.at, 0, count, parent, n.row);
+    let w = row_of(kind, c.at, n.at, 0, count, parent, n.row);
     put_row(rows, c.row, w);
+    Ans::Ok(n)
 }
 
 // The cycle. A value inside brackets, with an allowance of containers one inside another.
@@ -133,81 +114,69 @@ pub fn value(
         return scalar(&*doc, rows, text, c, parent).anew();
     }
     match c.look(&*doc) {
-        91 => container(&*doc, rows, text, c, parent, allow - 1, false).anew(),
-        123 => container(&*doc, rows, text, c, parent, allow - 1, true).anew(),
+        91 => array(&*doc, rows, text, c, parent, allow - 1).anew(),
+        123 => object(&*doc, rows, text, c, parent, allow - 1).anew(),
         48..=57 => plain_inside(&*doc, rows, text, c, parent).anew(),
         _ => scalar(&*doc, rows, text, c, parent).anew(),
     }
 }
 
-// A container, whose bracket stands at the cursor.
-fn container(
-    doc: &[u8],
-    rows: &mut [u32],
-    text: &mut [u8],
-    c: Cursor,
-    parent: u32,
-    allow: usize,
-    object: bool,
-) -> Ans
+// An array: its elements are values with one container less allowed.
+fn array(doc: &[u8], rows: &mut [u32], text: &mut [u8], c: Cursor, parent: u32, allow: usize) -> Ans
     requires { ⌜ Ready (now doc) c ⌝ }
-    requires { ⌜ peek (now doc) (c .at) ≡ opens object ⌝ }
-    ensures { λ r. ⌜ Answers (now (doc .entry)) c parent (bracketR object (valueR false allow) (c .at) (drop (c .at) (now (doc .entry)))) r (now (rows .entry)) (now (rows .exit)) (now (text .entry)) (now (text .exit)) ⌝ }
+    ensures { λ r. ⌜ Answers (now (doc .entry)) c parent (bracketR false (valueR false allow) (c .at) (drop (c .at) (now (doc .entry)))) r (now (rows .entry)) (now (rows .exit)) (now (text .entry)) (now (text .exit)) ⌝ }
 {
     let row = c.row;
-    let mut cur = Cursor {
-        at: c.at + 1,
-        row: row + 1,
-        text: c.text,
-    };
-    if cur.look(&*doc) == closing(object) {
-        let n = ahead(cur, 1);
-        enclose(rows, c, n, parent, 0, object);
-        return Ans::Ok(n);
-    }
     let mut count: usize = 0;
+    let Ans::Ok(first) = open(&*doc, c, 91) else {
+        return Ans::No(c.at);
+    };
+    if let Ans::Ok(n) = first.take(&*doc, 93) {
+        return enclose(rows, c, n, parent, count, Kind::ARRAY);
+    }
+    let mut cur = first;
     loop {
-        match member(&*doc, rows, text, cur, row as u32, allow, object) {
+        match element(&*doc, rows, text, cur, row as u32, allow, 93) {
             Sep::Bad(p) => return Ans::No(p),
-            Sep::Last(n) => {
-                enclose(rows, c, n, parent, count + 1, object);
-                return Ans::Ok(n);
-            }
-            Sep::More(n) => {
-                cur = n;
-                count += 1;
-            }
+            Sep::Last(n) => return enclose(rows, c, n, parent, count + 1, Kind::ARRAY),
+            Sep::More(n) => cur = n,
         }
+        count += 1;
     }
 }
 
-// An element or a pair, and what follows it.
-fn member(
+// An object: each pair is a key with its colon, and a value with one container less allowed.
+fn object(
     doc: &[u8],
     rows: &mut [u32],
     text: &mut [u8],
     c: Cursor,
     parent: u32,
     allow: usize,
-    object: bool,
-) -> Sep
+) -> Ans
     requires { ⌜ Ready (now doc) c ⌝ }
-    ensures { λ r. ⌜ Turned object (closes object) (now (doc .entry)) c parent (memberR object (valueR false allow)) r (now (rows .entry)) (now (rows .exit)) (now (text .entry)) (now (text .exit)) ⌝ }
+    ensures { λ r. ⌜ Answers (now (doc .entry)) c parent (bracketR true (valueR false allow) (c .at) (drop (c .at) (now (doc .entry)))) r (now (rows .entry)) (now (rows .exit)) (now (text .entry)) (now (text .exit)) ⌝ }
 {
-    if object {
-        match label(&*doc, rows, text, c, parent) {
-            Ans::No(p) => {
-                return Sep::Bad(p);
-            }
-            Ans::Ok(n) => {
-                return element(&*doc, rows, text, n, parent, allow, object);
-            }
-        }
+    let row = c.row;
+    let mut count: usize = 0;
+    let Ans::Ok(first) = open(&*doc, c, 123) else {
+        return Ans::No(c.at);
+    };
+    if let Ans::Ok(n) = first.take(&*doc, 125) {
+        return enclose(rows, c, n, parent, count, Kind::OBJECT);
     }
-    element(&*doc, rows, text, c, parent, allow, object)
+    let mut cur = first;
+    loop {
+        match pair(&*doc, rows, text, cur, row as u32, allow) {
+            Sep::Bad(p) => return Ans::No(p),
+            Sep::Last(n) => return enclose(rows, c, n, parent, count + 1, Kind::OBJECT),
+            Sep::More(n) => cur = n,
+        }
+        count += 1;
+    }
 }
 
-// A value, and what follows it.
+// A value, and what follows it before the byte that closes its container.
 fn element(
     doc: &[u8],
     rows: &mut [u32],
@@ -215,14 +184,25 @@ fn element(
     c: Cursor,
     parent: u32,
     allow: usize,
-    object: bool,
+    close: u8,
 ) -> Sep
     requires { ⌜ Ready (now doc) c ⌝ }
-    ensures { λ r. ⌜ Turned false (closes object) (now (doc .entry)) c parent (valueR false allow) r (now (rows .entry)) (now (rows .exit)) (now (text .entry)) (now (text .exit)) ⌝ }
+    ensures { λ r. ⌜ Turned false close (now (doc .entry)) c parent (valueR false allow) r (now (rows .entry)) (now (rows .exit)) (now (text .entry)) (now (text .exit)) ⌝ }
 {
     match value(&*doc, rows, text, c, parent, allow) {
         Ans::No(p) => Sep::Bad(p),
-        Ans::Ok(n) => after(&*doc, n, closing(object)),
+        Ans::Ok(n) => after(&*doc, n, close),
+    }
+}
+
+// A key with its colon, its value, and what follows them.
+fn pair(doc: &[u8], rows: &mut [u32], text: &mut [u8], c: Cursor, parent: u32, allow: usize) -> Sep
+    requires { ⌜ Ready (now doc) c ⌝ }
+    ensures { λ r. ⌜ Turned true 125 (now (doc .entry)) c parent (inlinePairR (valueR false allow)) r (now (rows .entry)) (now (rows .exit)) (now (text .entry)) (now (text .exit)) ⌝ }
+{
+    match label(&*doc, rows, text, c, parent) {
+        Ans::No(p) => Sep::Bad(p),
+        Ans::Ok(n) => element(&*doc, rows, text, n, parent, allow, 125),
     }
 }
 

@@ -1,14 +1,14 @@
 -- What stands behind a key and its colon, and a property as a whole: what the calls on the way say of their readers. Assumes nothing.
 use mathlib.Core.Path.{_≡_, refl, sym, ap, _∙_}
 use mathlib.Core.List.{List, [], _∷_}
-use mathlib.Core.Bool.{Bool, true, false}
+use mathlib.Core.Bool.{true, false}
 use Prim.Native.Nat.{ℕ, suc, _+_, _≤_}
 use native.Mathlib.Numerals.{add-one}
 use native.Mathlib.Omega.{arith}
 use lib.ListN.{length, drop}
 use borrow.Author.Needs.{needs}
 use Rattle.language.specs.Tree.{Tree, field, sizes}
-use Rattle.exact.specs.Class.{clash, is, only}
+use Rattle.exact.specs.Class.{is, only}
 use Rattle.exact.specs.Out.{Out, Reader, Firm, bind, fmap, bad, f-ok, f-bad}
 use Rattle.exact.specs.Answers.{map-fmap}
 use Rattle.exact.specs.Lang.{retR, byteR}
@@ -19,7 +19,7 @@ use Rattle.rooms.specs.declared.Ans.{Ans}
 use Rattle.rooms.specs.declared.Ans.the-variants.{Ok, No}
 use Rattle.rooms.specs.declared.Block.{Block}
 use Rattle.rooms.specs.declared.Block.the-variants.{Done, Bad}
-use Rattle.rooms.specs.Contract.{Ready, Taken, Answers, Blocks}
+use Rattle.rooms.specs.Contract.{onward, Takes, Ready, Taken, Answers, Blocks}
 use Rattle.rooms.specs.Laws
 use Rattle.characters.specs.declared.Skip.{Skip}
 use Rattle.characters.specs.declared.Skip.the-variants
@@ -62,9 +62,9 @@ module _ (v n : Reader Tree) (doc : List ℕ) (at : ℕ) where
       let q : drop (suc at) doc ≡ 32 ∷ drop (suc (suc at)) doc = peek-cons doc (suc at) 32 (rw add-one at f) (omega arith) in
       rw (p, q) (behind-comment (comment-ll .firm (suc (suc at)) (drop (suc (suc at)) doc)))
 
-  rest-below : Gap doc at false → restR v n at (drop at doc) ≡ bind (endsR false at (drop at doc)) (λ _. n)
-  rest-below (no-space f) = rest-none f
-  rest-below (two-spaces e f) = rest-two e f
+rest-below : (v n : Reader Tree) (doc : List ℕ) (c : Cursor) (p : ℕ) → Gap doc c (No p) → restR v n (c .at) (drop (c .at) doc) ≡ bind (endsR false (c .at) (drop (c .at) doc)) (λ _. n)
+rest-below v n doc c p (no-space _ f) = rest-none v n doc (c .at) f
+rest-below v n doc c p (two-spaces _ e f) = rest-two v n doc (c .at) e f
 
 -- ---- a cursor that stands further on
 
@@ -105,49 +105,55 @@ block-from doc c d p a o o′ (Done n far z) R R' T T' h l e w =
 
 -- ---- what stands behind a colon
 
-module _ (doc : List ℕ) (c : Cursor) (x : Bool) (g : Gap doc (c .at) x) where
-  gap-one : x ≡ true → (32 ≡ peek doc (c .at)) × (peek doc (c .at + 1) ≡ 32 → ⊥)
-  gap-one e = go x g e
-    where
-      go : (x : Bool) → Gap doc (c .at) x → x ≡ true → (32 ≡ peek doc (c .at)) × (peek doc (c .at + 1) ≡ 32 → ⊥)
-      go _ (one-space h k) e = (h, k)
-      go _ (no-space k) e = absurd (clash e refl)
-      go _ (two-spaces h k) e = absurd (clash e refl)
+record OneSpace (doc : List ℕ) (c d : Cursor) : Type 0 where
+  next : d ≡ onward c 1
+  space : 32 ≡ peek doc (c .at)
+  single : peek doc (c .at + 1) ≡ 32 → ⊥
 
-  pub spaced-ready : (d : Cursor) → x ≡ true → Ready doc c → d ≡ record { at = c .at + 1; row = c .row; text = c .text } → Ready doc d
-  spaced-ready d e r h = let i = peek-in doc (c .at) 32 (gap-one e .0) (omega arith) in ready-at doc c d (c .at + 1) r (omega arith) (omega arith) h
+module _ (doc : List ℕ) (c : Cursor) (x : Ans) (g : Gap doc c x) where
+  gap-one : (d : Cursor) → x ≡ Ok d → OneSpace doc c d
+  gap-one d e = go d (rw e at g)
+    where
+      go : (d : Cursor) → Gap doc c (Ok d) → OneSpace doc c d
+      go _ (one-space h k) = record { next = refl; space = h; single = k }
+
+  pub spaced-ready : (d : Cursor) → x ≡ Ok d → Ready doc c → Ready doc d
+  spaced-ready d e r =
+      let u = gap-one d e in
+      let i = peek-in doc (c .at) 32 (u .space) (omega arith) in
+      ready-at doc c d (c .at + 1) r (omega arith) (omega arith) (u .next)
 
   module _ (p k n : ℕ) (R R' T T' : List ℕ) where
     abbrev Behind : Block → Type 0
     Behind b = Blocks doc c p (restR (onR k n) (nestedR k (suc (suc n))) (c .at) (drop (c .at) doc)) b R R' T T'
 
-    pub behind-on : (d : Cursor) (b : Block) → x ≡ true → d ≡ record { at = c .at + 1; row = c .row; text = c .text } → Blocks doc d p (onR k n (d .at) (drop (d .at) doc)) b R R' T T' → Behind b
-    behind-on d b e h w =
-        let u = gap-one e in
-        let z : d .at ≡ c .at + 1 = ap (λ (m : Cursor). m .at) h in
-        block-from doc c d p (c .at + 1) _ _ b R R' T T' (rest-on (onR k n) (nestedR k (suc (suc n))) doc (c .at) (u .0) (u .1) ∙ ap (λ (i : ℕ). onR k n i (drop i doc)) (sym z)) (omega arith) h w
+    pub behind-on : (d : Cursor) (b : Block) → x ≡ Ok d → Blocks doc d p (onR k n (d .at) (drop (d .at) doc)) b R R' T T' → Behind b
+    behind-on d b e w =
+        let u = gap-one d e in
+        let z : d .at ≡ c .at + 1 = ap (λ (m : Cursor). m .at) (u .next) in
+        block-from doc c d p (c .at + 1) _ _ b R R' T T' (rest-on (onR k n) (nestedR k (suc (suc n))) doc (c .at) (u .space) (u .single) ∙ ap (λ (i : ℕ). onR k n i (drop i doc)) (sym z)) (omega arith) (u .next) w
 
-    below-is : x ≡ false → restR (onR k n) (nestedR k (suc (suc n))) (c .at) (drop (c .at) doc) ≡ bind (endsR false (c .at) (drop (c .at) doc)) (λ _. nestedR k (suc (suc n)))
-    below-is e = rest-below (onR k n) (nestedR k (suc (suc n))) doc (c .at) (rw e at g)
+    below-is : (q : ℕ) → x ≡ No q → restR (onR k n) (nestedR k (suc (suc n))) (c .at) (drop (c .at) doc) ≡ bind (endsR false (c .at) (drop (c .at) doc)) (λ _. nestedR k (suc (suc n)))
+    below-is q e = rest-below (onR k n) (nestedR k (suc (suc n))) doc c q (rw e at g)
 
-    module _ (s : Skip) (e : x ≡ false) (h : Skips doc (c .at) (endsR false (c .at) (drop (c .at) doc)) s) where
+    module _ (s : Skip) (y : ℕ) (e : x ≡ No y) (h : Skips doc (c .at) (endsR false (c .at) (drop (c .at) doc)) s) where
       pub behind-bad : (q : ℕ) → s ≡ the-variants.Bad q → Behind (Bad q)
       unfolding Skips
       behind-bad q z =
-          let y : endsR false (c .at) (drop (c .at) doc) ≡ bad q = rw z at h in
-          Laws.not-block doc c p _ R R' T T' q (below-is e ∙ ap (λ (o : Out ℕ). bind o (λ _. nestedR k (suc (suc n)))) y)
+          let k′ : endsR false (c .at) (drop (c .at) doc) ≡ bad q = rw z at h in
+          Laws.not-block doc c p _ R R' T T' q (below-is y e ∙ ap (λ (o : Out ℕ). bind o (λ _. nestedR k (suc (suc n)))) k′)
 
       pub behind-nested : (a j : ℕ) (d : Cursor) (b : Block) → s ≡ the-variants.End a → d ≡ record { at = a; row = c .row; text = c .text } → j ≡ n + 2
           → Blocks doc d p (nestedR k j (d .at) (drop (d .at) doc)) b R R' T T' → Behind b
       unfolding Skips
-      behind-nested a j d b z y i w =
+      behind-nested a j d b z f i w =
           let v : Ends doc (c .at) (endsR false (c .at) (drop (c .at) doc)) a = rw z at h in
-          let u : d .at ≡ a = ap (λ (m : Cursor). m .at) y in
+          let u : d .at ≡ a = ap (λ (m : Cursor). m .at) f in
           let t : j ≡ suc (suc n) = omega arith in
           block-from doc c d p a _ _ b R R' T T'
-          (below-is e ∙ (ap (λ (o : Out ℕ). bind o (λ _. nestedR k (suc (suc n)))) (v .is) ∙ rw (u, t) refl))
+          (below-is y e ∙ (ap (λ (o : Out ℕ). bind o (λ _. nestedR k (suc (suc n)))) (v .is) ∙ rw (u, t) refl))
           (v .behind)
-          y
+          f
           w
 
 pub ended-ready : (doc : List ℕ) (c d : Cursor) (o : Out ℕ) (s : Skip) (a : ℕ) → Ready doc c → Skips doc (c .at) o s → s ≡ the-variants.End a
@@ -166,20 +172,27 @@ module _ (doc : List ℕ) (c : Cursor) (p : ℕ) (a : Ans) (R R' T T' : List ℕ
     unfolding Members memberR propertyR
     property-none q e = ap (λ (o : Out Tree). bind o (λ ky. seqR (byteR (is (only 58))) λ _. mapR (field ky) (restR (onR k n) (nestedR k (suc (suc n)))))) (Laws.refusal doc c p _ R R' T T' a q e w)
 
-  module _ (m : Cursor) (b : ℕ) (e : a ≡ Ok m) (h : b ≡ peek doc (m .at)) where
+  module _ (m : Cursor) (t : Ans) (e : a ≡ Ok m) (h : Takes doc m 58 t) where
     got : Taken doc c p (keyR (c .at) (drop (c .at) doc)) m 0 R R' T T'
     got = Laws.taken doc c p _ R R' T T' a m e w
 
     module _ (k n : ℕ) where
-      pub property-cut : (b ≡ 58 → ⊥) → Members true doc c p (memberR true k n (c .at) (drop (c .at) doc)) (Bad (m .at)) R R' T T'
+      pub property-cut : (q : ℕ) → t ≡ No q → Members true doc c p (memberR true k n (c .at) (drop (c .at) doc)) (Bad q) R R' T T'
       unfolding Members memberR propertyR
-      property-cut z =
+      property-cut q z =
           ap (λ (o : Out Tree). bind o (λ ky. seqR (byteR (is (only 58))) λ _. mapR (field ky) (restR (onR k n) (nestedR k (suc (suc n)))))) (got .is)
-          ∙ ap (λ (o : Out ℕ). bind o (λ _. mapR (field (got .tree)) (restR (onR k n) (nestedR k (suc (suc n)))))) (byte-not doc (m .at) 58 b (omega arith) h z)
+          ∙ (ap (λ (o : Out ℕ). bind o (λ _. mapR (field (got .tree)) (restR (onR k n) (nestedR k (suc (suc n)))))) (byte-not doc (m .at) 58 (peek doc (m .at)) (omega arith) refl (Laws.take-other doc m 58 t h q z))
+          ∙ ap bad (sym (Laws.take-place doc m 58 t h q z)))
 
-    module _ (d : Cursor) (z : b ≡ 58) (y : d ≡ record { at = m .at + 1; row = m .row; text = m .text }) where
+    module _ (d : Cursor) (z : t ≡ Ok d) where
+      y : d ≡ onward m 1
+      y = Laws.take-next doc m 58 t h d z
+
+      colon : 58 ≡ peek doc (m .at)
+      colon = Laws.take-byte doc m 58 t h d z
+
       colon-in : m .at + 1 ≤ length doc
-      colon-in = let i = peek-in doc (m .at) b h (omega arith) in omega arith
+      colon-in = let i = peek-in doc (m .at) 58 colon (omega arith) in omega arith
 
       pub property-ready : Stands doc c → Ready doc d
       property-ready r =
@@ -193,7 +206,7 @@ module _ (doc : List ℕ) (c : Cursor) (p : ℕ) (a : Ans) (R R' T T' : List ℕ
         property-is =
             let u : d .at ≡ m .at + 1 = ap (λ (x : Cursor). x .at) y in
             ap (λ (o : Out Tree). bind o (λ ky. seqR (byteR (is (only 58))) λ _. mapR (field ky) (restR (onR k n) (nestedR k (suc (suc n)))))) (got .is)
-            ∙ (ap (λ (o : Out ℕ). bind o (λ _. mapR (field (got .tree)) (restR (onR k n) (nestedR k (suc (suc n)))))) (byte-is doc (m .at) 58 b (omega arith) h z)
+            ∙ (ap (λ (o : Out ℕ). bind o (λ _. mapR (field (got .tree)) (restR (onR k n) (nestedR k (suc (suc n)))))) (byte-is doc (m .at) 58 58 (omega arith) colon refl)
             ∙ rw u (map-fmap (field (got .tree)) (restR (onR k n) (nestedR k (suc (suc n))) (m .at + 1) (drop (m .at + 1) doc))))
 
         pub property-got : (r : Block) → Blocks doc d p (restR (onR k n) (nestedR k (suc (suc n))) (d .at) (drop (d .at) doc)) r R' R'' T' T''

@@ -1,5 +1,5 @@
 -- What members, blocks, nested bullets, items and nested content have to show at their returns and calls, from what the tests and the calls on the way say. Assumes nothing.
-use mathlib.Core.Path.{_≡_, refl, sym, ap, _∙_}
+use mathlib.Core.Path.{_≡_, refl, sym, ap, subst, _∙_}
 use mathlib.Core.List.{List, [], _∷_}
 use mathlib.Core.Bool.{Bool, true, false}
 use Prim.Native.Nat.{ℕ, zero, suc, _+_, _-_, _*_, _≤_, _<_, max}
@@ -11,15 +11,18 @@ use Rattle.language.specs.Tree.{Tree, entry, sizes, width, rowList}
 use Rattle.exact.specs.Out.{Out, Reader, bind, fmap, bad}
 use Rattle.exact.specs.Answers.{map-fmap}
 use Rattle.exact.specs.Comb.{mapR}
-use Rattle.exact.specs.Place.{common, common-in, word-all, word-part, common-most}
 use Rattle.exact.specs.Block.{lead}
 use Rattle.exact.specs.Lines.{spaces, indented-ok, indented-bad}
 use Rattle.rooms.specs.declared.Cursor.{Cursor}
+use Rattle.rooms.specs.declared.Ans.{Ans}
+use Rattle.rooms.specs.declared.Ans.the-variants.{Ok, No}
 use Rattle.rooms.specs.declared.Block.{Block}
 use Rattle.rooms.specs.declared.Block.the-variants.{Done, Bad}
-use Rattle.rooms.specs.Contract.{ample, Ready, Blocks}
+use Rattle.rooms.specs.Contract.{ample, onward, Ready, Blocks}
 use Rattle.rooms.specs.Indent.{spaces-lead}
 use Rattle.rooms.specs.Laws
+use Rattle.inline.specs.Contract.{Passed}
+use Rattle.inline.specs.Passes.{passed-in, word-two, word-none}
 use Rattle.inline.specs.Written.{written-one}
 use Rattle.strings.specs.Keys.{keyR}
 use Rattle.blocks.specs.Or.{merge}
@@ -57,27 +60,29 @@ module _ (doc : List ℕ) (c : Cursor) (p k n : ℕ) (o : Bool) (R R' T T' : Lis
       → Members o doc c p (memberR o k n (c .at) (drop (c .at) doc)) b R R' T T'
   member-property b e w = rw e w
 
-  module _ (i : ℕ) (e : o ≡ false) (h : i ≡ common (45 ∷ 32 ∷ []) (drop (c .at) doc)) where
-    pub member-cut : i < 2 → Members o doc c p (memberR o k n (c .at) (drop (c .at) doc)) (Bad (c .at + i)) R R' T T'
+  module _ (a : Ans) (e : o ≡ false) (h : Passed doc c 45 32 a) where
+    pub member-cut : (q : ℕ) → a ≡ No q → Members o doc c p (memberR o k n (c .at) (drop (c .at) doc)) (Bad q) R R' T T'
     unfolding Members memberR dashedR
-    member-cut l =
+    member-cut q l =
         rw e
-        (ap (λ (u : Out ℕ). bind u (λ _. mapR (entry (c .at)) (itemR k (suc (suc n))))) (word-part (45 ∷ 32 ∷ []) (c .at) (drop (c .at) doc) (λ z. omega arith))
-        ∙ ap (λ (j : ℕ). bad (c .at + j)) (sym h))
+        (ap (λ (u : Out ℕ). bind u (λ _. mapR (entry (c .at)) (itemR k (suc (suc n))))) (word-none doc c 45 32 (omega arith) (omega arith) q (rw l at h)))
 
-    module _ (m : Cursor) (l : 2 ≤ i) (f : m ≡ record { at = c .at + 2; row = c .row; text = c .text }) where
-      common-two : common (45 ∷ 32 ∷ []) (drop (c .at) doc) ≡ 2
-      common-two = let b : common (45 ∷ 32 ∷ []) (drop (c .at) doc) ≤ 2 = common-most (45 ∷ 32 ∷ []) (drop (c .at) doc) in omega arith
+    module _ (m : Cursor) (l : a ≡ Ok m) where
+      went : (m ≡ onward c 2) × (c .at + 2 ≤ length doc)
+      went = passed-in doc c m 45 32 (omega arith) (rw l at h)
+
+      f : m ≡ onward c 2
+      f = went .0
 
       pub member-ready : Stands doc c → Ready doc m
-      member-ready r = let y = common-in (45 ∷ 32 ∷ []) doc (c .at) i h (r .inside) in rw f (record { small = r .small; inside = omega arith; fewRows = omega (arith, r .fewRows); fewText = omega (arith, r .fewText) })
+      member-ready r = rw f (record { small = r .small; inside = went .1; fewRows = omega (arith, r .fewRows); fewText = omega (arith, r .fewText) })
 
       member-is : memberR false k n (c .at) (drop (c .at) doc) ≡ fmap (entry (c .at)) (itemR k (suc (suc n)) (m .at) (drop (m .at) doc))
       unfolding memberR dashedR
       member-is =
           let u : m .at ≡ c .at + 2 = ap (λ (x : Cursor). x .at) f in
-          ap (λ (u : Out ℕ). bind u (λ _. mapR (entry (c .at)) (itemR k (suc (suc n))))) (word-all (45 ∷ 32 ∷ []) (c .at) (drop (c .at) doc) common-two)
-          ∙ rw (drop-drop 2 (c .at) doc, u) (map-fmap (entry (c .at)) (itemR k (suc (suc n)) (c .at + 2) (drop (c .at + 2) doc)))
+          ap (λ (u : Out ℕ). bind u (λ _. mapR (entry (c .at)) (itemR k (suc (suc n))))) (word-two doc c 45 32 (omega arith) (omega arith) m (rw l at h))
+          ∙ rw u (map-fmap (entry (c .at)) (itemR k (suc (suc n)) (c .at + 2) (drop (c .at + 2) doc)))
 
       pub member-item : (j : ℕ) (b : Block) → j ≡ n + 2 → Blocks doc m p (itemR k j (m .at) (drop (m .at) doc)) b R R' T T'
           → Members o doc c p (memberR o k n (c .at) (drop (c .at) doc)) b R R' T T'
@@ -155,7 +160,7 @@ module _ (o : Bool) (k n : ℕ) (doc : List ℕ) (c : Cursor) (R₀ T₀ : List 
               next-fits = omega (arith, r .small, v .inside, v .row, v .fewRows, y .fewRows);
             }
 
-        module _ (x : Next) (fl : Follows o doc (m .at) n x) where
+        module _ (x : Next) (fl : Follows o doc m n x) where
           pub block-done : (p q g h i : ℕ) (R'' : List ℕ) → x ≡ Over q → g ≡ max far f → h ≡ max g q → i ≡ cnt + 1
               → R'' ≡ sets R' (width * c .row) (rowList (kindOf o) (c .at) e 0 i p (m .row))
               → Blocks doc c p (blockR o k n (c .at) (drop (c .at) doc)) (Done m h e) R₀ R'' T₀ T'
@@ -164,14 +169,17 @@ module _ (o : Bool) (k n : ℕ) (doc : List ℕ) (c : Cursor) (R₀ T₀ : List 
               let d : Ended o doc (m .at) n q = rw y at fl in
               rw (v, u) (Blocks.block-last o k n doc c R₀ T₀ R T R' T' cur m far cnt f e l got p q R'' d (rw j at s))
 
-          pub block-again : (b g : ℕ) (d : Cursor) → x ≡ More b → g ≡ max far f → d ≡ record { at = b; row = m .row; text = m .text }
-              → Blocks.Loop o k n doc c R₀ T₀ R' T' d g (cnt + 1)
+          pub block-again : (g : ℕ) (d : Cursor) → x ≡ More d → g ≡ max far f → Blocks.Loop o k n doc c R₀ T₀ R' T' d g (cnt + 1)
           unfolding Follows
-          block-again b g d y u v = let q : Again o doc (m .at) n b = rw y at fl in rw (u, v) (Blocks.loop-more o k n doc c R₀ T₀ R T R' T' cur m far cnt f e l got b q)
+          block-again g d y u =
+              let q : Again o doc (m .at) n (d .at) × (d ≡ record { at = d .at; row = m .row; text = m .text }) = rw y at fl in
+              rw u (subst (λ (z : Cursor). Blocks.Loop o k n doc c R₀ T₀ R' T' z (max far f) (cnt + 1)) (sym (q .1)) (Blocks.loop-more o k n doc c R₀ T₀ R T R' T' cur m far cnt f e l got (d .at) (q .0)))
 
-          pub block-falls : (b : ℕ) (d : Cursor) → x ≡ More b → d ≡ record { at = b; row = m .row; text = m .text } → length doc - d .at < length doc - cur .at
+          pub block-falls : (d : Cursor) → x ≡ More d → length doc - d .at < length doc - cur .at
           unfolding Follows
-          block-falls b d y v = let q : Again o doc (m .at) n b = rw y at fl in rw v (Blocks.loop-falls o k n doc c R₀ T₀ R T R' T' cur m far cnt f e l got b q)
+          block-falls d y =
+              let q : Again o doc (m .at) n (d .at) × (d ≡ record { at = d .at; row = m .row; text = m .text }) = rw y at fl in
+              Blocks.loop-falls o k n doc c R₀ T₀ R T R' T' cur m far cnt f e l got (d .at) (q .0)
 
 -- ---- a nested bullet
 
@@ -253,10 +261,11 @@ module _ (doc : List ℕ) (c : Cursor) (p n : ℕ) (b : Block) (R R' T T' : List
 -- ---- nested content
 
 module _ (doc : List ℕ) (c : Cursor) (p n i : ℕ) (R R' T T' : List ℕ) (h : i ≡ lead n (drop (c .at) doc)) where
-  pub nested-cut : (k : ℕ) → i < n → Blocks doc c p (nestedR k n (c .at) (drop (c .at) doc)) (Bad (c .at + i)) R R' T T'
-  nested-cut k l =
+  pub nested-cut : (k : ℕ) (m : Cursor) → m ≡ record { at = c .at + i; row = c .row; text = c .text } → i < n → Blocks doc c p (nestedR k n (c .at) (drop (c .at) doc)) (Bad (m .at)) R R' T T'
+  nested-cut k m f l =
       let s = spaces-lead n (drop (c .at) doc) in
-      Laws.not-block doc c p _ R R' T T' (c .at + i) (indented-bad n (nestedHereR k n) (c .at) (drop (c .at) doc) (omega arith) ∙ ap (λ (j : ℕ). bad (c .at + j)) (s ∙ sym h))
+      Laws.not-block doc c p _ R R' T T' (m .at)
+      (indented-bad n (nestedHereR k n) (c .at) (drop (c .at) doc) (omega arith) ∙ (ap (λ (j : ℕ). bad (c .at + j)) (s ∙ sym h) ∙ ap bad (sym (ap (λ (x : Cursor). x .at) f))))
 
   module _ (m : Cursor) (l : n ≤ i) (u : i ≤ n) (f : m ≡ record { at = c .at + i; row = c .row; text = c .text }) where
     pub nested-ready : Ready doc c → c .at + i ≤ length doc → Ready doc m

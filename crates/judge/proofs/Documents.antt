@@ -10,7 +10,8 @@ use borrow.Author.Needs.{needs}
 use borrow.Author.Tests.{le-leb, lt-leb, lt-ltb, le-ltb}
 use Rattle.language.specs.Tree.{Tree}
 use Rattle.language.specs.Document.{Document}
-use Rattle.language.specs.Answered.{limit, deepest, Stops}
+use Rattle.language.specs.declared.Answer.the-variants.{Char, Syntax, Deep, End}
+use Rattle.language.specs.Answered.{limit, deepest}
 use Rattle.exact.specs.Verdict.{Tail, Far, Verdict, acc, stop, stops}
 use Rattle.exact.specs.Class.{is, only, only-yes, only-no}
 use Rattle.exact.specs.Out.{Out, Reader, bind, fmap, finish, Tamed, Tame, forward, tamed-less, ok, bad, t-ok, t-soft, t-bad}
@@ -41,6 +42,7 @@ use Rattle.blocks.specs.Judged.{judge, Judged, judged}
 use Rattle.judge.specs.declared.Start.{Start}
 use Rattle.judge.specs.declared.Start.the-variants.{Dash, Key, Line}
 use Rattle.judge.specs.Members.{blockR, array-block, object-block}
+use Rattle.judge.specs.Blamed.{Blamed}
 use Rattle.judge.specs.Contract.{feedR, endR as lineEnd, Looked, later, commentLineR, Finished, Known, Checked, Filled}
 use Rattle.judge.proofs.Lining.{later-block}
 use Rattle.judge.proofs.Containers.{looked-dash, looked-key, looked-line}
@@ -156,17 +158,6 @@ module _ (doc : List ℕ) (at b : ℕ) (l : Headed doc at) (h : b ≡ peek doc a
       stop-hash zero t = refl
       stop-hash (suc k) (byte-there q) = rw (q, only-no 35 (peek doc at) (λ z. e (h ∙ z))) refl
       stop-hash (suc k) (none-there q z) = rw q refl
-
--- ---- blank lines
-
-pub blank-stop : (doc : List ℕ) (at e : ℕ) → runEnd (only 10) doc at ≡ runEnd (only 10) doc e → (getD doc e 0 ≡ 10 → ⊥) → e < length doc → e ≡ runEnd (only 10) doc at
-blank-stop doc at e h k l = sym (h ∙ run-none (only 10) doc e refl (only-no 10 (peek doc e) (λ z. k (getD-any doc e 0 256 l ∙ z))))
-
-pub blank-over : (doc : List ℕ) (at e : ℕ) → runEnd (only 10) doc at ≡ runEnd (only 10) doc e → length doc ≤ e → e ≡ runEnd (only 10) doc at
-blank-over doc at e h l = sym (h ∙ run-over (only 10) doc e l)
-
-pub blank-more : (doc : List ℕ) (at e : ℕ) → runEnd (only 10) doc at ≡ runEnd (only 10) doc e → getD doc e 0 ≡ 10 → e < length doc → runEnd (only 10) doc at ≡ runEnd (only 10) doc (e + 1)
-blank-more doc at e h k l = h ∙ run-more (only 10) doc e l (only-yes 10 (peek doc e) (sym (getD-any doc e 0 256 l) ∙ k))
 
 -- ---- the root
 
@@ -319,42 +310,48 @@ module _ (doc : List ℕ) (p : ℕ) (h : verdict deepest doc ≡ stop p) where
   told : (g : Answer Tree) → judge doc ≡ g → Judged doc g
   told g e = subst (Judged doc) e (judged doc)
 
-  pub blame-end : length doc ≤ p → Stops doc 5 p
+  pub blame-end : length doc ≤ p → Blamed doc (End (record { 0 = p }))
   unfolding judge
   blame-end l =
       let v = far-of (subst (Verdict (Document deepest) 0 doc) h (exact deepest doc)) in
       let e : p ≡ length doc = omega (arith, v .here, v .within) in
-      rw e (told (refused-end (length doc)) (rw (h, le-leb (length doc) p l) refl))
+      record { stops = rw e (told (refused-end (length doc)) (rw (h, le-leb (length doc) p l) refl)); alone = refl }
 
   module _ (a : Ans) (l : p < length doc) (w : Checked (deepest + 1) doc a) where
-    pub blame-deep : (n : Cursor) → a ≡ Ok n → Stops doc 4 p
+    pub blame-deep : (n : Cursor) → a ≡ Ok n → Blamed doc (Deep (record { 0 = p }))
     unfolding judge Checked
     blame-deep n e =
         let k : Known (deepest + 1) doc n = rw e at w in
-        told (refused-deep p) (rw (h, lt-leb (length doc) p l, k .is) refl)
+        record { stops = told (refused-deep p) (rw (h, lt-leb (length doc) p l, k .is) refl); alone = refl }
 
     module _ (q : ℕ) (e : a ≡ No q) where
       second : verdict (deepest + 1) doc ≡ stop q
       unfolding Checked
       second = rw e at w
 
-      pub blame-later : p < q → Stops doc 4 p
+      pub blame-later : p < q → Blamed doc (Deep (record { 0 = p }))
       unfolding judge
-      blame-later k = told (refused-deep p) (rw (h, lt-leb (length doc) p l, second, lt-ltb p q k) refl)
+      blame-later k = record { stops = told (refused-deep p) (rw (h, lt-leb (length doc) p l, second, lt-ltb p q k) refl); alone = refl }
 
-      pub blame-char : (x : Bool) → q ≤ p → x ≡ bad-char p doc → x ≡ true → Stops doc 2 p
+      pub blame-char : (x : Bool) → q ≤ p → x ≡ bad-char p doc → x ≡ true → Blamed doc (Char (record { 0 = p }))
       unfolding judge
-      blame-char x k f g = told (refused-char p) (rw (h, lt-leb (length doc) p l, second, le-ltb p q k, sym f ∙ g) refl)
+      blame-char x k f g = record { stops = told (refused-char p) (rw (h, lt-leb (length doc) p l, second, le-ltb p q k, sym f ∙ g) refl); alone = refl }
 
-      pub blame-here : (x : Bool) → q ≤ p → x ≡ bad-char p doc → x ≡ false → Stops doc 3 p
+      pub blame-here : (x : Bool) → q ≤ p → x ≡ bad-char p doc → x ≡ false → Blamed doc (Syntax (record { 0 = p }))
       unfolding judge
-      blame-here x k f g = told (refused-syntax p) (rw (h, lt-leb (length doc) p l, second, le-ltb p q k, sym f ∙ g) refl)
+      blame-here x k f g = record { stops = told (refused-syntax p) (rw (h, lt-leb (length doc) p l, second, le-ltb p q k, sym f ∙ g) refl); alone = refl }
 
 pub ruleset blaming = (blame-end, blame-deep, blame-later, blame-char, blame-here, needs)
 
-pub ruleset heading = (comment-bad, comment-in, comment-fed, head-bad, head-more, head-falls, head-last, needs)
+-- the cursor moved behind a comment
+module _ (doc : List ℕ) (n : ℕ) (c d : Cursor) (e : d ≡ record { at = n; row = c .row; text = c .text }) where
+  pub head-on : Headed doc n → Headed doc (d .at)
+  head-on h = rw e h
 
-pub ruleset blanking = (blank-stop, blank-over, blank-more, needs)
+  pub head-nearer : (at : ℕ) → length doc - n < length doc - at → length doc - d .at < length doc - at
+  head-nearer at h = rw e h
+
+pub ruleset heading = (head-on, head-nearer, comment-bad, comment-in, comment-fed, head-bad, head-more, head-falls, head-last, needs)
 
 pub ruleset rooting = (root-none, root-dash, root-key, root-other, needs)
 

@@ -14,13 +14,14 @@ use borrow.Author.Tests.{eqb-true, eqb-false}
 use Rattle.language.specs.Strings.{keybyte}
 use Rattle.exact.specs.Class.{Class, _to_, within, or, is, only, or-of, range-of, only-eq, only-yes, only-no}
 use Rattle.exact.specs.Out.{Out, bind, reach, bad}
-use Rattle.exact.specs.Place.{peek, peek-in, peek-cons, There, byte-there, none-there, there, byte-is, byte-not}
+use Rattle.exact.specs.Lang.{byteR}
+use Rattle.exact.specs.Place.{peek, peek-cons, There, byte-there, none-there, there}
 use Rattle.exact.specs.Block.{ind, lead}
 use Rattle.exact.specs.Lines.{spaces, ind-short, ind-full, ind-peek}
 use Rattle.rooms.specs.declared.Cursor.{Cursor}
 use Rattle.rooms.specs.declared.Ans.{Ans}
 use Rattle.rooms.specs.declared.Ans.the-variants.{Ok, No}
-use Rattle.rooms.specs.Contract.{Answers}
+use Rattle.rooms.specs.Contract.{Takes, Answers}
 use Rattle.rooms.specs.Indent.{spaces-lead}
 use Rattle.rooms.specs.Laws
 use Rattle.characters.specs.declared.Skip.{Skip}
@@ -46,27 +47,25 @@ eqb-is a b = go (eqb b a) refl
 
 -- ---- a space
 
-module _ (doc : List ℕ) (at b : ℕ) (h : b ≡ peek doc at) where
-  pub gap-none : (b ≡ 32 → ⊥) → Gap doc at false
-  gap-none k = no-space (λ e. k (h ∙ e))
+module _ (doc : List ℕ) (c : Cursor) (t : Ans) (h : Takes doc c 32 t) where
+  pub gap-none : (p : ℕ) → t ≡ No p → Gap doc c (No p)
+  gap-none p e = no-space p (Laws.take-other doc c 32 t h p e)
 
-  pub gap-two : (y : ℕ) → b ≡ 32 → y ≡ peek doc (at + 1) → y ≡ 32 → Gap doc at false
-  gap-two y e g k = two-spaces (sym e ∙ h) (sym k ∙ g)
+  module _ (n : Cursor) (y : ℕ) (e : t ≡ Ok n) (g : y ≡ peek doc (n .at)) where
+    behind : y ≡ peek doc (c .at + 1)
+    behind = g ∙ ap (λ (m : Cursor). peek doc (m .at)) (Laws.take-next doc c 32 t h n e)
 
-  pub gap-one : (y : ℕ) → b ≡ 32 → y ≡ peek doc (at + 1) → (y ≡ 32 → ⊥) → Gap doc at true
-  gap-one y e g k = one-space (sym e ∙ h) (λ z. k (g ∙ z))
+    pub gap-two : y ≡ 32 → Gap doc c (No (c .at))
+    gap-two k = two-spaces (c .at) (Laws.take-byte doc c 32 t h n e) (sym k ∙ behind)
 
-  -- ---- the end of a line
+    pub gap-one : (y ≡ 32 → ⊥) → Gap doc c (Ok n)
+    gap-one k = rw (Laws.take-next doc c 32 t h n e) (one-space (Laws.take-byte doc c 32 t h n e) (λ z. k (behind ∙ z)))
 
-  pub feed-yes : b ≡ 10 → Skips doc at (feedR at (drop at doc)) (End (at + 1))
-  unfolding Skips feedR
-  feed-yes e =
-      let i = peek-in doc at b h (omega arith) in
-      record { value = 10; is = byte-is doc at 10 b (omega arith) h e; behind = omega arith; inside = omega arith }
+-- ---- the end of a line
 
-  pub feed-no : (b ≡ 10 → ⊥) → Skips doc at (feedR at (drop at doc)) (Bad at)
-  unfolding Skips feedR
-  feed-no k = byte-not doc at 10 b (omega arith) h k
+pub feed-taken : (doc : List ℕ) (at : ℕ) (r : Skip) → Skips doc at (byteR (is (only 10)) at (drop at doc)) r → Skips doc at (feedR at (drop at doc)) r
+unfolding feedR
+feed-taken doc at r h = h
 
 module _ (doc : List ℕ) (at : ℕ) (root : Bool) where
   pub ends-feed : (r : Skip) → root ≡ true → Skips doc at (feedR at (drop at doc)) r → Skips doc at (endsR root at (drop at doc)) r
@@ -126,55 +125,63 @@ module _ (b : ℕ) where
 
 -- ---- the next line of a block
 
-module _ (o : Bool) (doc : List ℕ) (at n i : ℕ) (h : i ≡ lead n (drop at doc)) (l : at + i ≤ length doc) where
-  pub line-short : i < n → Follows o doc at n (Over (at + i))
+module _ (o : Bool) (doc : List ℕ) (c : Cursor) (n i : ℕ) (h : i ≡ lead n (drop (c .at) doc)) (l : c .at + i ≤ length doc) (d : Cursor) (on : d ≡ record { at = c .at + i; row = c .row; text = c .text }) where
+  ends-at : d .at ≡ c .at + lead n (drop (c .at) doc)
+  ends-at = ap (λ (m : Cursor). m .at) on ∙ ap (c .at +_) h
+
+  pub line-short : i < n → Follows o doc c n (Over (d .at))
   unfolding Follows
   line-short k =
       record {
-        none = ind-short (is (firsts o)) n (drop at doc) (omega (arith, spaces-lead n (drop at doc)));
-        upto = ap (at +_) h;
-        inside = l;
+        none = ind-short (is (firsts o)) n (drop (c .at) doc) (omega (arith, spaces-lead n (drop (c .at) doc)));
+        upto = ends-at;
+        inside = omega (arith, ap (λ (m : Cursor). m .at) on);
       }
 
-  full-look : n ≤ i → i ≤ n → (b : ℕ) → b ≡ peek doc (at + i) → ind (is (firsts o)) n (drop at doc) ≡ is (firsts o) b
+  full-look : n ≤ i → i ≤ n → (b : ℕ) → b ≡ peek doc (d .at) → ind (is (firsts o)) n (drop (c .at) doc) ≡ is (firsts o) b
   full-look k m b g =
       let e : i ≡ n = omega arith in
-      let s : spaces n (drop at doc) ≡ n = spaces-lead n (drop at doc) ∙ (sym h ∙ e) in
-      ind-full (is (firsts o)) n (drop at doc) s
-      ∙ (ap (ind (is (firsts o)) 0) (drop-drop n at doc)
-      ∙ (ind-peek (firsts o) doc (at + n) (past o) ∙ ap (is (firsts o)) (ap (λ (j : ℕ). peek doc (at + j)) (sym e) ∙ sym g)))
+      let s : spaces n (drop (c .at) doc) ≡ n = spaces-lead n (drop (c .at) doc) ∙ (sym h ∙ e) in
+      let z : c .at + n ≡ d .at = omega (arith, ap (λ (m : Cursor). m .at) on) in
+      ind-full (is (firsts o)) n (drop (c .at) doc) s
+      ∙ (ap (ind (is (firsts o)) 0) (drop-drop n (c .at) doc)
+      ∙ (ind-peek (firsts o) doc (c .at + n) (past o) ∙ ap (is (firsts o)) (ap (peek doc) z ∙ sym g)))
     where
       past : (o : Bool) → is (firsts o) 256 ≡ false
       past false = refl
       past true = refl
 
-  pub line-more : (b : ℕ) (x : Bool) → n ≤ i → i ≤ n → b ≡ peek doc (at + i) → x ≡ is (firsts o) b → x ≡ true → Follows o doc at n (More (at + i))
+  pub line-more : (b : ℕ) (x : Bool) → n ≤ i → i ≤ n → b ≡ peek doc (d .at) → x ≡ is (firsts o) b → x ≡ true → Follows o doc c n (More d)
   unfolding Follows
   line-more b x k m g y z =
       let e : i ≡ n = omega arith in
-      record { begins = full-look k m b g ∙ (sym y ∙ z); there = ap (at +_) e; full = sym h ∙ e }
+      let t : d .at ≡ c .at + n = omega (arith, ap (λ (m : Cursor). m .at) on) in
+      (record { begins = full-look k m b g ∙ (sym y ∙ z); there = t; full = sym h ∙ e }, rw on refl)
 
-  pub line-other : (b : ℕ) (x : Bool) → n ≤ i → i ≤ n → b ≡ peek doc (at + i) → x ≡ is (firsts o) b → x ≡ false → Follows o doc at n (Over (at + i))
+  pub line-other : (b : ℕ) (x : Bool) → n ≤ i → i ≤ n → b ≡ peek doc (d .at) → x ≡ is (firsts o) b → x ≡ false → Follows o doc c n (Over (d .at))
   unfolding Follows
   line-other b x k m g y z =
-      record { none = full-look k m b g ∙ (sym y ∙ z); upto = ap (at +_) h; inside = l }
+      record { none = full-look k m b g ∙ (sym y ∙ z); upto = ends-at; inside = omega (arith, ap (λ (m : Cursor). m .at) on) }
 
 -- ---- how a block begins
 
-module _ (doc : List ℕ) (at b : ℕ) (h : b ≡ peek doc at) where
-  pub dash-none : (b ≡ 45 → ⊥) → false ≡ dashed (drop at doc)
-  dash-none k = sym (go (there doc at))
+module _ (doc : List ℕ) (c : Cursor) (t : Ans) (h : Takes doc c 45 t) where
+  pub dash-none : (p : ℕ) → t ≡ No p → false ≡ dashed (drop (c .at) doc)
+  dash-none p k = sym (go (there doc (c .at)))
     where
-      go : There doc at → dashed (drop at doc) ≡ false
-      go (byte-there e) = rw (e, only-no 45 (peek doc at) (λ z. k (h ∙ z))) refl
+      go : There doc (c .at) → dashed (drop (c .at) doc) ≡ false
+      go (byte-there e) = rw (e, only-no 45 (peek doc (c .at)) (Laws.take-other doc c 45 t h p k)) refl
       go (none-there e z) = rw e refl
 
-  pub dash-some : (y : ℕ) → b ≡ 45 → y ≡ peek doc (at + 1) → eqb y 32 ≡ dashed (drop at doc)
-  dash-some y e g =
-      let p : drop at doc ≡ 45 ∷ drop (suc at) doc = peek-cons doc at 45 (sym e ∙ h) (omega arith) in
-      rw p (go (there doc (suc at)))
+  pub dash-some : (n : Cursor) (y : ℕ) → t ≡ Ok n → y ≡ peek doc (n .at) → eqb y 32 ≡ dashed (drop (c .at) doc)
+  dash-some n y e f =
+      let p : drop (c .at) doc ≡ 45 ∷ drop (suc (c .at)) doc = peek-cons doc (c .at) 45 (Laws.take-byte doc c 45 t h n e) (omega arith) in
+      rw p (go (there doc (suc (c .at))))
     where
-      go : There doc (suc at) → eqb y 32 ≡ dashed (45 ∷ drop (suc at) doc)
+      g : y ≡ peek doc (c .at + 1)
+      g = f ∙ ap (λ (m : Cursor). peek doc (m .at)) (Laws.take-next doc c 45 t h n e)
+
+      go : There doc (suc (c .at)) → eqb y 32 ≡ dashed (45 ∷ drop (suc (c .at)) doc)
       go (byte-there z) = rw z (eqb-is 32 y ∙ ap (is (only 32)) (rw add-one at g))
       go (none-there z w) = rw z (eqb-is 32 y ∙ ap (is (only 32)) ((rw add-one at g) ∙ w))
 
@@ -212,7 +219,7 @@ module _ (doc : List ℕ) (c : Cursor) (p : ℕ) (R R' T T' : List ℕ) (d : Boo
 
 pub ruleset spacing = (gap-none, gap-two, gap-one, needs)
 
-pub ruleset ending = (feed-yes, feed-no, ends-feed, ends-bad, ends-behind, ends-ok, needs)
+pub ruleset ending = (feed-taken, ends-feed, ends-bad, ends-behind, ends-ok, needs)
 
 pub ruleset following = (begins-double, begins-single, begins-bare, begins-object, begins-array, line-short, line-more, line-other, needs)
 

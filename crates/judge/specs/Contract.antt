@@ -20,7 +20,7 @@ use Rattle.rooms.specs.declared.Ans.{Ans}
 use Rattle.rooms.specs.declared.Ans.the-variants.{Ok, No}
 use Rattle.rooms.specs.declared.Block.{Block}
 use Rattle.rooms.specs.declared.Block.the-variants.{Done, Bad}
-use Rattle.rooms.specs.Contract.{ample}
+use Rattle.rooms.specs.Contract.{ample, onward}
 use Rattle.characters.specs.Comments.{commentR, optionalCommentR}
 use Rattle.strings.specs.Keys.{keyR}
 use Rattle.inline.specs.Written.{Written}
@@ -52,11 +52,11 @@ abbrev pub endR : Bool → Tree → Reader Tree
 endR true = feedEndR
 endR false = commentEndR
 
--- BEHIND A COLON: a space and no second one, or not
-pub data Gap (doc : List ℕ) (at : ℕ) : Bool → Type 0 where
-  one-space : 32 ≡ peek doc at → (peek doc (at + 1) ≡ 32 → ⊥) → Gap doc at true
-  no-space : (peek doc at ≡ 32 → ⊥) → Gap doc at false
-  two-spaces : 32 ≡ peek doc at → 32 ≡ peek doc (at + 1) → Gap doc at false
+-- BEHIND A COLON at c: a space and no second one, taken; or not
+pub data Gap (doc : List ℕ) (c : Cursor) : Ans → Type 0 where
+  one-space : 32 ≡ peek doc (c .at) → (peek doc (c .at + 1) ≡ 32 → ⊥) → Gap doc c (Ok (onward c 1))
+  no-space : (p : ℕ) → (peek doc (c .at) ≡ 32 → ⊥) → Gap doc c (No p)
+  two-spaces : (p : ℕ) → 32 ≡ peek doc (c .at) → 32 ≡ peek doc (c .at + 1) → Gap doc c (No p)
 
 -- A LOOK says how a block begins: with a dash and a space, with a key and a colon, or with neither, and then where the key ends
 pub record Neither (at : ℕ) (s : List ℕ) (p : ℕ) : Type 0 where
@@ -82,7 +82,7 @@ pub record Enclosed (c : Cursor) (e count next : ℕ) : Type 0 where
   pub row-fits : c .row < ample
   pub next-fits : next < ample
 
--- THE NEXT LINE of a block at n: a further member begins at a, or none does, and the line begins one up to p
+-- THE NEXT LINE of a block at n, which begins at `at`: a further member begins at a, or none does, and the line begins one up to p
 pub record Again (o : Bool) (doc : List ℕ) (at n a : ℕ) : Type 0 where
   pub begins : ind (is (firsts o)) n (drop at doc) ≡ true
   pub there : a ≡ at + n
@@ -93,9 +93,9 @@ pub record Ended (o : Bool) (doc : List ℕ) (at n p : ℕ) : Type 0 where
   pub upto : p ≡ at + lead n (drop at doc)
   pub inside : p ≤ length doc
 
-unfoldable pub Follows : Bool → List ℕ → ℕ → ℕ → Next → Type 0
-Follows o doc at n (More a) = Again o doc at n a
-Follows o doc at n (Over p) = Ended o doc at n p
+unfoldable pub Follows : Bool → List ℕ → Cursor → ℕ → Next → Type 0
+Follows o doc c n (More d) = Again o doc (c .at) n (d .at) × (d ≡ record { at = d .at; row = c .row; text = c .text })
+Follows o doc c n (Over p) = Ended o doc (c .at) n p
 
 -- A MEMBER at c: its trees are written with one parent, it ends at e, and n stands behind its lines
 pub record Read (o : Bool) (doc : List ℕ) (c : Cursor) (parent : ℕ) (out : Out (Member o)) (n : Cursor) (far e : ℕ) (R R' T T' : List ℕ) : Type 0 where

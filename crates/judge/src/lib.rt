@@ -1,5 +1,7 @@
 // Blocks and documents: each reader reads at the cursor, writes its rows and its text into the rooms lent as far as those reach, and answers the cursor behind its
 // lines, how far a further line would begin, and where its span ends; or the place where it is refused.
+use rooms::Cursor;
+
 mod lines;
 mod look;
 mod nesting;
@@ -18,6 +20,6 @@ pub enum Start {
 
 // The next line of a block: a further member there, or none, and how far the line begins one.
 pub enum Next {
-    More(usize),
+    More(Cursor),
     Over(usize),
 }

@@ -3,7 +3,6 @@ ghost use mathlib.Core.Path.{_≡_};
 ghost use Prim.Native.Nat.{_≤_};
 ghost use lib.ListN.{length, drop};
 ghost use Rattle.exact.specs.Class.{is};
-ghost use Rattle.exact.specs.Place.{peek};
 ghost use Rattle.rooms.specs.Contract.{Ready};
 ghost use Rattle.characters.specs.Reads.{Skips};
 ghost use Rattle.strings.specs.Keys.{keyS};
@@ -12,25 +11,13 @@ ghost use Rattle.blocks.specs.KeyLook.{dashed};
 ghost use Rattle.judge.specs.Contract.{feedR, endsR, Gap, Looked, Follows};
 use super::Next;
 use super::Start;
+use characters::Reading;
 use characters::Skip;
+use characters::is_key;
 use characters::optional_comment;
 use rooms::Ans;
 use rooms::Cursor;
-use rooms::indent;
-use strings::is_key;
 use strings::key;
-
-// The byte at a place, 256 at the end.
-pub fn byte_at(doc: &[u8], at: usize) -> u32
-    ensures { λ r. ⌜ r ≡ peek (now (doc .entry)) at ⌝ }
-{
-    let c = Cursor {
-        at,
-        row: 0,
-        text: 0,
-    };
-    c.look(&*doc)
-}
 
 // The cursor at another place.
 pub fn moved(c: Cursor, at: usize) -> Cursor
@@ -43,18 +30,19 @@ pub fn moved(c: Cursor, at: usize) -> Cursor
     }
 }
 
-// Whether one space stands at `at`, and no second one.
-pub fn one_space(doc: &[u8], at: usize) -> bool
-    requires { ⌜ at ≤ length (now doc) ⌝ }
-    ensures { λ r. ⌜ Gap (now (doc .entry)) at r ⌝ }
+// One space, taken where no second one stands behind it.
+pub fn one_space(doc: &[u8], c: Cursor) -> Ans
+    ensures { λ r. ⌜ Gap (now (doc .entry)) c r ⌝ }
 {
-    if byte_at(&*doc, at) != 32 {
-        return false;
+    match c.take(&*doc, 32) {
+        Ans::No(p) => Ans::No(p),
+        Ans::Ok(n) => {
+            if n.look(&*doc) == 32 {
+                return Ans::No(c.at);
+            }
+            Ans::Ok(n)
+        }
     }
-    if byte_at(&*doc, at + 1) == 32 {
-        return false;
-    }
-    true
 }
 
 // LF at the root, elsewhere an optional line comment and LF.
@@ -73,13 +61,10 @@ pub fn line_end(doc: &[u8], at: usize, root: bool) -> Skip
 
 // LF.
 pub fn feed(doc: &[u8], at: usize) -> Skip
-    requires { ⌜ at ≤ length (now doc) ⌝ }
     ensures { λ r. ⌜ Skips (now (doc .entry)) at (feedR at (drop at (now (doc .entry)))) r ⌝ }
 {
-    if byte_at(&*doc, at) == 10 {
-        return Skip::End(at + 1);
-    }
-    Skip::Bad(at)
+    let r = Reading { at };
+    r.take(&*doc, 10)
 }
 
 // Whether a key begins with the byte.
@@ -105,19 +90,20 @@ fn begins(b: u32, object: bool) -> bool
     b == 45
 }
 
-// The line at `at`, behind a member of a block at col.
-pub fn further(doc: &[u8], at: usize, col: usize, object: bool) -> Next
-    requires { ⌜ at ≤ length (now doc) ⌝ }
-    ensures { λ r. ⌜ Follows object (now (doc .entry)) at col r ⌝ }
+// The line at the cursor, behind a member of a block at col.
+pub fn further(doc: &[u8], c: Cursor, col: usize, object: bool) -> Next
+    requires { ⌜ c .at ≤ length (now doc) ⌝ }
+    ensures { λ r. ⌜ Follows object (now (doc .entry)) c col r ⌝ }
 {
-    let i = indent(&*doc, at, col);
+    let i = c.indent(&*doc, col);
+    let n = moved(c, c.at + i);
     if i < col {
-        return Next::Over(at + i);
+        return Next::Over(n.at);
     }
-    if begins(byte_at(&*doc, at + i), object) {
-        return Next::More(at + i);
+    if begins(n.look(&*doc), object) {
+        return Next::More(n);
     }
-    Next::Over(at + i)
+    Next::Over(n.at)
 }
 
 // How a block begins at the cursor: a key is read into rooms of no use.
@@ -125,8 +111,7 @@ pub fn starts(doc: &[u8], c: Cursor) -> Start
     requires { ⌜ Ready (now doc) c ⌝ }
     ensures { λ r. ⌜ Looked (now (doc .entry)) (c .at) r ⌝ }
 {
-    let at = c.at;
-    if dash(&*doc, at) {
+    if dash(&*doc, c) {
         return Start::Dash;
     }
     let mut rows = [0u32; 1];
@@ -142,13 +127,12 @@ pub fn starts(doc: &[u8], c: Cursor) -> Start
     }
 }
 
-// Whether a dash and a space stand at `at`.
-fn dash(doc: &[u8], at: usize) -> bool
-    requires { ⌜ at ≤ length (now doc) ⌝ }
-    ensures { λ r. ⌜ r ≡ dashed (drop at (now (doc .entry))) ⌝ }
+// Whether a dash and a space stand at the cursor.
+fn dash(doc: &[u8], c: Cursor) -> bool
+    ensures { λ r. ⌜ r ≡ dashed (drop (c .at) (now (doc .entry))) ⌝ }
 {
-    if byte_at(&*doc, at) != 45 {
-        return false;
+    match c.take(&*doc, 45) {
+        Ans::No(_) => false,
+        Ans::Ok(n) => n.look(&*doc) == 32,
     }
-    byte_at(&*doc, at + 1) == 32
 }

@@ -23,12 +23,11 @@ use super::look::moved;
 use super::look::one_space;
 use super::look::starts;
 use characters::Skip;
+use inline::pass;
 use rooms::Ans;
 use rooms::Block;
 use rooms::Cursor;
 use rooms::greater;
-use rooms::indent;
-use rooms::same;
 
 // What stands behind the colon of a property at col.
 fn behind(
@@ -44,11 +43,10 @@ fn behind(
     requires { ⌜ col + 2 * (allow + 1) ≤ columns ⌝ }
     ensures { λ r. ⌜ Blocks (now (doc .entry)) c parent (restR (onR allow col) (nestedR allow (suc (suc col))) (c .at) (drop (c .at) (now (doc .entry)))) r (now (rows .entry)) (now (rows .exit)) (now (text .entry)) (now (text .exit)) ⌝ }
 {
-    let at = c.at;
-    if one_space(&*doc, at) {
-        return on_line(&*doc, rows, text, moved(c, at + 1), parent, col, allow).anew();
+    if let Ans::Ok(n) = one_space(&*doc, c) {
+        return on_line(&*doc, rows, text, n, parent, col, allow).anew();
     }
-    match line_end(&*doc, at, false) {
+    match line_end(&*doc, c.at, false) {
         Skip::Bad(p) => Block::Bad(p),
         Skip::End(a) => nested(&*doc, rows, text, moved(c, a), parent, col + 2, allow).anew(),
     }
@@ -70,13 +68,10 @@ fn property(
 {
     match key_row(&*doc, rows, text, c, parent) {
         Ans::No(p) => Block::Bad(p),
-        Ans::Ok(n) => {
-            let at = n.at;
-            if n.look(&*doc) != 58 {
-                return Block::Bad(at);
-            }
-            behind(&*doc, rows, text, moved(n, at + 1), parent, col, allow)
-        }
+        Ans::Ok(n) => match n.take(&*doc, 58) {
+            Ans::No(p) => Block::Bad(p),
+            Ans::Ok(m) => behind(&*doc, rows, text, m, parent, col, allow),
+        },
     }
 }
 
@@ -98,12 +93,10 @@ fn member(
     if object {
         return property(&*doc, rows, text, c, parent, col, allow);
     }
-    let at = c.at;
-    let i = same(&*doc, at, b"- ");
-    if i < 2 {
-        return Block::Bad(at + i);
+    match pass(&*doc, c, 45, 32) {
+        Ans::No(p) => Block::Bad(p),
+        Ans::Ok(n) => item(&*doc, rows, text, n, parent, col + 2, allow),
     }
-    item(&*doc, rows, text, moved(c, at + 2), parent, col + 2, allow)
 }
 
 // A block at col whose first member begins at the cursor.
@@ -135,12 +128,12 @@ pub fn block(
             Block::Done(n, f, e) => {
                 far = greater(far, f);
                 count += 1;
-                match further(&*doc, n.at, col, object) {
+                match further(&*doc, n, col, object) {
                     Next::Over(p) => {
                         enclose(rows, c, e, parent, count, n.row, object);
                         return Block::Done(n, greater(far, p), e);
                     }
-                    Next::More(a) => cur = moved(n, a),
+                    Next::More(m) => cur = m,
                 }
             }
         }
@@ -217,12 +210,11 @@ fn nested(
     requires { ⌜ col + 2 * allow ≤ columns ⌝ }
     ensures { λ r. ⌜ Blocks (now (doc .entry)) c parent (nestedR allow col (c .at) (drop (c .at) (now (doc .entry)))) r (now (rows .entry)) (now (rows .exit)) (now (text .entry)) (now (text .exit)) ⌝ }
 {
-    let at = c.at;
-    let i = indent(&*doc, at, col);
+    let i = c.indent(&*doc, col);
+    let n = moved(c, c.at + i);
     if i < col {
-        return Block::Bad(at + i);
+        return Block::Bad(n.at);
     }
-    let n = moved(c, at + i);
     if allow == 0 {
         return nested_line(&*doc, rows, text, n, parent, col);
     }

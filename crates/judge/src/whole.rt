@@ -2,26 +2,28 @@
 ghost use mathlib.Core.Path.{_≡_};
 ghost use Prim.Native.Nat.{_*_, _≤_};
 ghost use lib.ListN.{length, drop};
-ghost use Rattle.exact.specs.Class.{only};
-ghost use Rattle.exact.specs.Place.{runEnd};
 ghost use Rattle.exact.specs.Verdict.{stop};
-ghost use Rattle.language.specs.Answered.{limit, deepest, Stops};
+ghost use Rattle.language.specs.Answered.{limit, deepest};
 ghost use Rattle.rooms.specs.Contract.{columns, Ready, Blocks};
 ghost use Rattle.characters.specs.Reads.{Skips};
 ghost use Rattle.blocks.specs.Root.{rootR};
 ghost use Rattle.blocks.specs.Document.{headR, verdict};
+ghost use Rattle.judge.specs.Blamed.{Blamed};
 ghost use Rattle.judge.specs.Contract.{commentLineR, Finished, Checked, Filled};
 use super::Start;
 use super::lines::kept;
 use super::lines::opener;
-use super::look::byte_at;
 use super::look::feed;
+use super::look::moved;
 use super::look::starts;
 use super::nesting::block;
+use characters::Reading;
 use characters::Skip;
 use characters::bad_char;
 use characters::comment;
+use language::Answer;
 use language::DEEPEST;
+use language::Place;
 use rooms::Ans;
 use rooms::Block;
 use rooms::Cursor;
@@ -41,32 +43,18 @@ fn comment_line(doc: &[u8], at: usize) -> Skip
 fn comments(doc: &[u8]) -> Skip
     ensures { λ r. ⌜ Skips (now (doc .entry)) 0 (headR 0 (now (doc .entry))) r ⌝ }
 {
-    let mut at = 0;
-    while byte_at(&*doc, at) == 35 {
-        match comment_line(&*doc, at) {
-            Skip::Bad(p) => {
-                return Skip::Bad(p);
-            }
-            Skip::End(n) => {
-                at = n;
-            }
+    let mut c = Cursor {
+        at: 0,
+        row: 0,
+        text: 0,
+    };
+    while c.look(&*doc) == 35 {
+        match comment_line(&*doc, c.at) {
+            Skip::Bad(p) => return Skip::Bad(p),
+            Skip::End(n) => c = moved(c, n),
         }
     }
-    Skip::End(at)
-}
-
-// The place behind the blank lines at `at`.
-fn blanks(doc: &[u8], at: usize) -> usize
-    ensures { λ r. ⌜ r ≡ runEnd (only 10) (now (doc .entry)) at ⌝ }
-{
-    let mut e = at;
-    while e < doc.len() {
-        if doc[e] != 10 {
-            return e;
-        }
-        e += 1;
-    }
-    e
+    Skip::End(c.at)
 }
 
 // The root.
@@ -92,9 +80,10 @@ fn root(doc: &[u8], rows: &mut [u32], text: &mut [u8], c: Cursor, allow: usize) 
 fn finish(doc: &[u8], n: Cursor, far: usize) -> Ans
     ensures { λ r. ⌜ Finished (now (doc .entry)) n far r ⌝ }
 {
-    let e = blanks(&*doc, n.at);
-    if e < doc.len() {
-        return Ans::No(greater(far, e));
+    let r = Reading { at: n.at };
+    let e = r.line_feeds(&*doc);
+    if e.at < doc.len() {
+        return Ans::No(greater(far, e.at));
     }
     Ans::Ok(n)
 }
@@ -132,26 +121,26 @@ pub fn check(doc: &[u8], rows: &mut [u32], text: &mut [u8], allow: usize) -> Ans
     pass(&*doc, &mut rows[..0], &mut text[..0], allow)
 }
 
-// The number of a refusal at p: END at the document's end, DEEP where one container more goes on, elsewhere CHAR or SYNTAX.
-pub fn blame(doc: &[u8], rows: &mut [u32], text: &mut [u8], p: usize) -> u32
+// The refusal at p: END at the document's end, DEEP where one container more goes on, elsewhere CHAR or SYNTAX.
+pub fn blame(doc: &[u8], rows: &mut [u32], text: &mut [u8], p: usize) -> Answer
     requires { ⌜ length (now doc) ≤ limit ⌝ }
     requires { ⌜ verdict deepest (now doc) ≡ stop p ⌝ }
-    ensures { λ r. ⌜ Stops (now (doc .entry)) r p ⌝ }
+    ensures { λ r. ⌜ Blamed (now (doc .entry)) r ⌝ }
     ensures { λ r. ⌜ (now (rows .exit) ≡ now (rows .entry)) × (now (text .exit) ≡ now (text .entry)) ⌝ }
 {
     if doc.len() <= p {
-        return 5;
+        return Answer::End(Place(p));
     }
     match check(&*doc, rows, text, DEEPEST + 1) {
-        Ans::Ok(_) => 4,
+        Ans::Ok(_) => Answer::Deep(Place(p)),
         Ans::No(q) => {
             if p < q {
-                return 4;
+                return Answer::Deep(Place(p));
             }
             if bad_char(&*doc, p) {
-                return 2;
+                return Answer::Char(Place(p));
             }
-            3
+            Answer::Syntax(Place(p))
         }
     }
 }

@@ -4,7 +4,7 @@ use Prim.Native.Nat.{ℕ, suc, _*_, _≤_, _<_}
 use lib.ListN.{length, take, drop}
 use Rattle.notation.specs.Lang.{Begins}
 use Rattle.language.specs.declared.Answer.{Answer}
-use Rattle.language.specs.declared.Answer.the-variants.{Accepted, Refused}
+use Rattle.language.specs.declared.Answer.the-variants.{Accepted, Long, Char, Syntax, Deep, End, Repeat, Rows, Text}
 use Rattle.language.specs.Tree.{Tree, width, size, textOf, rowsOf, Repeats}
 use Rattle.language.specs.Characters.{Allowed}
 use Rattle.language.specs.Document.{Document}
@@ -41,21 +41,40 @@ ROWS = 7
 abbrev pub TEXT : ℕ
 TEXT = 8
 
--- the number of an answer, 0 for an acceptance, and its two values: the counts, or the place and 0
+-- "Where an answer is an enum, a definition gives this paper's number and values for each of its cases, and the promises use that definition" (01, Expected forms by place).
+-- The number is 0 for an acceptance; the values are the counts, or the place, the rows needed or the bytes needed, and 0
 abbrev pub number : Answer → ℕ
 number (Accepted rows bytes) = 0
-number (Refused n p) = n
+number Long = LONG
+number (Char p) = CHAR
+number (Syntax p) = SYNTAX
+number (Deep p) = DEEP
+number (End p) = END
+number (Repeat p) = REPEAT
+number (Rows rows) = ROWS
+number (Text bytes) = TEXT
 
 abbrev pub value : Answer → ℕ
-value (Accepted rows bytes) = rows
-value (Refused n p) = p .0
+value (Accepted rows bytes) = rows .0
+value Long = 0
+value (Char p) = p .0
+value (Syntax p) = p .0
+value (Deep p) = p .0
+value (End p) = p .0
+value (Repeat p) = p .0
+value (Rows rows) = rows .0
+value (Text bytes) = bytes
 
-abbrev pub value′ : Answer → ℕ
-value′ (Accepted rows bytes) = bytes
-value′ (Refused n p) = 0
-
-abbrev pub refusal : ℕ → ℕ → Answer
-refusal n p = Refused n (record { 0 = p })
+abbrev pub second : Answer → ℕ
+second (Accepted rows bytes) = bytes
+second Long = 0
+second (Char p) = 0
+second (Syntax p) = 0
+second (Deep p) = 0
+second (End p) = 0
+second (Repeat p) = 0
+second (Rows rows) = 0
+second (Text bytes) = 0
 
 -- some document begins so, with at most 32 containers one inside another
 abbrev pub Viable : List ℕ → Type 0
@@ -79,25 +98,27 @@ pub record Reads (doc : List ℕ) (t : Tree) : Type 0 where
   pub word : Document deepest doc t
   pub once : (p : ℕ) → Repeats p t → ⊥
 
--- THE PROMISE: the document, table and text room as they were lent; the answer; table and text room afterwards.
+-- THE PROMISE: the document, table and text room as they were lent; the answer's number and two values; table and text room afterwards.
 -- "All refusals leave table and text room unchanged."
-pub data Answered (doc table text : List ℕ) : Answer → List ℕ → List ℕ → Type 0 where
+pub data Answered (doc table text : List ℕ) : ℕ → ℕ → ℕ → List ℕ → List ℕ → Type 0 where
   -- the rows and the text of the tree; "words and bytes past the counts keep what they held"
   accepted : (t : Tree) → Reads doc t → width * size t ≤ length table → length (textOf t) ≤ length text
       → Answered
       doc
       table
       text
-      (Accepted (size t) (length (textOf t)))
+      0
+      (size t)
+      (length (textOf t))
       (rowsOf 0 0 0 t ++ drop (width * size t) table)
       (textOf t ++ drop (length (textOf t)) text)
-  long : limit < length doc → Answered doc table text (refusal LONG 0) table text
-  stopped : (n p : ℕ) → length doc ≤ limit → Stops doc n p → Answered doc table text (refusal n p) table text
+  long : limit < length doc → Answered doc table text LONG 0 0 table text
+  stopped : (n p : ℕ) → length doc ≤ limit → Stops doc n p → Answered doc table text n p 0 table text
   -- "smallest start of a later equal key"
   repeated : (t : Tree) (p : ℕ) → length doc ≤ limit → Document deepest doc t → Repeats p t → ((q : ℕ) → Repeats q t → p ≤ q)
-      → Answered doc table text (refusal REPEAT p) table text
+      → Answered doc table text REPEAT p 0 table text
   -- "seven times the rows needed exceeds the words lent"
-  rows : (t : Tree) → Reads doc t → length table < width * size t → Answered doc table text (refusal ROWS (size t)) table text
+  rows : (t : Tree) → Reads doc t → length table < width * size t → Answered doc table text ROWS (size t) 0 table text
   -- "text needed exceeds the bytes lent"
   bytes : (t : Tree) → Reads doc t → width * size t ≤ length table → length text < length (textOf t)
-      → Answered doc table text (refusal TEXT (length (textOf t))) table text
+      → Answered doc table text TEXT (length (textOf t)) 0 table text

@@ -1,6 +1,7 @@
 // The words that document 01 gives numbers to: kinds, rows, places, refusals and answers.
 ghost use mathlib.Core.Path.{_≡_};
 ghost use Rattle.language.specs.Kind.{hasText};
+ghost use Rattle.language.specs.Answered as answered;
 
 // "Rows stand in document order, seven words each".
 pub const WIDTH: usize = 7;
@@ -46,18 +47,79 @@ impl Kind {
         ensures { λ r. ⌜ r ≡ hasText (self .0) ⌝ }
     {
         let number = self.0;
-        if number == 10 {
+        let key = Kind::KEY;
+        if number == key.0 {
             return true;
         }
-        if number < 4 {
+        let integer = Kind::INTEGER;
+        if number < integer.0 {
             return false;
         }
-        number <= 7
+        let bytes = Kind::BYTES;
+        number <= bytes.0
     }
 }
 
-// What `read` answers: the counts of rows and of text bytes, or a number of refusal and its place.
+// What `read` answers: the rows read and the count of text bytes; or a refusal, with its place, the rows needed or the count of text bytes needed.
 pub enum Answer {
-    Accepted(usize, usize),
-    Refused(u32, Place),
+    Accepted(Row, usize),
+    Long,
+    Char(Place),
+    Syntax(Place),
+    Deep(Place),
+    End(Place),
+    Repeat(Place),
+    Rows(Row),
+    Text(usize),
+}
+
+// The number of an answer and its two values, as document 01 counts them.
+impl Answer {
+    pub fn number(self) -> u32
+        ensures { λ n. ⌜ n ≡ answered.number self ⌝ }
+    {
+        match self {
+            Answer::Accepted(_, _) => 0,
+            Answer::Long => 1,
+            Answer::Char(_) => 2,
+            Answer::Syntax(_) => 3,
+            Answer::Deep(_) => 4,
+            Answer::End(_) => 5,
+            Answer::Repeat(_) => 6,
+            Answer::Rows(_) => 7,
+            Answer::Text(_) => 8,
+        }
+    }
+
+    pub fn value(self) -> usize
+        ensures { λ v. ⌜ v ≡ answered.value self ⌝ }
+    {
+        match self {
+            Answer::Accepted(rows, _) => rows.0,
+            Answer::Long => 0,
+            Answer::Char(p) => p.0,
+            Answer::Syntax(p) => p.0,
+            Answer::Deep(p) => p.0,
+            Answer::End(p) => p.0,
+            Answer::Repeat(p) => p.0,
+            Answer::Rows(rows) => rows.0,
+            Answer::Text(bytes) => bytes,
+        }
+    }
+
+    pub fn second(self) -> usize
+        ensures { λ v. ⌜ v ≡ answered.second self ⌝ }
+    {
+        match self {
+            Answer::Accepted(_, bytes) => bytes,
+            Answer::Long => 0,
+            Answer::Char(_) => 0,
+            Answer::Syntax(_) => 0,
+            Answer::Deep(_) => 0,
+            Answer::End(_) => 0,
+            Answer::Repeat(_) => 0,
+            Answer::Rows(_) => 0,
+            Answer::Text(_) => 0,
+        }
+    }
 }

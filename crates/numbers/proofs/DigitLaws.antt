@@ -6,27 +6,22 @@ use Prim.Native.Nat.{ℕ, zero, suc, _+_, _-_, _≤_, _<_}
 use native.Mathlib.Numerals.{add-one}
 use native.Mathlib.Omega.{arith}
 use lib.ListN.{length, getD, drop, length-drop}
-use lib.Dec.{leb}
 use lib.Seq.{drop-drop, getD-drop}
 use borrow.Author.Needs.{needs}
-use borrow.Author.Tests.{le-leb, lt-leb}
-use Rattle.exact.specs.Class.{pick, and, or, and-of, clash, is, only, none, only-no, only-yes, only-eq}
-use Rattle.exact.specs.Place.{peek, peek-in, getD-any, run, runEnd, run-none, run-more, run-over, There, there, byte-there, none-there}
+use Rattle.exact.specs.Class.{pick, and-of, clash, is, only, none, only-no, only-yes, only-eq}
+use Rattle.exact.specs.Lang.{byteR}
+use Rattle.exact.specs.Place.{peek, run, runEnd, run-none, run-more, There, there, byte-there, none-there}
 use Rattle.language.specs.Scalars.{digit}
+use Rattle.characters.specs.declared.Reading.{Reading}
+use Rattle.characters.specs.declared.Skip.{Skip}
+use Rattle.characters.specs.declared.Skip.the-variants.{End, Bad}
+use Rattle.characters.specs.Reads.{Skips}
+use Rattle.characters.specs.Takes.{take-byte, take-next, take-inside, take-other}
+use Rattle.characters.specs.DigitRuns.{Ran}
 use Rattle.numbers.specs.declared.digits.Stretch.{Stretch}
 use Rattle.numbers.specs.Digits.{next}
 use Rattle.numbers.specs.Places.{tail, tail-digit, tail-false, tailEnd, gapAt}
-use Rattle.numbers.specs.Contract.{Ran, Grouped}
-
--- THE CLASS
-pub digit-yes : (b : ℕ) → 48 ≤ b → b ≤ 57 → is digit b ≡ true
-digit-yes b h k = simp (le-leb 48 b h, le-leb b 57 k)
-
-pub digit-low : (b : ℕ) → b < 48 → is digit b ≡ false
-digit-low b h = simp (lt-leb 48 b h)
-
-pub digit-high : (b : ℕ) → 57 < b → is digit b ≡ false
-digit-high b h = simp (le-leb 48 b (omega arith), lt-leb b 57 h)
+use Rattle.numbers.specs.Contract.{PastGap, no-gap, some-gap, Grouped}
 
 pub digit-in : (doc : List ℕ) (at : ℕ) → is digit (peek doc at) ≡ true → at < length doc
 digit-in doc at e = go (there doc at)
@@ -34,60 +29,6 @@ digit-in doc at e = go (there doc at)
     go : There doc at → at < length doc
     go (byte-there h) = omega (arith, ap length h, length-drop at doc)
     go (none-there h k) = absurd (clash e (ap (is digit) k))
-
--- as the tests of one byte say it
-module _ (doc : List ℕ) (at b : ℕ) (h : b ≡ peek doc at) where
-  pub digit-test : b ≤ 57 → leb 48 b ≡ is digit (peek doc at)
-  digit-test l = rw (← h, le-leb b 57 l) (go (leb 48 b))
-    where
-      go : (x : Bool) → x ≡ or (and x true) false
-      go true = refl
-      go false = refl
-
-  pub no-digit : 57 < b → false ≡ is digit (peek doc at)
-  no-digit l = sym (ap (is digit) (sym h) ∙ digit-high b l)
-
-  pub gap-yes : (r : Bool) → b ≡ 32 → r ≡ is digit (peek doc (at + 1)) → r ≡ gapAt doc at
-  gap-yes r e k = rw (← h, only-yes 32 b e) k
-
-  pub gap-no : (b ≡ 32 → ⊥) → false ≡ gapAt doc at
-  gap-no n = rw (← h, only-no 32 b n) refl
-
-  pub space-in : b ≡ 32 → at < length doc
-  space-in e = peek-in doc at b h (omega arith)
-
--- A RUN
-module _ (doc : List ℕ) (e : ℕ) (l : e < length doc) where
-  pub digits-stop : is digit (getD doc e 0) ≡ false → runEnd digit doc e ≡ e
-  digits-stop h = run-none digit doc e refl (rw (getD-any doc e 0 256 l) at h)
-
-  pub digits-more : is digit (getD doc e 0) ≡ true → runEnd digit doc e ≡ runEnd digit doc (e + 1)
-  digits-more h = run-more digit doc e l (rw (getD-any doc e 0 256 l) at h)
-
--- the loop over a run stands at e
-pub record Passing (doc : List ℕ) (at e : ℕ) : Type 0 where
-  pub from : runEnd digit doc at ≡ runEnd digit doc e
-  pub ahead : at ≤ e
-  pub inside : e ≤ length doc
-
-module _ (doc : List ℕ) (at : ℕ) where
-  pub passing-first : at ≤ length doc → Passing doc at at
-  passing-first l = record { from = refl; ahead = omega arith; inside = l }
-
-  module _ (e : ℕ) (p : Passing doc at e) where
-    pub passing-more : e < length doc → 48 ≤ getD doc e 0 → getD doc e 0 ≤ 57 → Passing doc at (e + 1)
-    passing-more l h k = record { from = p .from ∙ digits-more doc e l (digit-yes (getD doc e 0) h k); ahead = omega (arith, p .ahead); inside = omega arith }
-
-    pub ran-low : e < length doc → getD doc e 0 < 48 → Ran doc at e
-    ran-low l h = record { end = sym (p .from ∙ digits-stop doc e l (digit-low (getD doc e 0) h)); ahead = p .ahead; inside = p .inside }
-
-    pub ran-high : e < length doc → 57 < getD doc e 0 → Ran doc at e
-    ran-high l h = record { end = sym (p .from ∙ digits-stop doc e l (digit-high (getD doc e 0) h)); ahead = p .ahead; inside = p .inside }
-
-    pub ran-over : length doc ≤ e → Ran doc at e
-    ran-over h = record { end = sym (p .from ∙ run-over digit doc e h); ahead = p .ahead; inside = p .inside }
-
-pub ruleset run-laws = (passing-first, passing-more, ran-low, ran-high, ran-over, needs)
 
 -- WHAT GOES ON
 tail-run : (spaced : Bool) (s : List ℕ) → tail spaced s ≡ run digit s + tail spaced (drop (run digit s) s)
@@ -200,57 +141,86 @@ pub record Going (doc : List ℕ) (at e : ℕ) (dense : Bool) : Type 0 where
   pub one-run : dense ≡ true → e ≡ runEnd digit doc at
   pub solid : peek doc (e - 1) ≡ 32 → ⊥
 
-pub gap-inside : (doc : List ℕ) (e : ℕ) (r : Bool) → r ≡ gapAt doc e → r ≡ true → e + 1 ≤ length doc
-gap-inside doc e r g t = let h = sym g ∙ t in let x = and-of (is (only 32) (peek doc e)) (is digit (peek doc (e + 1))) h in let y = digit-in doc (e + 1) (x .1) in omega arith
+module _ (doc : List ℕ) (at : ℕ) where
+  -- A GAP: the space was taken, and n is the place behind the digits that follow it
+  module _ (t : Skip) (h : Skips doc at (byteR (is (only 32)) at (drop at doc)) t) where
+    pub gap-none : (p : ℕ) → t ≡ Bad p → PastGap doc at at
+    gap-none p e = no-gap (rw (only-no 32 (peek doc at) (take-other doc at 32 (omega arith) t h p e)) refl)
 
-module _ (doc : List ℕ) (at e : ℕ) where
-  pub going-first : Ran doc at e → (e ≡ at → ⊥) → Going doc at e true
-  going-first r k =
-      record {
-        from = tail-ran true doc at e (r .end);
-        begun = ran-digit doc at e (r .end) k;
-        over = ran-stops doc at e (r .end);
-        ahead = r .ahead;
-        inside = r .inside;
-        one-run = λ _. r .end;
-        solid = ran-solid doc at e (r .end) (omega (arith, r .ahead));
-      }
+    module _ (d : ℕ) (e : t ≡ End d) where
+      pub gap-inside : d ≤ length doc
+      gap-inside = let i = take-inside doc at 32 (omega arith) t h d e in omega (arith, take-next doc at 32 (omega arith) t h d e)
 
-  pub going-more : (d : Bool) (e′ : ℕ) (b : Bool) → Going doc at e d → b ≡ gapAt doc e → b ≡ true → Ran doc (e + 1) e′ → Going doc at e′ false
-  going-more d e′ b g j t r =
-      let h = sym j ∙ t in
-      let d : is digit (peek doc (e + 1)) ≡ true = and-of (is (only 32) (peek doc e)) (is digit (peek doc (e + 1))) h .1 in
-      record {
-        from = g .from ∙ (tail-gap doc e h ∙ tail-ran true doc (e + 1) e′ (r .end));
-        begun = g .begun;
-        over = ran-stops doc (e + 1) e′ (r .end);
-        ahead = omega (arith, g .ahead, r .ahead);
-        inside = r .inside;
-        one-run = λ z. absurd (clash z refl);
-        solid = ran-solid doc (e + 1) e′ (r .end) (ran-some doc (e + 1) e′ (r .end) d);
-      }
+      gap-is : (y : Bool) → is digit (peek doc d) ≡ y → gapAt doc at ≡ y
+      gap-is y k = rw (only-yes 32 (peek doc at) (sym (take-byte doc at 32 (omega arith) t h d e)), ← take-next doc at 32 (omega arith) t h d e) k
 
-  pub going-done : (d b : Bool) → Going doc at e d → b ≡ gapAt doc e → b ≡ false → Grouped true doc at (record { end = e; dense = d })
-  going-done d b g j t =
-      let h = sym j ∙ t in
-      record { end = sym (rw (g .begun) (g .from ∙ tail-stop doc e (g .over) h)); ahead = g .ahead; inside = g .inside; dense = g .one-run; solid = λ _. g .solid }
+      pub gap-ends : (n : ℕ) → Ran doc d n → n ≡ d → PastGap doc at at
+      gap-ends n r k = no-gap (gap-is false (rw (← k) (ran-stops doc d n (r .end))))
 
-  pub group-none : Ran doc at e → e ≡ at → Grouped true doc at (record { end = e; dense = true })
-  group-none r k =
-      let z : is digit (peek doc at) ≡ false = rw (← k) (ran-stops doc at e (r .end)) in
-      record { end = rw (z, k); ahead = r .ahead; inside = r .inside; dense = λ _. r .end; solid = λ n. absurd (n k) }
+      pub gap-goes : (n : ℕ) → Ran doc d n → (n ≡ d → ⊥) → PastGap doc at n
+      gap-goes n r k = some-gap n (gap-is true (ran-digit doc d n (r .end) k)) (rw (take-next doc at 32 (omega arith) t h d e) at r)
 
-  group-false : Ran doc at e → Grouped false doc at (record { end = e; dense = true })
-  group-false r = record { end = r .end ∙ go (is digit (peek doc at)) refl; ahead = r .ahead; inside = r .inside; dense = λ _. r .end; solid = λ n. ran-solid doc at e (r .end) (omega (arith, r .ahead)) }
-    where
-      go : (y : Bool) → is digit (peek doc at) ≡ y → runEnd digit doc at ≡ pick y (tailEnd false doc at) at
-      go true z = ap (λ n. at + n) (sym (tail-false (drop at doc)))
-      go false z = run-none digit doc at refl z
+  module _ (e : ℕ) where
+    pub going-first : Ran doc at e → (e ≡ at → ⊥) → Going doc at e true
+    going-first r k =
+        record {
+          from = tail-ran true doc at e (r .end);
+          begun = ran-digit doc at e (r .end) k;
+          over = ran-stops doc at e (r .end);
+          ahead = r .ahead;
+          inside = r .inside;
+          one-run = λ _. r .end;
+          solid = ran-solid doc at e (r .end) (omega (arith, r .ahead));
+        }
 
-  pub group-plain : (spaced : Bool) → spaced ≡ false → Ran doc at e → Grouped spaced doc at (record { end = e; dense = true })
-  group-plain spaced h r = rw h (group-false r)
+    pub going-more : (d : Bool) (n : ℕ) → Going doc at e d → PastGap doc e n → e < n → Going doc at n false
+    going-more d _ g (no-gap z) l = absurd (omega arith)
+    going-more d n g (some-gap _ z r) l =
+        let k : is digit (peek doc (e + 1)) ≡ true = and-of (is (only 32) (peek doc e)) (is digit (peek doc (e + 1))) z .1 in
+        record {
+          from = g .from ∙ (tail-gap doc e z ∙ tail-ran true doc (e + 1) n (r .end));
+          begun = g .begun;
+          over = ran-stops doc (e + 1) n (r .end);
+          ahead = omega (arith, g .ahead, r .ahead);
+          inside = r .inside;
+          one-run = λ z. absurd (clash z refl);
+          solid = ran-solid doc (e + 1) n (r .end) (ran-some doc (e + 1) n (r .end) k);
+        }
+
+  pub going-less : (e n : ℕ) (d : Bool) → Going doc at e d → PastGap doc e n → e < n → length doc - n < length doc - e
+  going-less e n d g x l = let i = going-more e d n g x l .inside in omega arith
+
+  module _ (e : Reading) where
+    pub going-done : (d : Bool) (n : ℕ) → Going doc at (e .at) d → PastGap doc (e .at) n → n ≤ e .at → Grouped true doc at (record { end = e; dense = d })
+    going-done d _ g (no-gap z) l =
+        record { end = sym (rw (g .begun) (g .from ∙ tail-stop doc (e .at) (g .over) z)); ahead = g .ahead; inside = g .inside; dense = g .one-run; solid = λ _. g .solid }
+    going-done d n g (some-gap _ z r) l = absurd (omega (arith, r .ahead))
+
+    pub group-none : Ran doc at (e .at) → e .at ≡ at → Grouped true doc at (record { end = e; dense = true })
+    group-none r k =
+        let z : is digit (peek doc at) ≡ false = rw (← k) (ran-stops doc at (e .at) (r .end)) in
+        record { end = rw (z, k); ahead = r .ahead; inside = r .inside; dense = λ _. r .end; solid = λ n. absurd (n k) }
+
+    group-false : Ran doc at (e .at) → Grouped false doc at (record { end = e; dense = true })
+    group-false r =
+        record {
+          end = r .end ∙ go (is digit (peek doc at)) refl;
+          ahead = r .ahead;
+          inside = r .inside;
+          dense = λ _. r .end;
+          solid = λ n. ran-solid doc at (e .at) (r .end) (omega (arith, r .ahead));
+        }
+      where
+        go : (y : Bool) → is digit (peek doc at) ≡ y → runEnd digit doc at ≡ pick y (tailEnd false doc at) at
+        go true z = ap (λ n. at + n) (sym (tail-false (drop at doc)))
+        go false z = run-none digit doc at refl z
+
+    pub group-plain : (spaced : Bool) → spaced ≡ false → Ran doc at (e .at) → Grouped spaced doc at (record { end = e; dense = true })
+    group-plain spaced h r = rw h (group-false r)
 
 pub group-spaced : (doc : List ℕ) (at : ℕ) (spaced : Bool) (g : Stretch) → spaced ≡ true → Grouped true doc at g → Grouped spaced doc at g
 group-spaced doc at spaced g h x = rw h x
 
-pub ruleset digit-laws = (no-digit, digit-test, gap-yes, gap-no, space-in, going-first, gap-inside, going-more, going-done, group-none, group-plain, group-spaced, needs)
+pub ruleset gap-laws = (gap-none, gap-inside, gap-ends, gap-goes, needs)
+
+pub ruleset digit-laws = (going-first, going-more, going-less, going-done, group-none, group-plain, group-spaced, needs)

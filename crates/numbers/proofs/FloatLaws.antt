@@ -1,14 +1,12 @@
--- Laws of floats and integers as the scanner's returns say them: from the parts to a number without its sign. Assumes nothing.
+-- Laws of floats and integers at a place: from the parts to a number without its sign. Assumes nothing.
 use mathlib.Core.Path.{_≡_, refl, sym, ap, _∙_}
 use mathlib.Core.List.{List, [], _∷_, _++_, append-assoc}
-use mathlib.Core.Logic.{_⊎_, inl, inr}
-use mathlib.Core.Bool.{Bool, true, false}
+use mathlib.Core.Bool.{Bool, true}
 use Prim.Native.Nat.{ℕ, _+_, _≤_, _<_}
 use native.Mathlib.Omega.{arith}
 use lib.ListN.{length, drop}
 use lib.Seq.{slice, slice-empty}
-use borrow.Author.Needs.{needs}
-use Rattle.exact.specs.Class.{and, and-of, or-of, within, _to_, range-of, is, only, only-eq}
+use Rattle.exact.specs.Class.{and, and-of, is, only}
 use Rattle.exact.specs.Out.{Out, bind, ok}
 use Rattle.exact.specs.Lang.{retR}
 use Rattle.exact.specs.Comb.{seqR, altR, optionR}
@@ -17,20 +15,21 @@ use Rattle.exact.specs.Place.{peek, peek-in, alt-peek, alt-is, alt-not}
 use Rattle.language.specs.Kind.{INTEGER, FLOAT}
 use Rattle.language.specs.Scalars.{digit, signed}
 use Rattle.numbers.specs.declared.digits.Stretch.{Stretch}
-use Rattle.numbers.specs.declared.scanning.Numeral.{Numeral}
+use Rattle.numbers.specs.declared.scanning.Scanned.{Scanned}
+use Rattle.numbers.specs.declared.scanning.Scanned.the-variants.{Refused}
 use Rattle.numbers.specs.Same.{Found, found}
 use Rattle.numbers.specs.Digits.{digitsR}
-use Rattle.numbers.specs.Plain.{sign, exponentR, fractionR, dottedR, afterR, unsignedR}
+use Rattle.numbers.specs.Plain.{exponentR, fractionR, dottedR, afterR, unsignedR}
 use Rattle.numbers.specs.Places.{squeezed, farAt}
 use Rattle.numbers.specs.Numbers.{float, exponentAt, powerAt, pointAt}
-use Rattle.numbers.specs.Contract.{Grouped, Stands, PastSign, Tight, Powered, no-power, power, Ends, stops, goes, Scanned, refused, integer, floated}
+use Rattle.numbers.specs.Contract.{Grouped, Other, Tight, anInteger, aFloat, Powered, no-power, power, Ends, stops, goes, Scans, refused, integer, floated}
 use Rattle.numbers.proofs.SqueezeLaws.{squeeze-join, squeeze-byte, tight-join, tight-none, tight-byte, tight-group}
-use Rattle.numbers.proofs.ScanLaws.{raised-bad, raised-low, raised-twice, far-le, far-up, one-at, group-over, group-digit, group-read, group-bad, power-not, power-read}
+use Rattle.numbers.proofs.ScanLaws.{raised-bad, raised-low, raised-twice, far-le, far-up, one-at, group-over, group-digit, group-read, group-bad}
 
 -- ONE READER FOR ANOTHER: the bytes from at to at′ are read before
 module _ (spaced : Bool) (doc : List ℕ) (at at′ : ℕ) (l : at ≤ at′) (dense dense′ : Bool) (r r′ : List ℕ → List ℕ → Out Found)
     (h : (m w : List ℕ) → r m w ≡ r′ m (w ++ squeezed (slice at at′ doc))) (t : dense′ ≡ true → (dense ≡ true) × Tight doc at at′) where
-  ends-back : {s : Numeral} → Ends spaced doc at′ dense′ r′ s → Ends spaced doc at dense r s
+  ends-back : {s : Scanned} → Ends spaced doc at′ dense′ r′ s → Ends spaced doc at dense r s
   ends-back (stops p k i a) = stops p (omega arith) i (λ m w. h m w ∙ a m (w ++ squeezed (slice at at′ doc)))
   ends-back (goes e q b k i a u) =
       goes e q b (omega arith) i
@@ -45,7 +44,7 @@ module _ (spaced : Bool) (doc : List ℕ) (at at′ : ℕ) (l : at ≤ at′) (d
 -- .. to a whole number
 module _ (spaced : Bool) (doc : List ℕ) (at at′ : ℕ) (l : at < at′) (dense : Bool) (r : List ℕ → List ℕ → Out Found)
     (h : (m : List ℕ) → unsignedR spaced m at (drop at doc) ≡ r m (squeezed (slice at at′ doc))) (t : dense ≡ true → Tight doc at at′) where
-  ends-whole : {s : Numeral} → Ends spaced doc at′ dense r s → Scanned spaced doc at s
+  ends-whole : {s : Scanned} → Ends spaced doc at′ dense r s → Scans spaced doc at s
   ends-whole (stops p k i a) = refused p i (λ m. h m ∙ a m (squeezed (slice at at′ doc)))
   ends-whole (goes e q b k i a u) =
       floated e q b (omega arith) i
@@ -57,7 +56,7 @@ module _ (spaced : Bool) (doc : List ℕ) (at at′ : ℕ) (l : at < at′) (den
 
 -- an exponent after digits that end at `last`
 powered-ends : (spaced : Bool) (doc : List ℕ) (at last : ℕ) (dense : Bool) (r : List ℕ → List ℕ → Out Found) → last ≤ at
-    → ((m w : List ℕ) → r m w ≡ raised (farAt spaced doc last) (exponentAt spaced doc at m w)) → {s : Numeral} → Powered spaced doc at dense s → Ends spaced doc at dense r s
+    → ((m w : List ℕ) → r m w ≡ raised (farAt spaced doc last) (exponentAt spaced doc at m w)) → {s : Scanned} → Powered spaced doc at dense s → Ends spaced doc at dense r s
 powered-ends spaced doc at last dense r l h (no-power p k i a) =
     stops p (omega arith) i (λ m w. h m w ∙ (ap (raised (farAt spaced doc last)) (a m w) ∙ raised-bad (farAt spaced doc last) p (omega (arith, far-le spaced doc last))))
 powered-ends spaced doc at last dense r l h (power e b k i a u) =
@@ -75,20 +74,20 @@ powered-ends spaced doc at last dense r l h (power e b k i a u) =
     u
 
 -- AN EXPONENT OR NONE
-module _ (spaced : Bool) (doc : List ℕ) (at last : ℕ) (dense : Bool) (b : ℕ) (h : b ≡ peek doc at) where
-  pub fraction-power : (s : Numeral) → last ≤ at → b ≡ 101 → Powered spaced doc at dense s → Ends spaced doc at dense (powerAt spaced doc last at) s
+module _ (spaced : Bool) (doc : List ℕ) (at last : ℕ) (dense : Bool) where
+  pub power-some : {s : Scanned} → last ≤ at → 101 ≡ peek doc at → Powered spaced doc at dense s → Ends spaced doc at dense (powerAt spaced doc last at) s
   unfolding powerAt exponentAt
-  fraction-power s l e x =
+  power-some l h x =
       powered-ends spaced doc at last dense (powerAt spaced doc last at) l
-      (λ m w. ap (λ o. raised (farAt spaced doc last) (bind o (float m w))) (alt-is doc at 101 b (omega arith) h (exponentR spaced) (retR []) e))
+      (λ m w. ap (λ o. raised (farAt spaced doc last) (bind o (float m w))) (alt-is doc at 101 101 (omega arith) h (exponentR spaced) (retR []) refl))
       x
 
-  pub fraction-none : at ≤ length doc → (b ≡ 101 → ⊥) → Ends spaced doc at dense (powerAt spaced doc last at) (record { kind = 5; end = at; last = last; dense = dense })
+  pub power-none : at ≤ length doc → (peek doc at ≡ 101 → ⊥) → Ends spaced doc at dense (powerAt spaced doc last at) (aFloat at last dense)
   unfolding powerAt squeezed
-  fraction-none i n =
+  power-none i n =
       goes at last dense (omega arith) i
       (λ m w.
-      ap (λ o. raised (farAt spaced doc last) (bind o (float m w))) (alt-not doc at 101 b (omega arith) h (exponentR spaced) (retR []) n)
+      ap (λ o. raised (farAt spaced doc last) (bind o (float m w))) (alt-not doc at 101 (peek doc at) (omega arith) refl (exponentR spaced) (retR []) n)
       ∙ (raised-ok (farAt spaced doc last) (found FLOAT (m ++ (w ++ []))) at (drop at doc) ∙ rw (slice-empty at doc) refl))
       (λ z. (z, tight-none doc at))
 
@@ -127,17 +126,17 @@ module _ (spaced : Bool) (doc : List ℕ) (at : ℕ) (h : 46 ≡ peek doc at) wh
       (one-at doc at 46 (omega arith) h)
 
   module _ (g : Stretch) (x : Grouped spaced doc (at + 1) g) (dense : Bool) where
-    maybe-none : g .end ≡ at + 1 → optionR digit (digitsR spaced) (at + 1) (drop (at + 1) doc) ≡ ok [] (at + 1) (drop (at + 1) doc)
+    maybe-none : g .end .at ≡ at + 1 → optionR digit (digitsR spaced) (at + 1) (drop (at + 1) doc) ≡ ok [] (at + 1) (drop (at + 1) doc)
     maybe-none n = alt-peek doc (at + 1) digit refl (digitsR spaced) (retR []) ∙ rw (group-over spaced doc (at + 1) g x n) refl
 
-    maybe-some : (g .end ≡ at + 1 → ⊥)
+    maybe-some : (g .end .at ≡ at + 1 → ⊥)
         → optionR digit (digitsR spaced) (at + 1) (drop (at + 1) doc)
-        ≡ reached (farAt spaced doc (g .end)) (squeezed (slice (at + 1) (g .end) doc)) (g .end) (drop (g .end) doc)
+        ≡ reached (farAt spaced doc (g .end .at)) (squeezed (slice (at + 1) (g .end .at) doc)) (g .end .at) (drop (g .end .at) doc)
     maybe-some n = alt-peek doc (at + 1) digit refl (digitsR spaced) (retR []) ∙ rw (group-digit spaced doc (at + 1) g x n) (group-read spaced doc (at + 1) g x n)
 
-    pub pointed-none : (s : Numeral) → g .end ≡ at + 1 → Ends spaced doc (at + 1) dense (powerAt spaced doc at (at + 1)) s → Ends spaced doc at dense (pointAt spaced doc at) s
+    pub point-none : {s : Scanned} → g .end .at ≡ at + 1 → Ends spaced doc (at + 1) dense (powerAt spaced doc at (at + 1)) s → Ends spaced doc at dense (pointAt spaced doc at) s
     unfolding pointAt powerAt
-    pointed-none s n =
+    point-none n =
         ends-back spaced doc at (at + 1) (omega arith) dense dense (pointAt spaced doc at) (powerAt spaced doc at (at + 1))
         (λ m w.
         ap
@@ -149,11 +148,11 @@ module _ (spaced : Bool) (doc : List ℕ) (at : ℕ) (h : 46 ≡ peek doc at) wh
         (append-assoc w (46 ∷ []) [] ∙ ap (λ u. w ++ u) (sym point-text)))))
         (λ z. (z, point-tight))
 
-    pub pointed-some : (s : Numeral) (b : Bool) → (g .end ≡ at + 1 → ⊥) → b ≡ and dense (g .dense)
-        → Ends spaced doc (g .end) b (powerAt spaced doc (g .end) (g .end)) s → Ends spaced doc at dense (pointAt spaced doc at) s
+    pub point-some : {s : Scanned} (b : Bool) → (g .end .at ≡ at + 1 → ⊥) → b ≡ and dense (g .dense)
+        → Ends spaced doc (g .end .at) b (powerAt spaced doc (g .end .at) (g .end .at)) s → Ends spaced doc at dense (pointAt spaced doc at) s
     unfolding pointAt powerAt
-    pointed-some s b n z =
-        let e = g .end in
+    point-some b n z =
+        let e = g .end .at in
         let f = farAt spaced doc e in
         let l : at + 1 ≤ e = x .ahead in
         ends-back spaced doc at e (omega arith) dense b (pointAt spaced doc at) (powerAt spaced doc e e)
@@ -179,16 +178,15 @@ module _ (spaced : Bool) (doc : List ℕ) (at : ℕ) (h : 46 ≡ peek doc at) wh
       (one-at doc at 46 (omega arith) h)
 
   module _ (g : Stretch) (x : Grouped spaced doc (at + 1) g) where
-    pub led-not : (s : Numeral) → g .end ≡ at + 1 → s ≡ record { kind = 0; end = at + 1; last = at + 1; dense = false } → Scanned spaced doc at s
-    led-not s n z =
-        rw z
-        (refused (at + 1) point-inside
-        (λ m. led-by m ∙ ap (λ o. bind o (λ fs. seqR (optionR (only 101) (exponentR spaced)) (float m (46 ∷ fs)))) (group-bad spaced doc (at + 1) g x n)))
+    pub point-alone : g .end .at ≡ at + 1 → Scans spaced doc at (Refused (at + 1))
+    point-alone n =
+        refused (at + 1) point-inside
+        (λ m. led-by m ∙ ap (λ o. bind o (λ fs. seqR (optionR (only 101) (exponentR spaced)) (float m (46 ∷ fs)))) (group-bad spaced doc (at + 1) g x n))
 
-    pub led-some : (s : Numeral) → (g .end ≡ at + 1 → ⊥) → Ends spaced doc (g .end) (g .dense) (powerAt spaced doc (g .end) (g .end)) s → Scanned spaced doc at s
+    pub point-first : {s : Scanned} → (g .end .at ≡ at + 1 → ⊥) → Ends spaced doc (g .end .at) (g .dense) (powerAt spaced doc (g .end .at) (g .end .at)) s → Scans spaced doc at s
     unfolding powerAt
-    led-some s n =
-        let e = g .end in
+    point-first n =
+        let e = g .end .at in
         let f = farAt spaced doc e in
         let l : at + 1 ≤ e = x .ahead in
         ends-whole spaced doc at e (omega arith) (g .dense) (powerAt spaced doc e e)
@@ -200,94 +198,67 @@ module _ (spaced : Bool) (doc : List ℕ) (at : ℕ) (h : 46 ≡ peek doc at) wh
         (λ t. digits-tight e l (tight-group doc spaced (at + 1) g x t))
 
 -- A NUMBER THAT BEGINS WITH NO POINT
-module _ (spaced : Bool) (doc : List ℕ) (at b : ℕ) (h : b ≡ peek doc at) (o : b ≡ 46 → ⊥) (g : Stretch) (x : Grouped spaced doc at g) where
-  scan-by : (m : List ℕ) → unsignedR spaced m at (drop at doc) ≡ bind (digitsR spaced at (drop at doc)) (afterR spaced m)
+module _ (spaced : Bool) (doc : List ℕ) (at : ℕ) (o : Other doc at 46) (g : Stretch) (x : Grouped spaced doc at g) where
+  digits-by : (m : List ℕ) → unsignedR spaced m at (drop at doc) ≡ bind (digitsR spaced at (drop at doc)) (afterR spaced m)
   unfolding unsignedR
-  scan-by m = alt-not doc at 46 b (omega arith) h (fractionR spaced m) (seqR (digitsR spaced) (afterR spaced m)) o
+  digits-by m = alt-not doc at 46 (peek doc at) (omega arith) refl (fractionR spaced m) (seqR (digitsR spaced) (afterR spaced m)) (o .not)
 
-  pub scan-not : (s : Numeral) → at ≤ length doc → g .end ≡ at → s ≡ record { kind = 0; end = at; last = at; dense = false } → Scanned spaced doc at s
-  scan-not s i n z = rw z (refused at i (λ m. scan-by m ∙ ap (λ o. bind o (afterR spaced m)) (group-bad spaced doc at g x n)))
+  pub digits-none : at ≤ length doc → g .end .at ≡ at → Scans spaced doc at (Refused at)
+  digits-none i n = refused at i (λ m. digits-by m ∙ ap (λ o. bind o (afterR spaced m)) (group-bad spaced doc at g x n))
 
-  module _ (n : g .end ≡ at → ⊥) where
-    digits-ahead : at < g .end
+  module _ (n : g .end .at ≡ at → ⊥) where
+    digits-ahead : at < g .end .at
     digits-ahead = omega (arith, x .ahead)
 
     -- behind the digits
-    scan-after : (m : List ℕ) → unsignedR spaced m at (drop at doc) ≡ raised (farAt spaced doc (g .end)) (afterR spaced m (squeezed (slice at (g .end) doc)) (g .end) (drop (g .end) doc))
-    scan-after m =
-        scan-by m
+    digits-after : (m : List ℕ) → unsignedR spaced m at (drop at doc) ≡ raised (farAt spaced doc (g .end .at)) (afterR spaced m (squeezed (slice at (g .end .at) doc)) (g .end .at) (drop (g .end .at) doc))
+    digits-after m =
+        digits-by m
         ∙ (ap (λ o. bind o (afterR spaced m)) (group-read spaced doc at g x n)
-        ∙ bind-reached (farAt spaced doc (g .end)) (squeezed (slice at (g .end) doc)) (g .end) (drop (g .end) doc) (afterR spaced m))
+        ∙ bind-reached (farAt spaced doc (g .end .at)) (squeezed (slice at (g .end .at) doc)) (g .end .at) (drop (g .end .at) doc) (afterR spaced m))
 
-    module _ (c : ℕ) (k : c ≡ peek doc (g .end)) where
-      abbrev rest : List ℕ → List ℕ → ℕ → List ℕ → Out Found
-      rest m w = altR (is (only 101)) (seqR (exponentR spaced) (float m w)) (retR (found INTEGER (signed m w)))
+    abbrev rest : List ℕ → List ℕ → ℕ → List ℕ → Out Found
+    rest m w = altR (is (only 101)) (seqR (exponentR spaced) (float m w)) (retR (found INTEGER (signed m w)))
 
-      pub scan-point : (s : Numeral) → c ≡ 46 → Ends spaced doc (g .end) (g .dense) (pointAt spaced doc (g .end)) s → Scanned spaced doc at s
-      unfolding afterR pointAt
-      scan-point s z =
-          let e = g .end in
-          ends-whole spaced doc at e digits-ahead (g .dense) (pointAt spaced doc e)
-          (λ m.
-          let w = squeezed (slice at e doc) in
-          scan-after m ∙ ap (raised (farAt spaced doc e)) (alt-is doc e 46 c (omega arith) k (dottedR spaced m w) (rest m w) z))
-          (λ t. tight-group doc spaced at g x t)
+    pub digits-point : {s : Scanned} → 46 ≡ peek doc (g .end .at) → Ends spaced doc (g .end .at) (g .dense) (pointAt spaced doc (g .end .at)) s → Scans spaced doc at s
+    unfolding afterR pointAt
+    digits-point z =
+        let e = g .end .at in
+        ends-whole spaced doc at e digits-ahead (g .dense) (pointAt spaced doc e)
+        (λ m.
+        let w = squeezed (slice at e doc) in
+        digits-after m ∙ ap (raised (farAt spaced doc e)) (alt-is doc e 46 46 (omega arith) z (dottedR spaced m w) (rest m w) refl))
+        (λ t. tight-group doc spaced at g x t)
 
-      pub scan-power : (s : Numeral) → (c ≡ 46 → ⊥) → c ≡ 101 → Powered spaced doc (g .end) (g .dense) s → Scanned spaced doc at s
+    module _ (z : peek doc (g .end .at) ≡ 46 → ⊥) where
+      pub digits-power : {s : Scanned} → 101 ≡ peek doc (g .end .at) → Powered spaced doc (g .end .at) (g .dense) s → Scans spaced doc at s
       unfolding afterR exponentAt
-      scan-power s z y p =
-          let e = g .end in
+      digits-power y p =
+          let e = g .end .at in
           let r : List ℕ → List ℕ → Out Found = λ m w. raised (farAt spaced doc e) (exponentAt spaced doc e m w) in
           ends-whole spaced doc at e digits-ahead (g .dense) r
           (λ m.
           let w = squeezed (slice at e doc) in
-          scan-after m
+          digits-after m
           ∙ ap
           (raised (farAt spaced doc e))
-          (alt-not doc e 46 c (omega arith) k (dottedR spaced m w) (rest m w) z
-          ∙ alt-is doc e 101 c (omega arith) k (seqR (exponentR spaced) (float m w)) (retR (found INTEGER (signed m w))) y))
+          (alt-not doc e 46 (peek doc e) (omega arith) refl (dottedR spaced m w) (rest m w) z
+          ∙ alt-is doc e 101 101 (omega arith) y (seqR (exponentR spaced) (float m w)) (retR (found INTEGER (signed m w))) refl))
           (λ t. tight-group doc spaced at g x t)
           (powered-ends spaced doc e e (g .dense) r (omega arith) (λ m w. refl) p)
 
-      pub scan-integer : (c ≡ 46 → ⊥) → (c ≡ 101 → ⊥) → Scanned spaced doc at (record { kind = 4; end = g .end; last = g .end; dense = g .dense })
+      pub digits-alone : (peek doc (g .end .at) ≡ 101 → ⊥) → Scans spaced doc at (anInteger (g .end .at) (g .dense))
       unfolding afterR
-      scan-integer z y =
-          let e = g .end in
+      digits-alone y =
+          let e = g .end .at in
           integer e (g .dense) digits-ahead (x .inside)
           (λ m.
           let w = squeezed (slice at e doc) in
-          scan-after m
+          digits-after m
           ∙ (ap
           (raised (farAt spaced doc e))
-          (alt-not doc e 46 c (omega arith) k (dottedR spaced m w) (rest m w) z
-          ∙ alt-not doc e 101 c (omega arith) k (seqR (exponentR spaced) (float m w)) (retR (found INTEGER (signed m w))) y)
+          (alt-not doc e 46 (peek doc e) (omega arith) refl (dottedR spaced m w) (rest m w) z
+          ∙ alt-not doc e 101 (peek doc e) (omega arith) refl (seqR (exponentR spaced) (float m w)) (retR (found INTEGER (signed m w))) y)
           ∙ raised-ok (farAt spaced doc e) (found INTEGER (signed m w)) e (drop e doc)))
           (λ t. tight-group doc spaced at g x t)
           (x .solid n)
-
--- WHAT IS ASKED of places, and the sign
-no-sign : (b : ℕ) → (b ≡ 43 → ⊥) → (b ≡ 45 → ⊥) → is sign b ≡ false
-no-sign b n m = go (is sign b) refl
-  where
-    never : (within (43 to 43) b ≡ true) ⊎ (is (only 45) b ≡ true) → ⊥
-    never (inl x) = let y = range-of 43 43 b x in n (omega arith)
-    never (inr x) = m (only-eq 45 b x)
-
-    go : (y : Bool) → is sign b ≡ y → y ≡ false
-    go true z = absurd (never (or-of (within (43 to 43) b) (is (only 45) b) z))
-    go false z = refl
-
-module _ (doc : List ℕ) (at b : ℕ) (h : b ≡ peek doc at) where
-  pub sign-plus : b ≡ 43 → PastSign doc at (at + 1)
-  sign-plus e = record { end = rw (← h, e) refl; ahead = omega arith; inside = omega (arith, peek-in doc at b h (omega arith)) }
-
-  pub sign-minus : b ≡ 45 → PastSign doc at (at + 1)
-  sign-minus e = record { end = rw (← h, e) refl; ahead = omega arith; inside = omega (arith, peek-in doc at b h (omega arith)) }
-
-  pub sign-none : at ≤ length doc → (b ≡ 43 → ⊥) → (b ≡ 45 → ⊥) → PastSign doc at at
-  sign-none l n m = record { end = rw (← h, no-sign b n m) refl; ahead = omega arith; inside = l }
-
-  pub stands : (a : ℕ) → a < 256 → b ≡ a → Stands doc at a
-  stands a l e = record { byte = sym e ∙ h; inside = peek-in doc at b h (omega arith) }
-
-pub ruleset scan-laws = (power-not, power-read, fraction-power, fraction-none, pointed-none, pointed-some, led-not, led-some, scan-not, scan-point, scan-power, scan-integer, sign-plus, sign-minus, sign-none, stands, needs)

@@ -12,6 +12,7 @@ use borrow.Author.Needs.{needs}
 use borrow.Author.Tests.{ne-eqb}
 use Rattle.exact.specs.Place.{slice-join}
 use Rattle.exact.specs.Class.{pick}
+use Rattle.language.specs.Kind.{INTEGER}
 use Rattle.language.specs.Scalars.{minus, signed}
 use Rattle.numbers.specs.declared.scanning.Numeral.{Numeral}
 use Rattle.numbers.specs.Places.{squeezed}
@@ -92,7 +93,7 @@ sign-before (negative s) = omega arith
 sign-before positive = omega arith
 
 module _ (doc : List ℕ) (s : Numeral) (at d : ℕ) (neg : Bool) (x : ℕ) (w : Writing doc s at d neg x) where
-  pub writing-whole : s .kind ≡ 4 → Whole doc d (s .end)
+  pub writing-whole : s .kind .0 ≡ INTEGER → Whole doc d (s .end)
   writing-whole k = record { some = w .some; inside = w .inside; last = w .last k }
 
   pub writing-integer : Storing doc d (s .end) (x + 1)
@@ -108,12 +109,12 @@ module _ (doc : List ℕ) (s : Numeral) (at d : ℕ) (neg : Bool) (x : ℕ) (w :
   writing-tight = record { tight = λ h. sign-tight (s .end) (omega (arith, w .some)) (w .sign) (w .dense h) }
 
   module _ (r : ℕ) (T T' : List ℕ) where
-    pub number-integer : s .kind ≡ 4 → Stored T T' x r (signed (minusOf neg) (squeezed (slice d (s .end) doc)))
-        → Stored T T' x r (numberText (s .kind) (minusOf neg) (squeezed (slice d (s .end) doc)))
+    pub number-integer : s .kind .0 ≡ INTEGER → Stored T T' x r (signed (minusOf neg) (squeezed (slice d (s .end) doc)))
+        → Stored T T' x r (numberText (s .kind .0) (minusOf neg) (squeezed (slice d (s .end) doc)))
     number-integer k q = rw k q
 
-    pub number-float : (s .kind ≡ 4 → ⊥) → Stored T T' x r (squeezed (slice at (s .end) doc))
-        → Stored T T' x r (numberText (s .kind) (minusOf neg) (squeezed (slice d (s .end) doc)))
-    number-float k q = rw (ne-eqb (s .kind) 4 k) (rw (sign-text (s .end) (omega (arith, w .some)) (w .sign)) at q)
+    pub number-float : (s .kind .0 ≡ INTEGER → ⊥) → Stored T T' x r (squeezed (slice at (s .end) doc))
+        → Stored T T' x r (numberText (s .kind .0) (minusOf neg) (squeezed (slice d (s .end) doc)))
+    number-float k q = rw (ne-eqb (s .kind .0) INTEGER k) (rw (sign-text (s .end) (omega (arith, w .some)) (w .sign)) at q)
 
 pub ruleset text-laws = (writing-whole, writing-integer, writing-dense, writing-float, writing-tight, number-integer, number-float, needs)

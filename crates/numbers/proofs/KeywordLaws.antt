@@ -74,7 +74,7 @@ module _ (doc : List ℕ) (c : Cursor) (p : ℕ) (word : List ℕ) (n : ℕ) (re
         (keyword-ok doc (c .at) kind word [] n h k) l (rw e at r) refl)
 
   pub float-read : (R R' T T' : List ℕ) (m : Cursor) → n ≡ length word → T' ≡ sets T (c .text) (slice (c .at) (c .at + n) doc)
-      → Put R R' c p 5 (c .at + n) (c .text + n) m → Reaches doc c p (keywordR FLOAT word word (c .at) (drop (c .at) doc)) (Upto m 0) R R' T T'
+      → Put R R' c p FLOAT (c .at + n) (c .text + n) m → Reaches doc c p (keywordR FLOAT word word (c .at) (drop (c .at) doc)) (Upto m 0) R R' T T'
   float-read R R' T T' m k t q =
       let z : slice (c .at) (c .at + n) doc ≡ word = sym (slice-at (c .at) n doc) ∙ (rw k (common-take word (drop (c .at) doc) (sym h ∙ k))) in
       rw (q .next)

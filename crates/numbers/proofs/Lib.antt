@@ -2,6 +2,7 @@ pub mod DigitLaws
 pub mod SqueezeLaws
 pub mod ScanLaws
 pub mod FloatLaws
+pub mod TakeLaws
 pub mod TextLaws
 pub mod IntegerLaws
 pub mod KeywordLaws

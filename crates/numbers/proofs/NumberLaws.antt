@@ -5,15 +5,24 @@ use mathlib.Core.Bool.{Bool, true, false}
 use Prim.Native.Nat.{ℕ, zero, suc, _+_, _-_, _*_, _≤_, _<_}
 use native.Mathlib.Nat.{add-zero}
 use native.Mathlib.Omega.{arith}
-use lib.ListN.{length, drop}
+use lib.ListN.{length, drop, drop-of-length-le}
 use lib.Seq.{sets, slice, length-slice}
 use lib.Dec.{eqb}
 use borrow.Author.Needs.{needs}
 use Rattle.exact.specs.Out.{Out, bind, soft, bad, Firm}
-use Rattle.exact.specs.Class.{pick, is, only-no}
+use Rattle.exact.specs.Class.{pick, is, only, only-no}
+use Rattle.exact.specs.Lang.{byteR}
 use Rattle.exact.specs.Block.{lead}
 use Rattle.exact.specs.Lines.{reached, bind-reached, raised-ok}
-use Rattle.exact.specs.Place.{peek, alt-not, There, there, byte-there, none-there}
+use Rattle.exact.specs.Place.{peek, alt-not, There, there, none-there}
+use Rattle.exact.specs.Place
+use Rattle.characters.specs.declared.Reading.{Reading}
+use Rattle.characters.specs.declared.Took.{Took}
+use Rattle.characters.specs.declared.Took.the-variants.{Byte, Over}
+use Rattle.characters.specs.declared.Skip.{Skip}
+use Rattle.characters.specs.declared.Skip.the-variants.{End, Bad}
+use Rattle.characters.specs.Reads.{ByteRead, byte-inside, byte-there, byte-next, Skips}
+use Rattle.characters.specs.Takes.{take-byte, take-next, take-other, take-place}
 use Rattle.rooms.specs.declared.Cursor.{Cursor}
 use Rattle.rooms.specs.declared.Words.{Words}
 use Rattle.rooms.specs.declared.Ans.the-variants.{Ok, No}
@@ -22,32 +31,46 @@ use Rattle.rooms.specs.declared.Far.the-variants.{Upto, Not}
 use Rattle.rooms.specs.Contract.{ample, Ready, Answers, Reaches, Small}
 use Rattle.rooms.specs.Laws.{reaching, not-reached, reached-taken, reached-refusal, leaf-text}
 use Rattle.rooms.specs.Laws
-use Rattle.language.specs.Kind.{INTEGER}
+use Rattle.language.specs.Kind.{TRUE, INTEGER, FLOAT}
 use Rattle.language.specs.Tree.{leaf, width, rowList}
 use Rattle.language.specs.Scalars.{plain, minus}
 use Rattle.numbers.specs.declared.scanning.Numeral.{Numeral}
+use Rattle.numbers.specs.declared.scanning.Scanned.{Scanned}
+use Rattle.numbers.specs.declared.scanning.Scanned.the-variants.{Number, Refused}
 use Rattle.numbers.specs.Same.{found}
 use Rattle.numbers.specs.Places.{squeezed, farAt}
 use Rattle.numbers.specs.Texts.{minusOf, numberText}
 use Rattle.numbers.specs.Plain.{signedR, unsignedR, plainR, plain-ll}
-use Rattle.numbers.specs.Contract.{Stands, Stored, Scanned, refused, integer, floated, Sign, negative, positive, Writing, Leads, minus-leads, digits-lead, NumberAt, Put}
+use Rattle.numbers.specs.Opening.{plain-shuts}
+use Rattle.numbers.specs.Contract.{Passed, Stored, Scans, refused, integer, floated, Sign, negative, positive, Writing, Leads, minus-leads, digits-lead, NumberAt, Put}
 use Rattle.numbers.proofs.SqueezeLaws.{squeezed-le}
-use Rattle.numbers.proofs.FloatLaws.{stands}
 use Rattle.numbers.proofs.PlainLaws.{close, plain-by, body-number, body-minus, number-two, via-true, via-false, via-infinity, via-nan, via-null, via-minus}
 
--- WHERE A NUMBER LEADS
-module _ (doc : List ℕ) (at b : ℕ) (h : b ≡ peek doc at) where
+-- THE FIRST BYTE, taken
+module _ (doc : List ℕ) (at : ℕ) (t : Took) (h : ByteRead doc at t) (b : ℕ) (n : Reading) (e : t ≡ Byte b n) where
+  pub first-passed : Passed doc at b (n .at)
+  first-passed = record { stands = record { byte = byte-there doc at t h b n e; inside = byte-inside doc at t h b n e }; next = byte-next doc at t h b n e }
+
+  pub first-minus : b ≡ 45 → Passed doc at 45 (n .at)
+  first-minus k = rw k at first-passed
+
   pub leads-low : (b ≡ 45 → ⊥) → b < 102 → Leads doc at at false
-  leads-low n l = digits-lead (λ e. omega arith) (λ e. omega arith) (λ e. omega arith) (λ e. omega arith) (λ e. n (h ∙ e))
+  leads-low k l = let z = byte-there doc at t h b n e in digits-lead (λ e. omega arith) (λ e. omega arith) (λ e. omega arith) (λ e. omega arith) (λ e. k (z ∙ e))
 
   pub leads-high : 117 ≤ b → Leads doc at at false
-  leads-high l = digits-lead (λ e. omega arith) (λ e. omega arith) (λ e. omega arith) (λ e. omega arith) (λ e. omega arith)
+  leads-high l = let z = byte-there doc at t h b n e in digits-lead (λ e. omega arith) (λ e. omega arith) (λ e. omega arith) (λ e. omega arith) (λ e. omega arith)
 
-  pub leads-other : 102 ≤ peek doc at → (b ≡ 110 → ⊥) → (b ≡ 116 → ⊥) → (b ≡ 102 → ⊥) → (b ≡ 105 → ⊥) → Leads doc at at false
-  leads-other l n t f i = digits-lead (λ e. n (h ∙ e)) (λ e. t (h ∙ e)) (λ e. f (h ∙ e)) (λ e. i (h ∙ e)) (λ e. omega arith)
+-- .. and what it leads to
+module _ (doc : List ℕ) (at b n : ℕ) (q : Passed doc at b n) where
+  pub passed-n : b ≡ 110 → Passed doc at 110 n
+  passed-n e = rw e at q
 
-pub leads-minus : (doc : List ℕ) (at b : ℕ) → b ≡ peek doc (at + 1) → Stands doc at 45 → (b ≡ 105 → ⊥) → Leads doc at (at + 1) true
-leads-minus doc at b h s n = minus-leads s (λ e. n (h ∙ e))
+  pub leads-other : 102 ≤ b → (b ≡ 110 → ⊥) → (b ≡ 116 → ⊥) → (b ≡ 102 → ⊥) → (b ≡ 105 → ⊥) → Leads doc at at false
+  leads-other l k t f i = let h = q .stands .byte in digits-lead (λ e. k (h ∙ e)) (λ e. t (h ∙ e)) (λ e. f (h ∙ e)) (λ e. i (h ∙ e)) (λ e. omega arith)
+
+pub leads-minus : (doc : List ℕ) (at n : ℕ) (t : Skip) (p : ℕ) → Passed doc at 45 n → Skips doc n (byteR (is (only 105)) n (drop n doc)) t → t ≡ Bad p → Leads doc at n true
+leads-minus doc at n t p q h e =
+    subst (λ k. Leads doc at k true) (sym (q .next)) (minus-leads (q .stands) (subst (λ k. peek doc k ≡ 105 → ⊥) (q .next) (take-other doc n 105 (omega arith) t h p e)))
 
 leads-sign : {doc : List ℕ} {at d : ℕ} {neg : Bool} → Leads doc at d neg → Sign doc at d neg
 leads-sign (minus-leads s n) = negative s
@@ -67,26 +90,29 @@ leads-read spaced doc at _ _ (digits-lead n t f i m) =
     (body-number spaced doc at (peek doc at) refl n t f i ∙ alt-not doc at 45 (peek doc at) (omega arith) refl (signedR spaced) (unsignedR spaced []) m)
 
 -- WHAT WAS SCANNED, with its sign
-scanned-bad : {spaced : Bool} {doc : List ℕ} {d : ℕ} {s : Numeral} → Scanned spaced doc d s → s .kind ≡ 0 → (m : List ℕ) → unsignedR spaced m d (drop d doc) ≡ bad (s .end)
-scanned-bad (refused p i a) k m = a m
-scanned-bad (integer e b l i a t o) k m = absurd (omega arith)
-scanned-bad (floated e q b l i a t) k m = absurd (omega arith)
+scanned-bad : {spaced : Bool} {doc : List ℕ} {d : ℕ} {r : Scanned} (p : ℕ) → Scans spaced doc d r → r ≡ Refused p → (m : List ℕ) → unsignedR spaced m d (drop d doc) ≡ bad p
+scanned-bad p (refused q i a) k m = let z : q ≡ p = cc in a m ∙ ap bad z
+scanned-bad p (integer e b l i a t o) k m = absurd (let z : _≡_ {A = ℕ} 0 1 = cc in omega arith)
+scanned-bad p (floated e q b l i a t) k m = absurd (let z : _≡_ {A = ℕ} 0 1 = cc in omega arith)
 
 pub record Known (spaced : Bool) (doc : List ℕ) (d : ℕ) (s : Numeral) : Type 0 where
   pub some : d < s .end
   pub inside : s .end ≤ length doc
-  pub text : 3 < s .kind
-  pub small : s .kind < 6
+  pub text : TRUE < s .kind .0
   pub answer : (m : List ℕ)
       → unsignedR spaced m d (drop d doc)
-      ≡ reached (farAt spaced doc (s .last)) (found (s .kind) (numberText (s .kind) m (squeezed (slice d (s .end) doc)))) (s .end) (drop (s .end) doc)
+      ≡ reached (farAt spaced doc (s .last)) (found (s .kind .0) (numberText (s .kind .0) m (squeezed (slice d (s .end) doc)))) (s .end) (drop (s .end) doc)
   pub tight : s .dense ≡ true → squeezed (slice d (s .end) doc) ≡ slice d (s .end) doc
-  pub solid : s .kind ≡ INTEGER → peek doc (s .end - 1) ≡ 32 → ⊥
+  pub solid : s .kind .0 ≡ INTEGER → peek doc (s .end - 1) ≡ 32 → ⊥
 
-known : {spaced : Bool} {doc : List ℕ} {d : ℕ} {s : Numeral} → Scanned spaced doc d s → (s .kind ≡ 0 → ⊥) → Known spaced doc d s
-known (refused p i a) k = absurd (k refl)
-known (integer e b l i a t o) k = record { some = l; inside = i; text = omega arith; small = omega arith; answer = a; tight = t; solid = λ _. o }
-known (floated e q b l i a t) k = record { some = l; inside = i; text = omega arith; small = omega arith; answer = a; tight = t; solid = λ z. absurd (omega arith) }
+known : {spaced : Bool} {doc : List ℕ} {d : ℕ} {r : Scanned} (s : Numeral) → Scans spaced doc d r → r ≡ Number s → Known spaced doc d s
+known s (refused p i a) k = absurd (let z : _≡_ {A = ℕ} 0 1 = cc in omega arith)
+known {spaced} {doc} {d} s (integer e b l i a t o) k =
+    let z : record { kind = record { 0 = INTEGER }; end = e; last = e; dense = b } ≡ s = cc in
+    subst (Known spaced doc d) z (record { some = l; inside = i; text = omega arith; answer = a; tight = t; solid = λ _. o })
+known {spaced} {doc} {d} s (floated e q b l i a t) k =
+    let z : record { kind = record { 0 = FLOAT }; end = e; last = q; dense = b } ≡ s = cc in
+    subst (Known spaced doc d) z (record { some = l; inside = i; text = omega arith; answer = a; tight = t; solid = λ y. absurd (omega arith) })
 
 -- THE TEXT IS NOT LONGER THAN WHAT IT IS READ FROM
 plain-le : (ds : List ℕ) → length (plain ds) ≤ length ds
@@ -109,12 +135,12 @@ minus-le (d ∷ ds) = by (eqb d 48)
     by false = omega arith
 
 number-le : (kind : ℕ) (neg : Bool) (w : List ℕ) → length (numberText kind (minusOf neg) w) ≤ length (minusOf neg) + length w
-number-le kind true w = by (eqb kind 4)
+number-le kind true w = by (eqb kind INTEGER)
   where
     by : (y : Bool) → length (pick y (minus (plain w)) (45 ∷ w)) ≤ 1 + length w
     by true = omega (arith, minus-le (plain w), plain-le w)
     by false = omega arith
-number-le kind false w = by (eqb kind 4)
+number-le kind false w = by (eqb kind INTEGER)
   where
     by : (y : Bool) → length (pick y (plain w) w) ≤ 0 + length w
     by true = omega (arith, plain-le w)
@@ -138,18 +164,30 @@ leads-before : {doc : List ℕ} {at d : ℕ} {neg : Bool} → Leads doc at d neg
 leads-before (minus-leads s n) = omega arith
 leads-before (digits-lead n t f i m) = omega arith
 
-pub number-not : (doc : List ℕ) (c : Cursor) (d : ℕ) (neg spaced : Bool) (s : Numeral) (p : ℕ) (R T : List ℕ) → Leads doc (c .at) d neg → Scanned spaced doc d s → s .kind ≡ 0
-    → Reaches doc c p (plainR spaced (c .at) (drop (c .at) doc)) (Not (s .end)) R R T T
-number-not doc c d neg spaced s p R T leads x k =
-    not-reached doc c p (plainR spaced (c .at) (drop (c .at) doc)) R R T T (s .end)
-    (leads-read spaced doc (c .at) d neg leads ∙ ap (λ o. bind o (close (c .at))) (scanned-bad x k (minusOf neg)))
+pub number-not : (doc : List ℕ) (c : Cursor) (d : ℕ) (neg spaced : Bool) (r : Scanned) (q p : ℕ) (R T : List ℕ) → Leads doc (c .at) d neg → Scans spaced doc d r → r ≡ Refused q
+    → Reaches doc c p (plainR spaced (c .at) (drop (c .at) doc)) (Not q) R R T T
+number-not doc c d neg spaced r q p R T leads x k =
+    not-reached doc c p (plainR spaced (c .at) (drop (c .at) doc)) R R T T q
+    (leads-read spaced doc (c .at) d neg leads ∙ ap (λ o. bind o (close (c .at))) (scanned-bad q x k (minusOf neg)))
+
+pub number-found : (doc : List ℕ) (at d : ℕ) (neg spaced : Bool) (r : Scanned) (s : Numeral) → Leads doc at d neg → Scans spaced doc d r → r ≡ Number s → NumberAt doc at d neg spaced s
+number-found doc at d neg spaced r s leads x k = record { leads = leads; scanned = rw k at x }
+
+-- at the document's end there is none
+pub plain-over : (doc : List ℕ) (c : Cursor) (spaced : Bool) (t : Took) (p : ℕ) (R T : List ℕ) → ByteRead doc (c .at) t → t ≡ Over
+    → Reaches doc c p (plainR spaced (c .at) (drop (c .at) doc)) (Not (c .at)) R R T T
+unfolding ByteRead
+plain-over doc c spaced t p R T h e =
+    let l : length doc ≤ c .at = (rw e at h) .0 in
+    not-reached doc c p (plainR spaced (c .at) (drop (c .at) doc)) R R T T (c .at)
+    (ap (plainR spaced (c .at)) (drop-of-length-le doc l) ∙ plain-shuts spaced .at-none (c .at))
 
 module _ (doc : List ℕ) (c : Cursor) (d : ℕ) (neg spaced : Bool) (s : Numeral) (ready : Ready doc c) (f : NumberAt doc (c .at) d neg spaced s) where
   abbrev text : List ℕ
-  text = numberText (s .kind) (minusOf neg) (squeezed (slice d (s .end) doc))
+  text = numberText (s .kind .0) (minusOf neg) (squeezed (slice d (s .end) doc))
 
   number-known : Known spaced doc d s
-  number-known = known (f .scanned) (f .some)
+  number-known = known s (f .scanned) refl
 
   pub number-writing : Writing doc s (c .at) d neg (c .text)
   number-writing =
@@ -164,7 +202,7 @@ module _ (doc : List ℕ) (c : Cursor) (d : ℕ) (neg spaced : Bool) (s : Numera
       }
 
   text-fits : c .at + length text ≤ s .end
-  text-fits = let y = number-known in let z = y .some in number-fit doc (c .at) d (s .end) (s .kind) neg (f .leads) (omega arith) (y .inside)
+  text-fits = let y = number-known in let z = y .some in number-fit doc (c .at) d (s .end) (s .kind .0) neg (f .leads) (omega arith) (y .inside)
 
   module _ (T T' : List ℕ) (to : ℕ) (q : Stored T T' (c .text) to text) where
     pub number-small : Small (c .at) (s .end) (c .text) to (c .row + 1)
@@ -178,22 +216,22 @@ module _ (doc : List ℕ) (c : Cursor) (d : ℕ) (neg spaced : Bool) (s : Numera
         let j = ready .inside in
         record { first-fits = omega arith; after-fits = omega arith; from-fits = omega arith; to-fits = omega arith; next-fits = omega arith }
 
-    pub number-read : (p far : ℕ) (R R' : List ℕ) (n : Cursor) → Put R R' c p (s .kind) (s .end) to n → far ≡ farAt spaced doc (s .last)
+    pub number-read : (p far : ℕ) (R R' : List ℕ) (n : Cursor) → Put R R' c p (s .kind .0) (s .end) to n → far ≡ farAt spaced doc (s .last)
         → Reaches doc c p (plainR spaced (c .at) (drop (c .at) doc)) (Upto n far) R R' T T'
     number-read p far R R' n w z =
         let y = number-known in
         let at = c .at in
         let g = farAt spaced doc (s .last) in
-        let o : plainR spaced at (drop at doc) ≡ reached far (leaf (s .kind) at (s .end) text) (s .end) (drop (s .end) doc) =
+        let o : plainR spaced at (drop at doc) ≡ reached far (leaf (s .kind .0) at (s .end) text) (s .end) (drop (s .end) doc) =
         leads-read spaced doc at d neg (f .leads)
         ∙ (ap (λ o. bind o (close at)) (y .answer (minusOf neg))
-        ∙ (bind-reached g (found (s .kind) text) (s .end) (drop (s .end) doc) (close at)
-        ∙ (raised-ok g (leaf (s .kind) at (s .end) text) (s .end) (drop (s .end) doc) ∙ rw z refl))) in
+        ∙ (bind-reached g (found (s .kind .0) text) (s .end) (drop (s .end) doc) (close at)
+        ∙ (raised-ok g (leaf (s .kind .0) at (s .end) text) (s .end) (drop (s .end) doc) ∙ rw z refl))) in
         let h : at < s .end = omega (arith, y .some, leads-before (f .leads)) in
         rw (w .next)
         (reaching doc c p (plainR spaced at (drop at doc)) R R' T T' (record { at = s .end; row = c .row + 1; text = to }) far
         (rw (q .end)
-        (leaf-text doc c p (plainR spaced at (drop at doc)) (s .kind) (s .end) far h (y .inside) R R' T T' text o (y .text) text-fits (rw (q .end) at (w .table)) (q .room))))
+        (leaf-text doc c p (plainR spaced at (drop at doc)) (s .kind .0) (s .end) far h (y .inside) R R' T T' text o (y .text) text-fits (rw (q .end) at (w .table)) (q .room))))
 
 -- THE ROW
 pub put-read : (c : Cursor) (p kind e to : ℕ) (R R' : List ℕ) (w : Words)
@@ -211,21 +249,24 @@ module _ (doc : List ℕ) (last : ℕ) where
   unfolding farAt
   far-none spaced h = rw h refl
 
-  module _ (spaced : Bool) (b : ℕ) (e : spaced ≡ true) (h : b ≡ peek doc last) where
-    pub far-space : b ≡ 32 → last + 1 ≡ farAt spaced doc last
+  module _ (spaced : Bool) (e : spaced ≡ true) (t : Skip) (h : Skips doc last (byteR (is (only 32)) last (drop last doc)) t) where
+    pub far-space : (n : ℕ) → t ≡ End n → n ≡ farAt spaced doc last
     unfolding farAt
-    far-space k = rw e (go (there doc last))
+    far-space n k = rw (e, take-next doc last 32 (omega arith) t h n k) (go (there doc last))
       where
-        go : There doc last → last + 1 ≡ last + lead 1 (drop last doc)
-        go (byte-there q) = rw (q, ← h, k) refl
-        go (none-there q z) = absurd (omega arith)
+        space : 32 ≡ peek doc last
+        space = take-byte doc last 32 (omega arith) t h n k
 
-    pub far-here : (b ≡ 32 → ⊥) → last ≡ farAt spaced doc last
+        go : There doc last → last + 1 ≡ last + lead 1 (drop last doc)
+        go (Place.byte-there q) = rw (q, ← space) refl
+        go (none-there q z) = absurd (omega (arith, space))
+
+    pub far-here : (p : ℕ) → t ≡ Bad p → p ≡ farAt spaced doc last
     unfolding farAt
-    far-here k = rw e (go (there doc last))
+    far-here p k = rw (e, take-place doc last 32 (omega arith) t h p k) (go (there doc last))
       where
         go : There doc last → last ≡ last + lead 1 (drop last doc)
-        go (byte-there q) = rw (q, ← h, only-no 32 b k) (sym (add-zero last))
+        go (Place.byte-there q) = rw (q, only-no 32 (peek doc last) (take-other doc last 32 (omega arith) t h p k)) (sym (add-zero last))
         go (none-there q z) = rw q (sym (add-zero last))
 
 -- FIRM: no answer is soft
@@ -249,7 +290,7 @@ module _ (doc : List ℕ) (c : Cursor) (p : ℕ) (R R' T T' : List ℕ) (f : Far
       let o = plainR false (c .at) (drop (c .at) doc) in
       Laws.refused doc c p o R R' T T' q (reached-refusal doc c p o R R' T T' f q e x)
 
-pub ruleset number-laws = (leads-inside, number-not, needs)
+pub ruleset number-laws = (leads-inside, number-not, number-found, needs)
 
 pub ruleset put-laws = (put-read, small-row, needs)
 
@@ -261,4 +302,6 @@ pub ruleset inside-laws = (inside-took, inside-not, needs)
 
 pub ruleset pair-laws = (leads-minus, via-nan, via-null, via-minus, needs)
 
-pub ruleset plain-laws = (leads-low, leads-high, stands, via-true, via-false, via-infinity, needs)
+pub ruleset word-laws = (passed-n, via-true, via-false, via-infinity, needs)
+
+pub ruleset plain-laws = (first-passed, first-minus, leads-low, leads-high, plain-over, needs)

@@ -7,10 +7,14 @@ use native.Mathlib.Omega.{arith}
 use lib.ListN.{drop}
 use Rattle.exact.specs.Out.{Out, bind, ok, soft, bad, Reader}
 use Rattle.exact.specs.Class.{is, only}
-use Rattle.exact.specs.Lang.{retR}
+use Rattle.exact.specs.Lang.{retR, byteR}
 use Rattle.exact.specs.Comb.{seqR, altR}
 use Rattle.exact.specs.Ll.{hereR, wordR}
 use Rattle.exact.specs.Place.{peek, byte-is, alt-is, alt-not}
+use Rattle.characters.specs.declared.Skip.{Skip}
+use Rattle.characters.specs.declared.Skip.the-variants.{End, Bad}
+use Rattle.characters.specs.Reads.{Skips}
+use Rattle.characters.specs.Takes.{take-byte, take-other}
 use Rattle.rooms.specs.declared.Cursor.{Cursor}
 use Rattle.rooms.specs.declared.Far.{Far}
 use Rattle.rooms.specs.Contract.{Reaches}
@@ -20,7 +24,7 @@ use Rattle.language.specs.Scalars.{nullWord, trueWord, falseWord, nanWord, infi
 use Rattle.numbers.specs.Same.{Found, found, leafOf}
 use Rattle.numbers.specs.Plain.{saidR, nanR, signedR, unsignedR, bodyR, plainR}
 use Rattle.numbers.specs.Keyword.{keywordR}
-use Rattle.numbers.specs.Contract.{Stands}
+use Rattle.numbers.specs.Contract.{Passed}
 use Rattle.numbers.proofs.ScanLaws.{one-at}
 
 -- THE SPAN round what is found
@@ -137,29 +141,38 @@ module _ (doc : List ℕ) (c : Cursor) (p : ℕ) (a : Far) (R R' T T' : List ℕ
   via : (r q : Reader Tree) → q (c .at) (drop (c .at) doc) ≡ r (c .at) (drop (c .at) doc) → Via r → Via q
   via r q h x = rw h x
 
-  module _ (b : ℕ) (h : b ≡ peek doc (c .at)) where
+  module _ (b n : ℕ) (q : Passed doc (c .at) b n) where
     pub via-true : b ≡ 116 → Via (keywordR TRUE trueWord []) → Via (plainR spaced)
-    via-true e = via (keywordR TRUE trueWord []) (plainR spaced) (plain-said spaced doc (c .at) TRUE trueWord [] (body-true spaced doc (c .at) b h e))
+    via-true e = via (keywordR TRUE trueWord []) (plainR spaced) (plain-said spaced doc (c .at) TRUE trueWord [] (body-true spaced doc (c .at) b (q .stands .byte) e))
 
     pub via-false : b ≡ 102 → Via (keywordR FALSE falseWord []) → Via (plainR spaced)
-    via-false e = via (keywordR FALSE falseWord []) (plainR spaced) (plain-said spaced doc (c .at) FALSE falseWord [] (body-false spaced doc (c .at) b h e))
+    via-false e = via (keywordR FALSE falseWord []) (plainR spaced) (plain-said spaced doc (c .at) FALSE falseWord [] (body-false spaced doc (c .at) b (q .stands .byte) e))
 
     pub via-infinity : b ≡ 105 → Via (keywordR FLOAT infinityWord infinityWord) → Via (plainR spaced)
     via-infinity e =
-        via (keywordR FLOAT infinityWord infinityWord) (plainR spaced) (plain-said spaced doc (c .at) FLOAT infinityWord infinityWord (body-infinity spaced doc (c .at) b h e))
+        via (keywordR FLOAT infinityWord infinityWord) (plainR spaced)
+        (plain-said spaced doc (c .at) FLOAT infinityWord infinityWord (body-infinity spaced doc (c .at) b (q .stands .byte) e))
 
-  module _ (b : ℕ) (k : b ≡ peek doc (c .at + 1)) where
-    pub via-nan : Stands doc (c .at) 110 → b ≡ 97 → Via (keywordR FLOAT nanWord nanWord) → Via (plainR spaced)
-    via-nan s e =
+  -- by the second byte, which stands at n
+  module _ (n : ℕ) (q : Passed doc (c .at) 110 n) (t : Skip) (h : Skips doc n (byteR (is (only 97)) n (drop n doc)) t) where
+    pub via-nan : (e : ℕ) → t ≡ End e → Via (keywordR FLOAT nanWord nanWord) → Via (plainR spaced)
+    via-nan e k =
         via (keywordR FLOAT nanWord nanWord) (plainR spaced)
-        (plain-said spaced doc (c .at) FLOAT nanWord nanWord (body-nan spaced doc (c .at) 110 (s .byte) refl ∙ nan-two spaced doc (c .at) b k (s .byte) e))
+        (plain-said spaced doc (c .at) FLOAT nanWord nanWord
+        (body-nan spaced doc (c .at) 110 (q .stands .byte) refl
+        ∙ nan-two spaced doc (c .at) 97 (take-byte doc n 97 (omega arith) t h e k ∙ ap (peek doc) (q .next)) (q .stands .byte) refl))
 
-    pub via-null : Stands doc (c .at) 110 → (b ≡ 97 → ⊥) → Via (keywordR NULL nullWord []) → Via (plainR spaced)
-    via-null s e =
+    pub via-null : (p : ℕ) → t ≡ Bad p → Via (keywordR NULL nullWord []) → Via (plainR spaced)
+    via-null p k =
         via (keywordR NULL nullWord []) (plainR spaced)
-        (plain-said spaced doc (c .at) NULL nullWord [] (body-nan spaced doc (c .at) 110 (s .byte) refl ∙ null-two spaced doc (c .at) b k (s .byte) e))
+        (plain-said spaced doc (c .at) NULL nullWord []
+        (body-nan spaced doc (c .at) 110 (q .stands .byte) refl
+        ∙ null-two spaced doc (c .at) (peek doc n) (ap (peek doc) (q .next)) (q .stands .byte) (take-other doc n 97 (omega arith) t h p k)))
 
-    pub via-minus : Stands doc (c .at) 45 → b ≡ 105 → Via (keywordR FLOAT (45 ∷ infinityWord) (45 ∷ infinityWord)) → Via (plainR spaced)
-    via-minus s e =
-        via (keywordR FLOAT (45 ∷ infinityWord) (45 ∷ infinityWord)) (plainR spaced)
-        (plain-said spaced doc (c .at) FLOAT (45 ∷ infinityWord) (45 ∷ infinityWord) (body-minus spaced doc (c .at) 45 (s .byte) refl ∙ infinity-two spaced doc (c .at) b k (s .byte) e))
+  pub via-minus : (n : ℕ) (t : Skip) (e : ℕ) → Passed doc (c .at) 45 n → Skips doc n (byteR (is (only 105)) n (drop n doc)) t → t ≡ End e
+      → Via (keywordR FLOAT (45 ∷ infinityWord) (45 ∷ infinityWord)) → Via (plainR spaced)
+  via-minus n t e q h k =
+      via (keywordR FLOAT (45 ∷ infinityWord) (45 ∷ infinityWord)) (plainR spaced)
+      (plain-said spaced doc (c .at) FLOAT (45 ∷ infinityWord) (45 ∷ infinityWord)
+      (body-minus spaced doc (c .at) 45 (q .stands .byte) refl
+      ∙ infinity-two spaced doc (c .at) 105 (take-byte doc n 105 (omega arith) t h e k ∙ ap (peek doc) (q .next)) (q .stands .byte) refl))

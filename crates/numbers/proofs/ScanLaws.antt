@@ -13,17 +13,18 @@ use Rattle.exact.specs.Lang.{retR}
 use Rattle.exact.specs.Comb.{seqR, optionR}
 use Rattle.exact.specs.Block.{lead}
 use Rattle.exact.specs.Lines.{reached, raised, bind-reached, raised-ok}
-use Rattle.exact.specs.Place.{peek, peek-in, byte-peek, byte-is, alt-peek, There, there, byte-there, none-there}
+use Rattle.exact.specs.Place.{peek, byte-peek, byte-is, alt-peek, There, there, byte-there, none-there}
 use Rattle.language.specs.Kind.{FLOAT}
 use Rattle.language.specs.Scalars.{digit}
 use Rattle.numbers.specs.declared.digits.Stretch.{Stretch}
-use Rattle.numbers.specs.declared.scanning.Numeral.{Numeral}
+use Rattle.numbers.specs.declared.scanning.Scanned.{Scanned}
+use Rattle.numbers.specs.declared.scanning.Scanned.the-variants.{Refused}
 use Rattle.numbers.specs.Same.{found}
 use Rattle.numbers.specs.Digits.{digitsR}
 use Rattle.numbers.specs.Plain.{sign, oneR, exponentR}
 use Rattle.numbers.specs.Places.{tailEnd, squeezed, farAt, digits-read, digits-none}
 use Rattle.numbers.specs.Numbers.{afterSign, float, exponentAt}
-use Rattle.numbers.specs.Contract.{Grouped, Tight, Powered, no-power, power}
+use Rattle.numbers.specs.Contract.{Grouped, Passed, Tight, aFloat, Powered, no-power, power}
 use Rattle.numbers.proofs.DigitLaws.{tail-some}
 use Rattle.numbers.proofs.SqueezeLaws.{squeeze-join, squeeze-byte, tight-join, tight-none, tight-byte, tight-group}
 
@@ -69,26 +70,26 @@ one-at doc at a l h = ap (λ o. bind o (λ b. retR (b ∷ []))) (byte-is doc at 
 
 -- DIGITS, read
 module _ (spaced : Bool) (doc : List ℕ) (d : ℕ) (g : Stretch) (x : Grouped spaced doc d g) where
-  pub group-digit : (g .end ≡ d → ⊥) → is digit (peek doc d) ≡ true
+  pub group-digit : (g .end .at ≡ d → ⊥) → is digit (peek doc d) ≡ true
   group-digit n = go (is digit (peek doc d)) refl
     where
       go : (y : Bool) → is digit (peek doc d) ≡ y → is digit (peek doc d) ≡ true
       go true z = z
       go false z = absurd (n (x .end ∙ rw z refl))
 
-  pub group-over : g .end ≡ d → is digit (peek doc d) ≡ false
+  pub group-over : g .end .at ≡ d → is digit (peek doc d) ≡ false
   group-over n = go (is digit (peek doc d)) refl
     where
       go : (y : Bool) → is digit (peek doc d) ≡ y → is digit (peek doc d) ≡ false
       go true z =
-          let e : g .end ≡ tailEnd spaced doc d = x .end ∙ rw z refl in
+          let e : g .end .at ≡ tailEnd spaced doc d = x .end ∙ rw z refl in
           absurd (omega (arith, tail-some spaced doc d z))
       go false z = z
 
-  pub group-read : (g .end ≡ d → ⊥) → digitsR spaced d (drop d doc) ≡ reached (farAt spaced doc (g .end)) (squeezed (slice d (g .end) doc)) (g .end) (drop (g .end) doc)
-  group-read n = digits-read spaced doc d (g .end) (x .end) (group-digit n)
+  pub group-read : (g .end .at ≡ d → ⊥) → digitsR spaced d (drop d doc) ≡ reached (farAt spaced doc (g .end .at)) (squeezed (slice d (g .end .at) doc)) (g .end .at) (drop (g .end .at) doc)
+  group-read n = digits-read spaced doc d (g .end .at) (x .end) (group-digit n)
 
-  pub group-bad : g .end ≡ d → digitsR spaced d (drop d doc) ≡ bad d
+  pub group-bad : g .end .at ≡ d → digitsR spaced d (drop d doc) ≡ bad d
   group-bad n = digits-none spaced doc d (group-over n)
 
 -- A SIGN
@@ -143,57 +144,63 @@ module _ (doc : List ℕ) (at : ℕ) where
       go true z = let i = sign-in z in omega arith
       go false z = l
 
--- AN EXPONENT
-module _ (spaced : Bool) (doc : List ℕ) (at d : ℕ) (dense : Bool) (h : 101 ≡ peek doc at) (k : d ≡ afterSign doc (at + 1)) where
+-- AN EXPONENT: its letter was taken, and n is the place behind it
+module _ (spaced : Bool) (doc : List ℕ) (at n d : ℕ) (dense : Bool) (l : Passed doc at 101 n) (a : d ≡ afterSign doc n) where
+  letter : 101 ≡ peek doc at
+  letter = l .stands .byte
+
+  past-sign : d ≡ afterSign doc (at + 1)
+  past-sign = a ∙ ap (afterSign doc) (l .next)
+
   letter-in : at < length doc
-  letter-in = peek-in doc at 101 h (omega arith)
+  letter-in = l .stands .inside
 
   pub letter-inside : at + 1 ≤ length doc
   letter-inside = let i = letter-in in omega arith
 
   sign-after : (at + 1 ≤ d) × (d ≤ length doc)
-  sign-after = let a = sign-ahead doc (at + 1) in let b = sign-inside doc (at + 1) letter-inside in (omega arith, omega arith)
+  sign-after = let e = past-sign in let a = sign-ahead doc (at + 1) in let b = sign-inside doc (at + 1) letter-inside in (omega arith, omega arith)
 
   exponent-by : exponentR spaced at (drop at doc) ≡ bind (digitsR spaced d (drop d doc)) (λ ds. retR (101 ∷ (signText doc (at + 1) ++ ds)))
   unfolding exponentR
   exponent-by =
-      ap (λ o. bind o (λ x. seqR (optionR sign (oneR sign)) λ s. seqR (digitsR spaced) λ ds. retR (x ++ s ++ ds))) (one-at doc at 101 (omega arith) h)
-      ∙ (ap (λ o. bind o (λ s. seqR (digitsR spaced) λ ds. retR (101 ∷ (s ++ ds)))) (sign-read doc (at + 1)) ∙ rw k refl)
+      ap (λ o. bind o (λ x. seqR (optionR sign (oneR sign)) λ s. seqR (digitsR spaced) λ ds. retR (x ++ s ++ ds))) (one-at doc at 101 (omega arith) letter)
+      ∙ (ap (λ o. bind o (λ s. seqR (digitsR spaced) λ ds. retR (101 ∷ (s ++ ds)))) (sign-read doc (at + 1)) ∙ rw past-sign refl)
 
   letter-no-space : _≡_ {A = ℕ} 101 32 → ⊥
   letter-no-space e = omega arith
 
   exponent-text : (e : ℕ) → d ≤ e → e ≤ length doc → 101 ∷ (signText doc (at + 1) ++ squeezed (slice d e doc)) ≡ squeezed (slice at e doc)
-  exponent-text e l i =
+  exponent-text e j i =
       let a = sign-after in
-      let t : signText doc (at + 1) ≡ squeezed (slice (at + 1) d doc) = sym (rw k (sign-text doc (at + 1))) in
+      let t : signText doc (at + 1) ≡ squeezed (slice (at + 1) d doc) = sym (rw past-sign (sign-text doc (at + 1))) in
       ap (λ u. 101 ∷ (u ++ squeezed (slice d e doc))) t
-      ∙ (ap (101 ∷_) (squeeze-join doc (at + 1) d e (a .0) l)
-      ∙ (ap (λ u. u ++ squeezed (slice (at + 1) e doc)) (sym (squeeze-byte doc at 101 h letter-no-space letter-in)) ∙ squeeze-join doc at (at + 1) e (omega arith) (omega arith)))
+      ∙ (ap (101 ∷_) (squeeze-join doc (at + 1) d e (a .0) j)
+      ∙ (ap (λ u. u ++ squeezed (slice (at + 1) e doc)) (sym (squeeze-byte doc at 101 letter letter-no-space letter-in)) ∙ squeeze-join doc at (at + 1) e (omega arith) (omega arith)))
 
   exponent-tight : (e : ℕ) → d ≤ e → Tight doc d e → Tight doc at e
-  exponent-tight e l t =
+  exponent-tight e j t =
       let a = sign-after in
-      tight-join doc at (at + 1) e (omega arith) (omega arith) (tight-byte doc at 101 h letter-no-space letter-in)
-      (tight-join doc (at + 1) d e (a .0) l (rw k (sign-tight doc (at + 1))) t)
+      tight-join doc at (at + 1) e (omega arith) (omega arith) (tight-byte doc at 101 letter letter-no-space letter-in)
+      (tight-join doc (at + 1) d e (a .0) j (rw past-sign (sign-tight doc (at + 1))) t)
 
   module _ (g : Stretch) (x : Grouped spaced doc d g) where
-    pub power-not : (s : Numeral) → g .end ≡ d → s ≡ record { kind = 0; end = d; last = d; dense = false } → Powered spaced doc at dense s
+    pub power-not : g .end .at ≡ d → Powered spaced doc at dense (Refused d)
     unfolding exponentAt
-    power-not s n z =
+    power-not z =
         let a = sign-after in
-        rw z
-        (no-power d (omega arith) (a .1)
+        no-power d (omega arith) (a .1)
         (λ m w.
-        ap (λ o. bind o (float m w)) (exponent-by ∙ ap (λ o. bind o (λ ds. retR (101 ∷ (signText doc (at + 1) ++ ds)))) (group-bad spaced doc d g x n))))
+        ap (λ o. bind o (float m w)) (exponent-by ∙ ap (λ o. bind o (λ ds. retR (101 ∷ (signText doc (at + 1) ++ ds)))) (group-bad spaced doc d g x z)))
 
-    pub power-read : (b : Bool) → (g .end ≡ d → ⊥) → b ≡ and dense (g .dense) → Powered spaced doc at dense (record { kind = 5; end = g .end; last = g .end; dense = b })
+    pub power-read : (b : Bool) (s : Scanned) → (g .end .at ≡ d → ⊥) → b ≡ and dense (g .dense) → s ≡ aFloat (g .end .at) (g .end .at) b → Powered spaced doc at dense s
     unfolding exponentAt
-    power-read b n z =
+    power-read b s n z q =
         let a = sign-after in
-        let e = g .end in
+        let e = g .end .at in
         let f = farAt spaced doc e in
-        power e b (omega (arith, x .ahead)) (x .inside)
+        rw q
+        (power e b (omega (arith, x .ahead)) (x .inside)
         (λ m w.
         ap
         (λ o. bind o (float m w))
@@ -205,4 +212,4 @@ module _ (spaced : Bool) (doc : List ℕ) (at d : ℕ) (dense : Bool) (h : 101 �
         ∙ (bind-reached f (squeezed (slice at e doc)) e (drop e doc) (float m w) ∙ raised-ok f (found FLOAT (m ++ (w ++ squeezed (slice at e doc)))) e (drop e doc)))
         (λ t.
         let u = and-of dense (g .dense) (sym z ∙ t) in
-        (u .0, exponent-tight e (x .ahead) (tight-group doc spaced d g x (u .1))))
+        (u .0, exponent-tight e (x .ahead) (tight-group doc spaced d g x (u .1)))))

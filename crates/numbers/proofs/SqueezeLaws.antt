@@ -62,5 +62,5 @@ module _ (doc : List ℕ) where
   pub tight-run : (d e : ℕ) → e ≡ runEnd digit doc d → Tight doc d e
   tight-run d e h = rw (h, ← slice-at d _ doc) (run-dense (drop d doc))
 
-  pub tight-group : (spaced : Bool) (d : ℕ) (g : Stretch) → Grouped spaced doc d g → g .dense ≡ true → Tight doc d (g .end)
-  tight-group spaced d g x h = tight-run d (g .end) (x .dense h)
+  pub tight-group : (spaced : Bool) (d : ℕ) (g : Stretch) → Grouped spaced doc d g → g .dense ≡ true → Tight doc d (g .end .at)
+  tight-group spaced d g x h = tight-run d (g .end .at) (x .dense h)

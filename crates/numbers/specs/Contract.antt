@@ -11,33 +11,44 @@ use Rattle.exact.specs.Place.{peek, runEnd}
 use Rattle.language.specs.Kind.{INTEGER, FLOAT}
 use Rattle.language.specs.Tree.{width, rowList}
 use Rattle.rooms.specs.declared.Cursor.{Cursor}
+use Rattle.characters.specs.DigitRuns.{Ran}
 use Rattle.language.specs.Scalars.{digit, plain, signed}
 use Rattle.language.specs.Answered.{limit}
 use Rattle.numbers.specs.declared.digits.Stretch.{Stretch}
 use Rattle.numbers.specs.declared.scanning.Numeral.{Numeral}
+use Rattle.numbers.specs.declared.scanning.Scanned.{Scanned}
+use Rattle.numbers.specs.declared.scanning.Scanned.the-variants.{Number, Refused}
 use Rattle.numbers.specs.Same.{Found, found}
 use Rattle.numbers.specs.Plain.{unsignedR}
-use Rattle.numbers.specs.Places.{groupEnd, squeezed, farAt}
+use Rattle.numbers.specs.Places.{groupEnd, gapAt, squeezed, farAt}
 use Rattle.numbers.specs.Numbers.{afterSign, exponentAt}
 
--- a run of digits
-pub record Ran (doc : List ℕ) (at e : ℕ) : Type 0 where
-  pub end : e ≡ runEnd digit doc at
-  pub ahead : at ≤ e
-  pub inside : e ≤ length doc
+-- the place behind a space and digits at a place, which is that place where no such stand
+pub data PastGap (doc : List ℕ) (at : ℕ) : ℕ → Type 0 where
+  no-gap : gapAt doc at ≡ false → PastGap doc at at
+  some-gap : (n : ℕ) → gapAt doc at ≡ true → Ran doc (at + 1) n → PastGap doc at n
 
 -- digits, spaced or not
 pub record Grouped (spaced : Bool) (doc : List ℕ) (at : ℕ) (g : Stretch) : Type 0 where
-  pub end : g .end ≡ groupEnd spaced doc at
-  pub ahead : at ≤ g .end
-  pub inside : g .end ≤ length doc
-  pub dense : g .dense ≡ true → g .end ≡ runEnd digit doc at
-  pub solid : (g .end ≡ at → ⊥) → peek doc (g .end - 1) ≡ 32 → ⊥
+  pub end : g .end .at ≡ groupEnd spaced doc at
+  pub ahead : at ≤ g .end .at
+  pub inside : g .end .at ≤ length doc
+  pub dense : g .dense ≡ true → g .end .at ≡ runEnd digit doc at
+  pub solid : (g .end .at ≡ at → ⊥) → peek doc (g .end .at - 1) ≡ 32 → ⊥
 
 -- the byte b stands at a place
 pub record Stands (doc : List ℕ) (at b : ℕ) : Type 0 where
   pub byte : b ≡ peek doc at
   pub inside : at < length doc
+
+-- another than b stands there, or none
+pub record Other (doc : List ℕ) (at b : ℕ) : Type 0 where
+  pub not : peek doc at ≡ b → ⊥
+
+-- the byte b was taken at a place, and n is the place behind it
+pub record Passed (doc : List ℕ) (at b n : ℕ) : Type 0 where
+  pub stands : Stands doc at b
+  pub next : n ≡ at + 1
 
 -- the place after the sign of an exponent
 pub record PastSign (doc : List ℕ) (at d : ℕ) : Type 0 where
@@ -49,30 +60,37 @@ pub record PastSign (doc : List ℕ) (at d : ℕ) : Type 0 where
 abbrev pub Tight : List ℕ → ℕ → ℕ → Type 0
 Tight doc a e = squeezed (slice a e doc) ≡ slice a e doc
 
+-- WHAT IS FOUND: an integer whose digits end at e, a float that ends there, and its last digits at l
+abbrev pub anInteger : ℕ → Bool → Scanned
+anInteger e b = Number (record { kind = record { 0 = INTEGER }; end = e; last = e; dense = b })
+
+abbrev pub aFloat : ℕ → ℕ → Bool → Scanned
+aFloat e l b = Number (record { kind = record { 0 = FLOAT }; end = e; last = l; dense = b })
+
 -- AN EXPONENT from `at` on: refused behind that place, or a float whose text goes on with the bytes up to e
-pub data Powered (spaced : Bool) (doc : List ℕ) (at : ℕ) (dense : Bool) : Numeral → Type 0 where
+pub data Powered (spaced : Bool) (doc : List ℕ) (at : ℕ) (dense : Bool) : Scanned → Type 0 where
   no-power : (p : ℕ) → at < p → p ≤ length doc → ((m w : List ℕ) → exponentAt spaced doc at m w ≡ bad p)
-      → Powered spaced doc at dense (record { kind = 0; end = p; last = p; dense = false })
+      → Powered spaced doc at dense (Refused p)
   power : (e : ℕ) (b : Bool) → at < e → e ≤ length doc
       → ((m w : List ℕ) → exponentAt spaced doc at m w ≡ reached (farAt spaced doc e) (found FLOAT (m ++ (w ++ squeezed (slice at e doc)))) e (drop e doc))
-      → (b ≡ true → (dense ≡ true) × Tight doc at e) → Powered spaced doc at dense (record { kind = FLOAT; end = e; last = e; dense = b })
+      → (b ≡ true → (dense ≡ true) × Tight doc at e) → Powered spaced doc at dense (aFloat e e b)
 
 -- THE REST OF A FLOAT from `at` on, as r reads it
-pub data Ends (spaced : Bool) (doc : List ℕ) (at : ℕ) (dense : Bool) (r : List ℕ → List ℕ → Out Found) : Numeral → Type 0 where
-  stops : (p : ℕ) → at ≤ p → p ≤ length doc → ((m w : List ℕ) → r m w ≡ bad p) → Ends spaced doc at dense r (record { kind = 0; end = p; last = p; dense = false })
+pub data Ends (spaced : Bool) (doc : List ℕ) (at : ℕ) (dense : Bool) (r : List ℕ → List ℕ → Out Found) : Scanned → Type 0 where
+  stops : (p : ℕ) → at ≤ p → p ≤ length doc → ((m w : List ℕ) → r m w ≡ bad p) → Ends spaced doc at dense r (Refused p)
   goes : (e l : ℕ) (b : Bool) → at ≤ e → e ≤ length doc
       → ((m w : List ℕ) → r m w ≡ reached (farAt spaced doc l) (found FLOAT (m ++ (w ++ squeezed (slice at e doc)))) e (drop e doc))
-      → (b ≡ true → (dense ≡ true) × Tight doc at e) → Ends spaced doc at dense r (record { kind = FLOAT; end = e; last = l; dense = b })
+      → (b ≡ true → (dense ≡ true) × Tight doc at e) → Ends spaced doc at dense r (aFloat e l b)
 
 -- A NUMBER without its sign, from d on
-pub data Scanned (spaced : Bool) (doc : List ℕ) (d : ℕ) : Numeral → Type 0 where
-  refused : (p : ℕ) → p ≤ length doc → ((m : List ℕ) → unsignedR spaced m d (drop d doc) ≡ bad p) → Scanned spaced doc d (record { kind = 0; end = p; last = p; dense = false })
+pub data Scans (spaced : Bool) (doc : List ℕ) (d : ℕ) : Scanned → Type 0 where
+  refused : (p : ℕ) → p ≤ length doc → ((m : List ℕ) → unsignedR spaced m d (drop d doc) ≡ bad p) → Scans spaced doc d (Refused p)
   integer : (e : ℕ) (b : Bool) → d < e → e ≤ length doc
       → ((m : List ℕ) → unsignedR spaced m d (drop d doc) ≡ reached (farAt spaced doc e) (found INTEGER (signed m (squeezed (slice d e doc)))) e (drop e doc))
-      → (b ≡ true → Tight doc d e) → (peek doc (e - 1) ≡ 32 → ⊥) → Scanned spaced doc d (record { kind = INTEGER; end = e; last = e; dense = b })
+      → (b ≡ true → Tight doc d e) → (peek doc (e - 1) ≡ 32 → ⊥) → Scans spaced doc d (anInteger e b)
   floated : (e l : ℕ) (b : Bool) → d < e → e ≤ length doc
       → ((m : List ℕ) → unsignedR spaced m d (drop d doc) ≡ reached (farAt spaced doc l) (found FLOAT (m ++ squeezed (slice d e doc))) e (drop e doc))
-      → (b ≡ true → Tight doc d e) → Scanned spaced doc d (record { kind = FLOAT; end = e; last = l; dense = b })
+      → (b ≡ true → Tight doc d e) → Scans spaced doc d (aFloat e l b)
 
 -- WHAT IS STORED. The bytes from a to e may be stored from x on
 pub record Storing (doc : List ℕ) (a e x : ℕ) : Type 0 where
@@ -112,7 +130,7 @@ pub record Writing (doc : List ℕ) (s : Numeral) (at d : ℕ) (neg : Bool) (x :
   pub sign : Sign doc at d neg
   pub some : d < s .end
   pub inside : s .end ≤ length doc
-  pub last : s .kind ≡ INTEGER → peek doc (s .end - 1) ≡ 32 → ⊥
+  pub last : s .kind .0 ≡ INTEGER → peek doc (s .end - 1) ≡ 32 → ⊥
   pub small : x + length doc ≤ 2 * limit
   pub dense : s .dense ≡ true → Tight doc d (s .end)
 
@@ -124,8 +142,7 @@ pub data Leads (doc : List ℕ) (at : ℕ) : ℕ → Bool → Type 0 where
 -- .. and the number s was found there
 pub record NumberAt (doc : List ℕ) (at d : ℕ) (neg spaced : Bool) (s : Numeral) : Type 0 where
   pub leads : Leads doc at d neg
-  pub scanned : Scanned spaced doc d s
-  pub some : s .kind ≡ 0 → ⊥
+  pub scanned : Scans spaced doc d (Number s)
 
 -- the row of a leaf with a text is written, and the cursor n stands behind it
 pub record Put (rows rows' : List ℕ) (c : Cursor) (parent kind e to : ℕ) (n : Cursor) : Type 0 where

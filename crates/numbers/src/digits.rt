@@ -1,92 +1,61 @@
-// Where digits end: a run of them, and runs with single spaces between.
-ghost use mathlib.Core.Path.{_≡_};
+// Where digits end, with single spaces between them or without.
 ghost use mathlib.Core.Bool.{true};
 ghost use Prim.Native.Nat.{ℕ, _≤_};
 ghost use lib.ListN.{length};
-ghost use Rattle.exact.specs.Class.{is};
-ghost use Rattle.exact.specs.Place.{peek};
-ghost use Rattle.language.specs.Scalars.{digit};
-ghost use Rattle.numbers.specs.Places.{gapAt};
-ghost use Rattle.numbers.specs.Contract.{Ran, Grouped};
+ghost use Rattle.numbers.specs.Contract.{PastGap, Grouped};
+use characters::Reading;
+use characters::Skip;
 
-// Digits: the place after them, and whether no space stands between them.
+// Digits: the place behind them, and whether no space stands between them.
 pub struct Stretch {
-    pub end: usize,
+    pub end: Reading,
     pub dense: bool,
 }
 
-// The byte at a place, 256 at the end.
-pub fn look(doc: &[u8], at: usize) -> u32
-    ensures { λ r. ⌜ r ≡ peek (now (doc .entry)) at ⌝ }
+// The place behind a space and the digits that follow it; the same place, where no such stand.
+fn after_gap(doc: &[u8], r: Reading) -> Reading
+    ensures { λ n. ⌜ PastGap (now (doc .entry)) (r .at) (n .at) ⌝ }
 {
-    if at < doc.len() { doc[at] as u32 } else { 256 }
-}
-
-// Whether a digit stands at a place.
-fn is_digit(doc: &[u8], at: usize) -> bool
-    ensures { λ r. ⌜ r ≡ is digit (peek (now (doc .entry)) at) ⌝ }
-{
-    let b = look(&*doc, at);
-    if b <= 57 {
-        return 48 <= b;
-    }
-    false
-}
-
-// Whether a space and a digit stand at a place.
-fn is_gap(doc: &[u8], at: usize) -> bool
-    ensures { λ r. ⌜ r ≡ gapAt (now (doc .entry)) at ⌝ }
-{
-    if look(&*doc, at) == 32 {
-        return is_digit(&*doc, at + 1);
-    }
-    false
-}
-
-// The place after the digits that stand at `at`.
-fn run(doc: &[u8], at: usize) -> usize
-    requires { ⌜ at ≤ length (now doc) ⌝ }
-    ensures { λ r. ⌜ Ran (now (doc .entry)) at r ⌝ }
-{
-    let mut e = at;
-    while e < doc.len() {
-        let b = doc[e];
-        if b < 48 {
-            return e;
+    match r.take(&*doc, 32) {
+        Skip::Bad(p) => r,
+        Skip::End(d) => {
+            let n = (Reading { at: d }).digits(&*doc);
+            if n.at == d {
+                return r;
+            }
+            n
         }
-        if 57 < b {
-            return e;
-        }
-        e += 1;
     }
-    e
 }
 
-// Digits at `at`, with single spaces between them.
-fn spaced_group(doc: &[u8], at: usize) -> Stretch
-    requires { ⌜ at ≤ length (now doc) ⌝ }
-    ensures { λ r. ⌜ Grouped true (now (doc .entry)) at r ⌝ }
+// Digits, with single spaces between them.
+fn spaced_group(doc: &[u8], r: Reading) -> Stretch
+    requires { ⌜ r .at ≤ length (now doc) ⌝ }
+    ensures { λ g. ⌜ Grouped true (now (doc .entry)) (r .at) g ⌝ }
 {
-    let mut end = run(&*doc, at);
+    let at = r.at;
+    let mut end = r.digits(&*doc);
     let mut dense = true;
-    if end == at {
+    if end.at == at {
         return Stretch { end, dense };
     }
-    while is_gap(&*doc, end) {
+    let mut next = after_gap(&*doc, end);
+    while end.at < next.at {
         dense = false;
-        end = run(&*doc, end + 1);
+        end = next;
+        next = after_gap(&*doc, end);
     }
     Stretch { end, dense }
 }
 
-// Digits at `at`, with single spaces between them where `spaced` holds. There are none if they end at `at`.
-pub fn group(doc: &[u8], at: usize, spaced: bool) -> Stretch
-    requires { ⌜ at ≤ length (now doc) ⌝ }
-    ensures { λ r. ⌜ Grouped spaced (now (doc .entry)) at r ⌝ }
+// Digits, with single spaces between them where `spaced` holds. There are none if they end where they begin.
+pub fn group(doc: &[u8], r: Reading, spaced: bool) -> Stretch
+    requires { ⌜ r .at ≤ length (now doc) ⌝ }
+    ensures { λ g. ⌜ Grouped spaced (now (doc .entry)) (r .at) g ⌝ }
 {
     if spaced {
-        return spaced_group(&*doc, at);
+        return spaced_group(&*doc, r);
     }
-    let end = run(&*doc, at);
+    let end = r.digits(&*doc);
     Stretch { end, dense: true }
 }

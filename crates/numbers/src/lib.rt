@@ -9,8 +9,10 @@ ghost use Rattle.rooms.specs.Contract.{Ready, Answers, Reaches, Small};
 ghost use Rattle.numbers.specs.Places.{farAt};
 ghost use Rattle.numbers.specs.Plain.{plainR};
 ghost use Rattle.numbers.specs.Keyword.{keywordR};
-ghost use Rattle.numbers.specs.Contract.{Stands, Leads, NumberAt, Put};
-ghost use Rattle.exact.specs.Place.{peek};
+ghost use Rattle.numbers.specs.Contract.{Passed, Leads, NumberAt, Put};
+use characters::Reading;
+use characters::Skip;
+use characters::Took;
 use language::Kind;
 use rooms::Ans;
 use rooms::Cursor;
@@ -24,8 +26,8 @@ mod digits;
 mod scanning;
 mod writing;
 
-use digits::look;
 use scanning::Numeral;
+use scanning::Scanned;
 use scanning::scan;
 use writing::number_text;
 
@@ -34,10 +36,10 @@ fn beyond(doc: &[u8], last: usize, spaced: bool) -> usize
     ensures { λ r. ⌜ r ≡ farAt spaced (now (doc .entry)) last ⌝ }
 {
     if spaced {
-        if look(&*doc, last) == 32 {
-            return last + 1;
-        }
-        return last;
+        return match (Reading { at: last }).take(&*doc, 32) {
+            Skip::End(n) => n,
+            Skip::Bad(p) => p,
+        };
     }
     0
 }
@@ -73,9 +75,10 @@ fn write(
     requires { ⌜ NumberAt (now doc) (c .at) d neg spaced s ⌝ }
     ensures { λ r. ⌜ Reaches (now (doc .entry)) c parent (plainR spaced (c .at) (drop (c .at) (now (doc .entry)))) r (now (rows .entry)) (now (rows .exit)) (now (text .entry)) (now (text .exit)) ⌝ }
 {
+    let kind = s.kind;
     let far = beyond(&*doc, s.last, spaced);
     let to = number_text(&*doc, text, s, c.at, d, neg, c.text);
-    let n = put_leaf(rows, c, parent, Kind(s.kind), s.end, to);
+    let n = put_leaf(rows, c, parent, kind, s.end, to);
     Far::Upto(n, far)
 }
 
@@ -86,19 +89,18 @@ fn number(
     text: &mut [u8],
     c: Cursor,
     parent: u32,
-    d: usize,
+    d: Reading,
     neg: bool,
     spaced: bool,
 ) -> Far
     requires { ⌜ Ready (now doc) c ⌝ }
-    requires { ⌜ Leads (now doc) (c .at) d neg ⌝ }
+    requires { ⌜ Leads (now doc) (c .at) (d .at) neg ⌝ }
     ensures { λ r. ⌜ Reaches (now (doc .entry)) c parent (plainR spaced (c .at) (drop (c .at) (now (doc .entry)))) r (now (rows .entry)) (now (rows .exit)) (now (text .entry)) (now (text .exit)) ⌝ }
 {
-    let s = scan(&*doc, d, spaced);
-    if s.kind == 0 {
-        return Far::Not(s.end);
+    match scan(&*doc, d, spaced) {
+        Scanned::Refused(p) => Far::Not(p),
+        Scanned::Number(s) => write(&*doc, rows, text, c, parent, s, d.at, neg, spaced),
     }
-    write(&*doc, rows, text, c, parent, s, d, neg, spaced)
 }
 
 // A keyword at the cursor, of a kind that has no text.
@@ -159,59 +161,69 @@ fn float_word(
     Far::Not(e)
 }
 
-// What begins with `n`: `nan` or `null`.
+// What begins with `n`, which was taken: `nan` or `null`.
 fn nan_or_null(
     doc: &[u8],
     rows: &mut [u32],
     text: &mut [u8],
     c: Cursor,
     parent: u32,
+    n: Reading,
     spaced: bool,
 ) -> Far
     requires { ⌜ Ready (now doc) c ⌝ }
-    requires { ⌜ Stands (now doc) (c .at) 110 ⌝ }
+    requires { ⌜ Passed (now doc) (c .at) 110 (n .at) ⌝ }
     ensures { λ r. ⌜ Reaches (now (doc .entry)) c parent (plainR spaced (c .at) (drop (c .at) (now (doc .entry)))) r (now (rows .entry)) (now (rows .exit)) (now (text .entry)) (now (text .exit)) ⌝ }
 {
-    let at = c.at;
-    if look(&*doc, at + 1) == 97 {
-        return float_word(&*doc, rows, text, c, parent, b"nan");
+    match n.take(&*doc, 97) {
+        Skip::End(e) => float_word(&*doc, rows, text, c, parent, b"nan"),
+        Skip::Bad(p) => keyword(&*doc, rows, text, c, parent, Kind::NULL, b"null"),
     }
-    keyword(&*doc, rows, text, c, parent, Kind::NULL, b"null")
 }
 
-// What begins with `-`: `-infinity` or a number.
+// What begins with `-`, which was taken: `-infinity` or a number.
 fn signed(
     doc: &[u8],
     rows: &mut [u32],
     text: &mut [u8],
     c: Cursor,
     parent: u32,
+    n: Reading,
     spaced: bool,
 ) -> Far
     requires { ⌜ Ready (now doc) c ⌝ }
-    requires { ⌜ Stands (now doc) (c .at) 45 ⌝ }
+    requires { ⌜ Passed (now doc) (c .at) 45 (n .at) ⌝ }
     ensures { λ r. ⌜ Reaches (now (doc .entry)) c parent (plainR spaced (c .at) (drop (c .at) (now (doc .entry)))) r (now (rows .entry)) (now (rows .exit)) (now (text .entry)) (now (text .exit)) ⌝ }
 {
-    let at = c.at;
-    if look(&*doc, at + 1) == 105 {
-        return float_word(&*doc, rows, text, c, parent, b"-infinity").anew();
+    match n.take(&*doc, 105) {
+        Skip::End(e) => float_word(&*doc, rows, text, c, parent, b"-infinity").anew(),
+        Skip::Bad(p) => number(&*doc, rows, text, c, parent, n, true, spaced).anew(),
     }
-    number(&*doc, rows, text, c, parent, at + 1, true, spaced).anew()
 }
 
-// A keyword that begins with no `-`, or none.
-fn word(doc: &[u8], rows: &mut [u32], text: &mut [u8], c: Cursor, parent: u32, spaced: bool) -> Far
+// A keyword that begins with no `-`, or none. Its first byte was taken.
+fn word(
+    doc: &[u8],
+    rows: &mut [u32],
+    text: &mut [u8],
+    c: Cursor,
+    parent: u32,
+    b: u8,
+    n: Reading,
+    spaced: bool,
+) -> Far
     requires { ⌜ Ready (now doc) c ⌝ }
-    requires { ⌜ 102 ≤ peek (now doc) (c .at) ⌝ }
+    requires { ⌜ 102 ≤ b ⌝ }
+    requires { ⌜ Passed (now doc) (c .at) b (n .at) ⌝ }
     ensures { λ r. ⌜ Reaches (now (doc .entry)) c parent (plainR spaced (c .at) (drop (c .at) (now (doc .entry)))) r (now (rows .entry)) (now (rows .exit)) (now (text .entry)) (now (text .exit)) ⌝ }
 {
     let at = c.at;
-    match look(&*doc, at) {
-        110 => nan_or_null(&*doc, rows, text, c, parent, spaced).anew(),
+    match b {
+        110 => nan_or_null(&*doc, rows, text, c, parent, n, spaced).anew(),
         116 => keyword(&*doc, rows, text, c, parent, Kind::TRUE, b"true").anew(),
         102 => keyword(&*doc, rows, text, c, parent, Kind::FALSE, b"false").anew(),
         105 => float_word(&*doc, rows, text, c, parent, b"infinity").anew(),
-        _ => number(&*doc, rows, text, c, parent, at, false, spaced).anew(),
+        _ => number(&*doc, rows, text, c, parent, Reading { at }, false, spaced).anew(),
     }
 }
 
@@ -227,11 +239,14 @@ pub fn plain(
     requires { ⌜ Ready (now doc) c ⌝ }
     ensures { λ r. ⌜ Reaches (now (doc .entry)) c parent (plainR spaced (c .at) (drop (c .at) (now (doc .entry)))) r (now (rows .entry)) (now (rows .exit)) (now (text .entry)) (now (text .exit)) ⌝ }
 {
-    let at = c.at;
-    match look(&*doc, at) {
-        45 => signed(&*doc, rows, text, c, parent, spaced).anew(),
-        102..=116 => word(&*doc, rows, text, c, parent, spaced).anew(),
-        _ => number(&*doc, rows, text, c, parent, at, false, spaced).anew(),
+    let r = Reading { at: c.at };
+    match r.byte(&*doc) {
+        Took::Over => Far::Not(c.at),
+        Took::Byte(b, n) => match b {
+            45 => signed(&*doc, rows, text, c, parent, n, spaced).anew(),
+            102..=116 => word(&*doc, rows, text, c, parent, b, n, spaced).anew(),
+            _ => number(&*doc, rows, text, c, parent, r, false, spaced).anew(),
+        },
     }
 }
 

@@ -1,32 +1,54 @@
 // What a number is, before anything is written.
-use super::digits::Stretch;
 use super::digits::group;
-use super::digits::look;
+use characters::Reading;
+use characters::Skip;
+use characters::Took;
+use language::Kind;
 ghost use mathlib.Core.Path.{_≡_};
-ghost use mathlib.Core.Bool.{false};
-ghost use Prim.Native.Nat.{ℕ, _≤_};
+ghost use Prim.Native.Nat.{ℕ, _-_, _≤_};
 ghost use lib.ListN.{length};
 ghost use Rattle.exact.specs.Class.{and};
 ghost use Rattle.numbers.specs.Numbers.{powerAt, pointAt};
-ghost use Rattle.numbers.specs.Contract.{Stands, PastSign, Powered, Ends, Scanned};
+ghost use Rattle.numbers.specs.Contract.{anInteger, aFloat, Other, Passed, PastSign, Powered, Ends, Scans};
 
-// A number without its sign: its kind, the place after it, the place after its last digits, and whether no space stands in it. Kind 0: it is refused at `end`.
+// A number without its sign: its kind, the place behind it, the place behind its last digits, and whether no space stands in it.
 pub struct Numeral {
-    pub kind: u32,
+    pub kind: Kind,
     pub end: usize,
     pub last: usize,
     pub dense: bool,
 }
 
-fn refused(at: usize) -> Numeral
-    ensures { λ r. ⌜ r ≡ record { kind = 0; end = at; last = at; dense = false } ⌝ }
+// What is found where a number may stand: the number, or the place where it is refused.
+pub enum Scanned {
+    Number(Numeral),
+    Refused(usize),
+}
+
+// An integer whose digits end at `end`.
+fn integer(end: usize, dense: bool) -> Scanned
+    ensures { λ s. ⌜ s ≡ anInteger end dense ⌝ }
 {
-    Numeral {
-        kind: 0,
-        end: at,
-        last: at,
-        dense: false,
-    }
+    let kind = Kind::INTEGER;
+    Scanned::Number(Numeral {
+        kind,
+        end,
+        last: end,
+        dense,
+    })
+}
+
+// A float that ends at `end`, and its last digits at `last`.
+fn float(end: usize, last: usize, dense: bool) -> Scanned
+    ensures { λ s. ⌜ s ≡ aFloat end last dense ⌝ }
+{
+    let kind = Kind::FLOAT;
+    Scanned::Number(Numeral {
+        kind,
+        end,
+        last,
+        dense,
+    })
 }
 
 fn both(a: bool, b: bool) -> bool
@@ -38,108 +60,103 @@ fn both(a: bool, b: bool) -> bool
     false
 }
 
-// The place after the sign, if one stands at `at`.
-fn after_sign(doc: &[u8], at: usize) -> usize
-    requires { ⌜ at ≤ length (now doc) ⌝ }
-    ensures { λ r. ⌜ PastSign (now (doc .entry)) at r ⌝ }
+// The place behind the sign, if one stands here.
+fn after_sign(doc: &[u8], r: Reading) -> Reading
+    requires { ⌜ r .at ≤ length (now doc) ⌝ }
+    ensures { λ n. ⌜ PastSign (now (doc .entry)) (r .at) (n .at) ⌝ }
 {
-    let b = look(&*doc, at);
-    if b == 43 {
-        return at + 1;
+    match r.byte(&*doc) {
+        Took::Over => r,
+        Took::Byte(b, n) => {
+            if b == 43 {
+                return n;
+            }
+            if b == 45 {
+                return n;
+            }
+            r
+        }
     }
-    if b == 45 {
-        return at + 1;
-    }
-    at
 }
 
-// A float whose exponent's `e` stands at `at`.
-fn exponent(doc: &[u8], at: usize, spaced: bool, dense: bool) -> Numeral
-    requires { ⌜ Stands (now doc) at 101 ⌝ }
-    ensures { λ r. ⌜ Powered spaced (now (doc .entry)) at dense r ⌝ }
+// A float of which the exponent's `e` was taken.
+fn exponent(doc: &[u8], r: Reading, spaced: bool, dense: bool) -> Scanned
+    requires { ⌜ Passed (now doc) (r .at - 1) 101 (r .at) ⌝ }
+    ensures { λ s. ⌜ Powered spaced (now (doc .entry)) (r .at - 1) dense s ⌝ }
 {
-    let d = after_sign(&*doc, at + 1);
+    let d = after_sign(&*doc, r);
     let g = group(&*doc, d, spaced);
     let end = g.end;
-    if end == d {
-        return refused(d);
+    if end.at == d.at {
+        return Scanned::Refused(d.at);
     }
-    Numeral {
-        kind: 5,
-        end,
-        last: end,
-        dense: both(dense, g.dense),
+    float(end.at, end.at, both(dense, g.dense))
+}
+
+// A float whose digits and point end here, and its last digits at `last`: with an exponent or without.
+fn fraction(doc: &[u8], r: Reading, last: usize, spaced: bool, dense: bool) -> Scanned
+    requires { ⌜ (r .at ≤ length (now doc)) × (last ≤ r .at) ⌝ }
+    ensures { λ s. ⌜ Ends spaced (now (doc .entry)) (r .at) dense (powerAt spaced (now (doc .entry)) last (r .at)) s ⌝ }
+{
+    match r.take(&*doc, 101) {
+        Skip::End(n) => exponent(&*doc, Reading { at: n }, spaced, dense),
+        Skip::Bad(p) => float(p, last, dense),
     }
 }
 
-// A float whose digits and point end at `at`, its last digits at `last`: with an exponent or without.
-fn fraction(doc: &[u8], at: usize, last: usize, spaced: bool, dense: bool) -> Numeral
-    requires { ⌜ (at ≤ length (now doc)) × (last ≤ at) ⌝ }
-    ensures { λ r. ⌜ Ends spaced (now (doc .entry)) at dense (powerAt spaced (now (doc .entry)) last at) r ⌝ }
+// A float of which the digits up to `last` and the point behind them were taken.
+fn pointed(doc: &[u8], r: Reading, last: usize, spaced: bool, dense: bool) -> Scanned
+    requires { ⌜ Passed (now doc) last 46 (r .at) ⌝ }
+    ensures { λ s. ⌜ Ends spaced (now (doc .entry)) last dense (pointAt spaced (now (doc .entry)) last) s ⌝ }
 {
-    if look(&*doc, at) == 101 {
-        return exponent(&*doc, at, spaced, dense);
-    }
-    Numeral {
-        kind: 5,
-        end: at,
-        last,
-        dense,
-    }
-}
-
-// A float whose point stands at `at`, behind digits.
-fn pointed(doc: &[u8], at: usize, spaced: bool, dense: bool) -> Numeral
-    requires { ⌜ Stands (now doc) at 46 ⌝ }
-    ensures { λ r. ⌜ Ends spaced (now (doc .entry)) at dense (pointAt spaced (now (doc .entry)) at) r ⌝ }
-{
-    let d = at + 1;
-    let g = group(&*doc, d, spaced);
+    let g = group(&*doc, r, spaced);
     let end = g.end;
-    if end == d {
-        return fraction(&*doc, d, at, spaced, dense);
+    if end.at == r.at {
+        return fraction(&*doc, r, last, spaced, dense);
     }
-    fraction(&*doc, end, end, spaced, both(dense, g.dense))
+    fraction(&*doc, end, end.at, spaced, both(dense, g.dense))
 }
 
-// A float whose point stands at `at`, with no digits before it.
-fn led(doc: &[u8], at: usize, spaced: bool) -> Numeral
-    requires { ⌜ Stands (now doc) at 46 ⌝ }
-    ensures { λ r. ⌜ Scanned spaced (now (doc .entry)) at r ⌝ }
+// A float of which the point was taken, and no digits before it.
+fn led(doc: &[u8], r: Reading, spaced: bool) -> Scanned
+    requires { ⌜ Passed (now doc) (r .at - 1) 46 (r .at) ⌝ }
+    ensures { λ s. ⌜ Scans spaced (now (doc .entry)) (r .at - 1) s ⌝ }
 {
-    let d = at + 1;
-    let g = group(&*doc, d, spaced);
+    let g = group(&*doc, r, spaced);
     let end = g.end;
-    if end == d {
-        return refused(d);
+    if end.at == r.at {
+        return Scanned::Refused(r.at);
     }
-    fraction(&*doc, end, end, spaced, g.dense)
+    fraction(&*doc, end, end.at, spaced, g.dense)
 }
 
-// A number without its sign, from `at` on.
-pub fn scan(doc: &[u8], at: usize, spaced: bool) -> Numeral
-    requires { ⌜ at ≤ length (now doc) ⌝ }
-    ensures { λ r. ⌜ Scanned spaced (now (doc .entry)) at r ⌝ }
+// A number that begins with no point.
+fn whole(doc: &[u8], r: Reading, spaced: bool) -> Scanned
+    requires { ⌜ r .at ≤ length (now doc) ⌝ }
+    requires { ⌜ Other (now doc) (r .at) 46 ⌝ }
+    ensures { λ s. ⌜ Scans spaced (now (doc .entry)) (r .at) s ⌝ }
 {
-    if look(&*doc, at) == 46 {
-        return led(&*doc, at, spaced);
-    }
-    let g = group(&*doc, at, spaced);
+    let g = group(&*doc, r, spaced);
     let end = g.end;
-    if end == at {
-        return refused(at);
+    if end.at == r.at {
+        return Scanned::Refused(r.at);
     }
-    let b = look(&*doc, end);
-    if b == 46 {
-        return pointed(&*doc, end, spaced, g.dense);
+    match end.take(&*doc, 46) {
+        Skip::End(n) => pointed(&*doc, Reading { at: n }, end.at, spaced, g.dense),
+        Skip::Bad(p) => match end.take(&*doc, 101) {
+            Skip::End(n) => exponent(&*doc, Reading { at: n }, spaced, g.dense),
+            Skip::Bad(q) => integer(q, g.dense),
+        },
     }
-    if b == 101 {
-        return exponent(&*doc, end, spaced, g.dense);
-    }
-    Numeral {
-        kind: 4,
-        end,
-        last: end,
-        dense: g.dense,
+}
+
+// A number without its sign.
+pub fn scan(doc: &[u8], r: Reading, spaced: bool) -> Scanned
+    requires { ⌜ r .at ≤ length (now doc) ⌝ }
+    ensures { λ s. ⌜ Scans spaced (now (doc .entry)) (r .at) s ⌝ }
+{
+    match r.take(&*doc, 46) {
+        Skip::End(n) => led(&*doc, Reading { at: n }, spaced),
+        Skip::Bad(p) => whole(&*doc, r, spaced),
     }
 }

@@ -1,5 +1,6 @@
 // The text of a number, as it is stored.
 use super::scanning::Numeral;
+use language::Kind;
 use rooms::copy;
 use rooms::put_byte;
 ghost use mathlib.Core.Path.{_≡_};
@@ -117,10 +118,12 @@ pub fn number_text(
     x: usize,
 ) -> usize
     requires { ⌜ Writing (now doc) s at d neg x ⌝ }
-    ensures { λ r. ⌜ Stored (now (text .entry)) (now (text .exit)) x r (numberText (s .kind) (minusOf neg) (squeezed (slice d (s .end) (now (doc .entry))))) ⌝ }
+    ensures { λ r. ⌜ Stored (now (text .entry)) (now (text .exit)) x r (numberText (s .kind .0) (minusOf neg) (squeezed (slice d (s .end) (now (doc .entry))))) ⌝ }
 {
     let e = s.end;
-    if s.kind == 4 {
+    let kind = s.kind;
+    let integer = Kind::INTEGER;
+    if kind.0 == integer.0 {
         return integer_text(&*doc, text, neg, d, e, x, s.dense);
     }
     store(&*doc, at, e, text, x, s.dense)

@@ -1,26 +1,26 @@
 -- LARGER ROOMS never change acceptance, or a refusal from 1 to 6 (01, Numbers of refusal). Assumes what Unique does.
-use mathlib.Core.Path.{_≡_, refl, ap}
-use mathlib.Core.List.{List, _++_}
-use Prim.Native.Nat.{ℕ, _*_, _≤_, _<_}
+use mathlib.Core.Path.{_≡_}
+use mathlib.Core.List.{List}
+use Prim.Native.Nat.{ℕ, _≤_}
 use native.Mathlib.Omega.{arith}
-use lib.ListN.{length, drop}
-use Rattle.language.specs.declared.Answer.{Answer}
-use Rattle.language.specs.declared.Answer.the-variants.{Accepted}
-use Rattle.language.specs.Tree.{width, size, textOf, rowsOf}
-use Rattle.language.specs.Answered.{REPEAT, refusal, number, Answered, accepted, long, stopped, repeated, rows, bytes}
+use lib.ListN.{length}
+use Rattle.language.specs.Answered.{REPEAT, Answered, accepted, long, stopped, repeated, rows, bytes}
 use Rattle.promise.specs.Unique.{Known, one-answer}
 
 -- an answer that larger rooms do not change: an acceptance, or a refusal from 1 to 6
-abbrev pub Lasting : Answer → Type 0
-Lasting a = number a ≤ REPEAT
+abbrev pub Lasting : ℕ → Type 0
+Lasting n = n ≤ REPEAT
 
-module _ (κ : Known) (doc table text table₂ text₂ : List ℕ) (l : length table ≤ length table₂) (m : length text ≤ length text₂) where
-  pub larger-rooms : (a b : Answer) (table′ text′ table″ text″ : List ℕ) → Lasting a → Answered doc table text a table′ text′ → Answered doc table₂ text₂ b table″ text″
-      → a ≡ b
-  larger-rooms _ b table′ text′ table″ text″ s (accepted t x h k) y =
-      one-answer κ doc table₂ text₂ (Accepted (size t) (length (textOf t))) b _ _ table″ text″ (accepted t x (omega arith) (omega arith)) y .0
-  larger-rooms _ b table′ text′ table″ text″ s (long h) y = one-answer κ doc table₂ text₂ _ b _ _ table″ text″ (long h) y .0
-  larger-rooms _ b table′ text′ table″ text″ s (stopped n p h x) y = one-answer κ doc table₂ text₂ _ b _ _ table″ text″ (stopped n p h x) y .0
-  larger-rooms _ b table′ text′ table″ text″ s (repeated t p h x r q) y = one-answer κ doc table₂ text₂ _ b _ _ table″ text″ (repeated t p h x r q) y .0
-  larger-rooms _ b table′ text′ table″ text″ s (rows t x h) y = absurd (omega arith)
-  larger-rooms _ b table′ text′ table″ text″ s (bytes t x h k) y = absurd (omega arith)
+module _ (κ : Known) {doc table text table₂ text₂ : List ℕ} (l : length table ≤ length table₂) (m : length text ≤ length text₂) where
+  as-well : {n v s : ℕ} {table′ text′ : List ℕ} → Lasting n → Answered doc table text n v s table′ text′
+      → (table″ : List ℕ) × (text″ : List ℕ) × Answered doc table₂ text₂ n v s table″ text″
+  as-well h (accepted t x i k) = (_, _, accepted t x (omega arith) (omega arith))
+  as-well h (long i) = (_, _, long i)
+  as-well h (stopped n p i x) = (_, _, stopped n p i x)
+  as-well h (repeated t p i x r q) = (_, _, repeated t p i x r q)
+  as-well h (rows t x i) = absurd (omega arith)
+  as-well h (bytes t x i k) = absurd (omega arith)
+
+  pub larger-rooms : {n v s n₂ v₂ s₂ : ℕ} {table′ text′ table″ text″ : List ℕ} → Lasting n → Answered doc table text n v s table′ text′
+      → Answered doc table₂ text₂ n₂ v₂ s₂ table″ text″ → (n ≡ n₂) × (v ≡ v₂) × (s ≡ s₂)
+  larger-rooms h x y = let e = one-answer κ (as-well h x .2) y in (e .0, e .1, e .2)

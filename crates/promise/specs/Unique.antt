@@ -7,17 +7,17 @@ use native.Mathlib.Omega.{arith}
 use native.Mathlib.Decide.{decLe}
 use lib.ListN.{length, take, drop}
 use lib.Seq.{take-all, take-take, take-length}
-use lib.Dec.{ltb}
+use lib.Dec.{eqb, ltb}
 use borrow.Author.Tests.{lt-ltb, le-ltb}
 use Rattle.notation.specs.Class.{pick}
 use Rattle.notation.specs.Lang.{Begins}
 use Rattle.exact.specs.Verdict.{Far, less, whole}
 use Rattle.language.specs.declared.Answer.{Answer}
-use Rattle.language.specs.declared.Answer.the-variants.{Accepted, Refused}
+use Rattle.language.specs.declared.Answer.the-variants.{Accepted, Long, Char, Syntax, Deep, End, Repeat, Rows, Text}
 use Rattle.language.specs.Tree.{Tree, width, size, textOf, rowsOf, Repeats}
 use Rattle.language.specs.Characters.{Allowed}
 use Rattle.language.specs.Document.{Document}
-use Rattle.language.specs.Answered.{limit, deepest, LONG, CHAR, DEEP, REPEAT, ROWS, TEXT, refusal, number, value, Viable, Stops, char, syntax, deep, end, Reads, Answered, accepted, long, stopped, repeated, rows, bytes}
+use Rattle.language.specs.Answered.{limit, deepest, LONG, CHAR, SYNTAX, DEEP, END, REPEAT, ROWS, TEXT, number, value, second, Viable, Stops, char, syntax, deep, end, Reads, Answered, accepted, long, stopped, repeated, rows, bytes}
 
 -- WHAT IS TAKEN FROM THE READERS: a document has one tree, and is a sequence of allowed characters
 pub record Known : Type 0 where
@@ -113,13 +113,16 @@ module _ (κ : Known) where
   reports-unique doc _ _ (is-tree t x) (is-repeat u p k y r m) = absurd (x .once p (rw (same-tree doc t u (x .word) y) r))
   reports-unique doc _ _ (is-tree t x) (is-tree u y) = ap has-tree (same-tree doc t u (x .word) (y .word))
 
-  pub record Outcome : Type 0 where
-    pub answer : Answer
-    pub table-after : List ℕ
-    pub text-after : List ℕ
+  -- what is answered, and the rooms afterwards
+  record Outcome : Type 0 where
+    counted : ℕ
+    valued : ℕ
+    other : ℕ
+    table-after : List ℕ
+    text-after : List ℕ
 
   kept : List ℕ → List ℕ → ℕ → ℕ → Outcome
-  kept table text n p = record { answer = refusal n p; table-after = table; text-after = text }
+  kept table text n p = record { counted = n; valued = p; other = 0; table-after = table; text-after = text }
 
   outcome : List ℕ → List ℕ → Report → Outcome
   outcome table text too-long = kept table text LONG 0
@@ -129,29 +132,71 @@ module _ (κ : Known) where
       pick (ltb (length table) (width * size t)) (kept table text ROWS (size t))
       (pick (ltb (length text) (length (textOf t))) (kept table text TEXT (length (textOf t)))
       (record {
-        answer = Accepted (size t) (length (textOf t));
+        counted = 0;
+        valued = size t;
+        other = length (textOf t);
         table-after = rowsOf 0 0 0 t ++ drop (width * size t) table;
         text-after = textOf t ++ drop (length (textOf t)) text;
       }))
 
-  report : (doc table text : List ℕ) (a : Answer) (table′ text′ : List ℕ) → Answered doc table text a table′ text′
-      → (r : Report) × Reports doc r × (record { answer = a; table-after = table′; text-after = text′ } ≡ outcome table text r)
-  unfolding outcome kept
-  report doc table text _ _ _ (accepted t x h k) =
-      (has-tree t, is-tree t x, rw (le-ltb (length table) (width * size t) h, le-ltb (length text) (length (textOf t)) k) refl)
-  report doc table text _ _ _ (long l) = (too-long, is-long l, refl)
-  report doc table text _ _ _ (stopped n p l x) = (stops-at n p, is-stop n p l x, refl)
-  report doc table text _ _ _ (repeated t p l x r m) = (repeats-at p, is-repeat t p l x r m, refl)
-  report doc table text _ _ _ (rows t x h) = (has-tree t, is-tree t x, rw (lt-ltb (length table) (width * size t) h) refl)
-  report doc table text _ _ _ (bytes t x h k) =
-      (has-tree t, is-tree t x, rw (le-ltb (length table) (width * size t) h, lt-ltb (length text) (length (textOf t)) k) refl)
+  module _ {doc table text : List ℕ} where
+    report : {n v s : ℕ} {table′ text′ : List ℕ} → Answered doc table text n v s table′ text′
+        → (r : Report) × Reports doc r × (record { counted = n; valued = v; other = s; table-after = table′; text-after = text′ } ≡ outcome table text r)
+    unfolding outcome kept
+    report (accepted t x h k) = (has-tree t, is-tree t x, rw (le-ltb (length table) (width * size t) h, le-ltb (length text) (length (textOf t)) k) refl)
+    report (long l) = (too-long, is-long l, refl)
+    report (stopped n p l x) = (stops-at n p, is-stop n p l x, refl)
+    report (repeated t p l x r m) = (repeats-at p, is-repeat t p l x r m, refl)
+    report (rows t x h) = (has-tree t, is-tree t x, rw (lt-ltb (length table) (width * size t) h) refl)
+    report (bytes t x h k) = (has-tree t, is-tree t x, rw (le-ltb (length table) (width * size t) h, lt-ltb (length text) (length (textOf t)) k) refl)
 
-  -- ONE ANSWER ONLY, whatever the document and the rooms
-  pub one-answer : (doc table text : List ℕ) (a b : Answer) (table′ text′ table″ text″ : List ℕ)
-      → Answered doc table text a table′ text′ → Answered doc table text b table″ text″ → (a ≡ b) × (table′ ≡ table″) × (text′ ≡ text″)
-  one-answer doc table text a b table′ text′ table″ text″ x y =
-      let r = report doc table text a table′ text′ x in
-      let s = report doc table text b table″ text″ y in
-      let e : _≡_ {A = Outcome} (record { answer = a; table-after = table′; text-after = text′ }) (record { answer = b; table-after = table″; text-after = text″ }) =
-      r .2 ∙ (ap (outcome table text) (reports-unique doc (r .0) (s .0) (r .1) (s .1)) ∙ sym (s .2)) in
-      (ap (λ (o : Outcome). o .answer) e, ap (λ (o : Outcome). o .table-after) e, ap (λ (o : Outcome). o .text-after) e)
+    -- ONE ANSWER ONLY, whatever the document and the rooms
+    pub one-answer : {n v s n₂ v₂ s₂ : ℕ} {table′ text′ table″ text″ : List ℕ} → Answered doc table text n v s table′ text′ → Answered doc table text n₂ v₂ s₂ table″ text″
+        → (n ≡ n₂) × (v ≡ v₂) × (s ≡ s₂) × (table′ ≡ table″) × (text′ ≡ text″)
+    one-answer {n} {v} {s} {n₂} {v₂} {s₂} {table′} {text′} {table″} {text″} x y =
+        let a = report x in
+        let b = report y in
+        let e : _≡_ {A = Outcome} (record { counted = n; valued = v; other = s; table-after = table′; text-after = text′ }) (record { counted = n₂; valued = v₂; other = s₂; table-after = table″; text-after = text″ }) =
+        a .2 ∙ (ap (outcome table text) (reports-unique doc (a .0) (b .0) (a .1) (b .1)) ∙ sym (b .2)) in (
+          ap (λ (o : Outcome). o .counted) e,
+          ap (λ (o : Outcome). o .valued) e,
+          ap (λ (o : Outcome). o .other) e,
+          ap (λ (o : Outcome). o .table-after) e,
+          ap (λ (o : Outcome). o .text-after) e,
+        )
+
+-- THE CASE of an answer is told by its number and its values
+answerOf : ℕ → ℕ → ℕ → Answer
+answerOf n v s =
+    pick (eqb n LONG) Long
+    (pick (eqb n CHAR) (Char (record { 0 = v }))
+    (pick (eqb n SYNTAX) (Syntax (record { 0 = v }))
+    (pick (eqb n DEEP) (Deep (record { 0 = v }))
+    (pick (eqb n END) (End (record { 0 = v }))
+    (pick (eqb n REPEAT) (Repeat (record { 0 = v }))
+    (pick (eqb n ROWS) (Rows (record { 0 = v }))
+    (pick (eqb n TEXT) (Text v)
+    (Accepted (record { 0 = v }) s))))))))
+
+is-answer : (a : Answer) → answerOf (number a) (value a) (second a) ≡ a
+unfolding answerOf
+is-answer (Accepted n m) = refl
+is-answer Long = refl
+is-answer (Char p) = refl
+is-answer (Syntax p) = refl
+is-answer (Deep p) = refl
+is-answer (End p) = refl
+is-answer (Repeat p) = refl
+is-answer (Rows n) = refl
+is-answer (Text m) = refl
+
+pub answer-tells : (a b : Answer) → number a ≡ number b → value a ≡ value b → second a ≡ second b → a ≡ b
+answer-tells a b n v s = sym (is-answer a) ∙ (rw (n, v, s) refl ∙ is-answer b)
+
+-- ONE ANSWER as `read` has it
+pub one-read : Known → (doc table text : List ℕ) (a b : Answer) (table′ text′ table″ text″ : List ℕ)
+    → Answered doc table text (number a) (value a) (second a) table′ text′ → Answered doc table text (number b) (value b) (second b) table″ text″
+    → (a ≡ b) × (table′ ≡ table″) × (text′ ≡ text″)
+one-read κ doc table text a b table′ text′ table″ text″ x y =
+    let e = one-answer κ x y in
+    (answer-tells a b (e .0) (e .1) (e .2), e .3, e .4)

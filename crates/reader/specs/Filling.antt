@@ -12,12 +12,13 @@ use Rattle.rooms.specs.Forest.{length-rows}
 use Rattle.language.specs.declared.Answer.{Answer}
 use Rattle.language.specs.Tree.{Tree, width, size, textOf, rowsOf}
 use Rattle.language.specs.Document.{Document}
-use Rattle.language.specs.Answered.{limit, deepest, LONG, refusal, Stops, Answered, long, stopped}
+use Rattle.language.specs.Answered.{limit, deepest, LONG, number, value, second, Answered, long, stopped}
 use Rattle.blocks.specs.Document.{verdict, exact}
 use Rattle.spans.specs.Document.{few-rows, few-text}
 use Rattle.repeats.specs.Listed.{Stands}
 use Rattle.repeats.specs.Told.{stands-sets}
 use Rattle.answers.specs.Held.{Held}
+use Rattle.judge.specs.Blamed.{Blamed}
 use Rattle.judge.specs.Contract.{Known, Checked, Filled}
 
 -- what the verdict accepts is a document
@@ -30,11 +31,11 @@ accepts k doc t e = go (verdict k doc) e (exact k doc)
 
 -- ---- what `read` shows
 
-pub answer-long : (doc table text : List ℕ) → limit < length doc → Answered doc table text (refusal LONG 0) table text
+pub answer-long : (doc table text : List ℕ) → limit < length doc → Answered doc table text LONG 0 0 table text
 answer-long doc table text l = long l
 
-pub answer-stop : (doc table text : List ℕ) (n p : ℕ) → length doc ≤ limit → Stops doc n p → Answered doc table text (refusal n p) table text
-answer-stop doc table text n p l x = stopped n p l x
+pub answer-stop : (doc table text : List ℕ) (a : Answer) → length doc ≤ limit → Blamed doc a → Answered doc table text (number a) (value a) (second a) table text
+answer-stop doc table text a l x = rw (x .alone) (stopped (number a) (value a) l (x .stops))
 
 pub stopped-at : (doc : List ℕ) (a : Ans) (p : ℕ) → Checked deepest doc a → a ≡ No p → verdict deepest doc ≡ stop p
 unfolding Checked

@@ -1,7 +1,7 @@
 // Reads a document into the rooms lent.
 ghost use Prim.Native.Nat.{_≤_};
 ghost use lib.ListN.{length};
-ghost use Rattle.language.specs.Answered.{Answered, limit};
+ghost use Rattle.language.specs.Answered.{number, value, second, Answered, limit};
 ghost use Rattle.reader.specs.Filling.{few-bytes, some-bytes, Enough, Texted, Tried};
 use answers::answer;
 use judge::blame;
@@ -9,7 +9,6 @@ use judge::pass;
 use language::Answer;
 use language::DEEPEST;
 use language::LIMIT;
-use language::Place;
 use language::WIDTH;
 use rooms::Ans;
 
@@ -28,13 +27,10 @@ fn judged(
     text: &mut [u8],
 ) -> Answer
     requires { ⌜ Enough (now doc) (now rows) (now bytes) ⌝ }
-    ensures { λ r. ⌜ Answered (now (doc .entry)) (now (table .entry)) (now (text .entry)) r (now (table .exit)) (now (text .exit)) ⌝ }
+    ensures { λ r. ⌜ Answered (now (doc .entry)) (now (table .entry)) (now (text .entry)) (number r) (value r) (second r) (now (table .exit)) (now (text .exit)) ⌝ }
 {
     match pass(&*doc, rows, bytes, DEEPEST) {
-        Ans::No(p) => {
-            let number = blame(&*doc, rows, bytes, p);
-            Answer::Refused(number, Place(p))
-        }
+        Ans::No(p) => blame(&*doc, rows, bytes, p),
         Ans::Ok(c) => answer(&*doc, &*rows, &*bytes, c.row, c.text, table, text),
     }
 }
@@ -42,7 +38,7 @@ fn judged(
 // The answer by rooms of our own for one row a byte.
 fn densely(doc: &[u8], table: &mut [u32], text: &mut [u8]) -> Answer
     requires { ⌜ length (now doc) ≤ limit ⌝ }
-    ensures { λ r. ⌜ Answered (now (doc .entry)) (now (table .entry)) (now (text .entry)) r (now (table .exit)) (now (text .exit)) ⌝ }
+    ensures { λ r. ⌜ Answered (now (doc .entry)) (now (table .entry)) (now (text .entry)) (number r) (value r) (second r) (now (table .exit)) (now (text .exit)) ⌝ }
 {
     let mut rows = [0u32; WIDTH * LIMIT];
     let mut bytes = [0u8; LIMIT];
@@ -60,7 +56,7 @@ fn settled(
     text: &mut [u8],
 ) -> Answer
     requires { ⌜ Tried (now doc) (now rows) (now bytes) n m ⌝ }
-    ensures { λ r. ⌜ Answered (now (doc .entry)) (now (table .entry)) (now (text .entry)) r (now (table .exit)) (now (text .exit)) ⌝ }
+    ensures { λ r. ⌜ Answered (now (doc .entry)) (now (table .entry)) (now (text .entry)) (number r) (value r) (second r) (now (table .exit)) (now (text .exit)) ⌝ }
 {
     if rows.len() < WIDTH * n {
         return densely(&*doc, table, text);
@@ -77,13 +73,10 @@ fn sparsely(
     text: &mut [u8],
 ) -> Answer
     requires { ⌜ Texted (now doc) (now rows) (now bytes) ⌝ }
-    ensures { λ r. ⌜ Answered (now (doc .entry)) (now (table .entry)) (now (text .entry)) r (now (table .exit)) (now (text .exit)) ⌝ }
+    ensures { λ r. ⌜ Answered (now (doc .entry)) (now (table .entry)) (now (text .entry)) (number r) (value r) (second r) (now (table .exit)) (now (text .exit)) ⌝ }
 {
     match pass(&*doc, rows, bytes, DEEPEST) {
-        Ans::No(p) => {
-            let number = blame(&*doc, rows, bytes, p);
-            Answer::Refused(number, Place(p))
-        }
+        Ans::No(p) => blame(&*doc, rows, bytes, p),
         Ans::Ok(c) => settled(&*doc, &*rows, &*bytes, c.row, c.text, table, text),
     }
 }
@@ -91,7 +84,7 @@ fn sparsely(
 // The same for documents of three sizes.
 fn of_few_bytes(doc: &[u8], table: &mut [u32], text: &mut [u8]) -> Answer
     requires { ⌜ length (now doc) ≤ few-bytes ⌝ }
-    ensures { λ r. ⌜ Answered (now (doc .entry)) (now (table .entry)) (now (text .entry)) r (now (table .exit)) (now (text .exit)) ⌝ }
+    ensures { λ r. ⌜ Answered (now (doc .entry)) (now (table .entry)) (now (text .entry)) (number r) (value r) (second r) (now (table .exit)) (now (text .exit)) ⌝ }
 {
     let mut rows = [0u32; WIDTH * FEW];
     let mut bytes = [0u8; FEW];
@@ -100,7 +93,7 @@ fn of_few_bytes(doc: &[u8], table: &mut [u32], text: &mut [u8]) -> Answer
 
 fn of_some_bytes(doc: &[u8], table: &mut [u32], text: &mut [u8]) -> Answer
     requires { ⌜ length (now doc) ≤ some-bytes ⌝ }
-    ensures { λ r. ⌜ Answered (now (doc .entry)) (now (table .entry)) (now (text .entry)) r (now (table .exit)) (now (text .exit)) ⌝ }
+    ensures { λ r. ⌜ Answered (now (doc .entry)) (now (table .entry)) (now (text .entry)) (number r) (value r) (second r) (now (table .exit)) (now (text .exit)) ⌝ }
 {
     let mut rows = [0u32; WIDTH * (SOME / 2)];
     let mut bytes = [0u8; SOME];
@@ -109,7 +102,7 @@ fn of_some_bytes(doc: &[u8], table: &mut [u32], text: &mut [u8]) -> Answer
 
 fn of_many_bytes(doc: &[u8], table: &mut [u32], text: &mut [u8]) -> Answer
     requires { ⌜ length (now doc) ≤ limit ⌝ }
-    ensures { λ r. ⌜ Answered (now (doc .entry)) (now (table .entry)) (now (text .entry)) r (now (table .exit)) (now (text .exit)) ⌝ }
+    ensures { λ r. ⌜ Answered (now (doc .entry)) (now (table .entry)) (now (text .entry)) (number r) (value r) (second r) (now (table .exit)) (now (text .exit)) ⌝ }
 {
     let mut rows = [0u32; WIDTH * (LIMIT / 2)];
     let mut bytes = [0u8; LIMIT];
@@ -118,11 +111,11 @@ fn of_many_bytes(doc: &[u8], table: &mut [u32], text: &mut [u8]) -> Answer
 
 // Reads a document into the rooms lent; a refusal leaves them as they came.
 pub fn read(doc: &[u8], table: &mut [u32], text: &mut [u8]) -> Answer
-    ensures { λ r. ⌜ Answered (now (doc .entry)) (now (table .entry)) (now (text .entry)) r (now (table .exit)) (now (text .exit)) ⌝ }
+    ensures { λ r. ⌜ Answered (now (doc .entry)) (now (table .entry)) (now (text .entry)) (number r) (value r) (second r) (now (table .exit)) (now (text .exit)) ⌝ }
 {
     let n = doc.len();
     if LIMIT < n {
-        return Answer::Refused(1, Place(0));
+        return Answer::Long;
     }
     if n <= FEW {
         return of_few_bytes(&*doc, table, text);

@@ -2,10 +2,11 @@
 use mathlib.Core.Path.{_≡_}
 use mathlib.Core.List.{List}
 use Prim.Native.Nat.{ℕ, _+_, _*_, _≤_, _<_}
-use lib.ListN.{length, drop, getD}
+use lib.ListN.{length, drop}
 use lib.Seq.{sets}
 use Rattle.exact.specs.Out.{Out, ok, soft, bad}
 use Rattle.exact.specs.Lines.{reached}
+use Rattle.exact.specs.Place.{peek}
 use Rattle.language.specs.Tree.{Tree, after, width, size, textOf, rowsOf}
 use Rattle.language.specs.Answered.{limit, deepest}
 use Rattle.rooms.specs.declared.Cursor.{Cursor}
@@ -26,10 +27,19 @@ ample = 4 * limit
 abbrev pub columns : ℕ
 columns = 2 * (deepest + 1)
 
+-- the cursor i bytes on
+abbrev pub onward : Cursor → ℕ → Cursor
+onward c i = record { at = c .at + i; row = c .row; text = c .text }
+
 -- a byte was there, and the next cursor stands behind it; or the document is at its end
 unfoldable pub Stepped : List ℕ → Cursor → Step → Type 0
-Stepped doc c (Byte b n) = (c .at < length doc) × (b ≡ getD doc (c .at) 0) × (n ≡ record { at = c .at + 1; row = c .row; text = c .text })
-Stepped doc c Over = length doc ≤ c .at
+Stepped doc c (Byte b n) = (c .at < length doc) × (b ≡ peek doc (c .at)) × (n ≡ onward c 1)
+Stepped doc c Over = (length doc ≤ c .at) × (peek doc (c .at) ≡ 256)
+
+-- the byte b was there, and the next cursor stands behind it; or another was
+unfoldable pub Takes : List ℕ → Cursor → ℕ → Ans → Type 0
+Takes doc c b (Ok n) = (n ≡ onward c 1) × (b ≡ peek doc (c .at))
+Takes doc c b (No p) = (p ≡ c .at) × (peek doc (c .at) ≡ b → ⊥)
 
 -- ASKED of a cursor: it stands in a document within the limit, and neither its row nor its text is ahead of it
 pub record Ready (doc : List ℕ) (c : Cursor) : Type 0 where

@@ -5,7 +5,7 @@ use mathlib.Core.Bool.{true, false}
 use Prim.Native.Nat.{ℕ, _+_, _*_, _≤_, _<_}
 use native.Mathlib.Nat.{add-zero}
 use native.Mathlib.Omega.{arith}
-use lib.ListN.{length, drop, getD}
+use lib.ListN.{length, drop, getD, List·getD-eq-default}
 use lib.Seq.{sets}
 use lib.Dec.{leb}
 use borrow.Author.Tests.{le-leb, lt-leb}
@@ -13,10 +13,11 @@ use Rattle.exact.specs.Out.{Out, ok, bad, Reader}
 use Rattle.exact.specs.Class.{is, only}
 use Rattle.exact.specs.Comb.{altR}
 use Rattle.exact.specs.Lines.{reached}
-use Rattle.exact.specs.Place.{peek, alt-is, alt-not}
+use Rattle.exact.specs.Place.{peek, getD-any, alt-is, alt-not}
 use Rattle.language.specs.Kind.{TRUE}
 use Rattle.language.specs.Tree.{Tree, leaf, width, size, textOf, rowsOf, rowList}
 use Rattle.rooms.specs.declared.Cursor.{Cursor}
+use Rattle.rooms.specs.declared.Step.{Step}
 use Rattle.rooms.specs.declared.Step.the-variants.{Byte, Over}
 use Rattle.rooms.specs.declared.Ans.{Ans}
 use Rattle.rooms.specs.declared.Ans.the-variants.{Ok, No}
@@ -24,17 +25,65 @@ use Rattle.rooms.specs.declared.Far.{Far}
 use Rattle.rooms.specs.declared.Far.the-variants.{Upto, Not}
 use Rattle.rooms.specs.declared.Block.{Block}
 use Rattle.rooms.specs.declared.Block.the-variants.{Done, Bad}
-use Rattle.rooms.specs.Contract.{Stepped, Ready, Span, Filled, Taken, Answers, Reaches, Blocked, Blocks}
+use Rattle.rooms.specs.Contract.{onward, Stepped, Takes, Ready, Span, Filled, Taken, Answers, Reaches, Blocked, Blocks}
 
 -- ---- the cursor
 
-pub stepped : (doc : List ℕ) (c n : Cursor) (b : ℕ) → c .at < length doc → b ≡ getD doc (c .at) 0 → n ≡ record { at = c .at + 1; row = c .row; text = c .text } → Stepped doc c (Byte b n)
-unfolding Stepped
-stepped doc c n b l e h = (l, e, h)
+module _ (doc : List ℕ) (c : Cursor) where
+  pub stepped : (n : Cursor) → c .at < length doc → n ≡ onward c 1 → Stepped doc c (Byte (getD doc (c .at) 0) n)
+  unfolding Stepped
+  stepped n l h = (l, getD-any doc (c .at) 0 256 l, h)
 
-pub stepped-over : (doc : List ℕ) (c : Cursor) → length doc ≤ c .at → Stepped doc c Over
-unfolding Stepped
-stepped-over doc c l = l
+  pub stepped-over : length doc ≤ c .at → Stepped doc c Over
+  unfolding Stepped
+  stepped-over l = (l, List·getD-eq-default doc 256 l)
+
+  -- .. and taken apart
+  module _ (s : Step) (h : Stepped doc c s) where
+    pub step-byte : (b : ℕ) (n : Cursor) → s ≡ Byte b n → b ≡ peek doc (c .at)
+    unfolding Stepped
+    step-byte b n e = (rw e at h) .1
+
+    pub step-next : (b : ℕ) (n : Cursor) → s ≡ Byte b n → n ≡ onward c 1
+    unfolding Stepped
+    step-next b n e = (rw e at h) .2
+
+    pub step-inside : (b : ℕ) (n : Cursor) → s ≡ Byte b n → c .at < length doc
+    unfolding Stepped
+    step-inside b n e = (rw e at h) .0
+
+    pub step-over : s ≡ Over → peek doc (c .at) ≡ 256
+    unfolding Stepped
+    step-over e = (rw e at h) .1
+
+    pub takes-it : (b g : ℕ) (n : Cursor) → s ≡ Byte g n → g ≡ b → Takes doc c b (Ok n)
+    unfolding Takes
+    takes-it b g n e k = (step-next g n e, sym k ∙ step-byte g n e)
+
+    pub takes-other : (b g : ℕ) (n : Cursor) → s ≡ Byte g n → (g ≡ b → ⊥) → Takes doc c b (No (c .at))
+    unfolding Takes
+    takes-other b g n e k = (refl, λ z. k (step-byte g n e ∙ z))
+
+    pub takes-none : (b : ℕ) → b < 256 → s ≡ Over → Takes doc c b (No (c .at))
+    unfolding Takes
+    takes-none b l e = let z = step-over e in (refl, λ k. omega arith)
+
+  module _ (b : ℕ) (a : Ans) (h : Takes doc c b a) where
+    pub take-next : (n : Cursor) → a ≡ Ok n → n ≡ onward c 1
+    unfolding Takes
+    take-next n e = (rw e at h) .0
+
+    pub take-byte : (n : Cursor) → a ≡ Ok n → b ≡ peek doc (c .at)
+    unfolding Takes
+    take-byte n e = (rw e at h) .1
+
+    pub take-place : (p : ℕ) → a ≡ No p → p ≡ c .at
+    unfolding Takes
+    take-place p e = (rw e at h) .0
+
+    pub take-other : (p : ℕ) → a ≡ No p → peek doc (c .at) ≡ b → ⊥
+    unfolding Takes
+    take-other p e = (rw e at h) .1
 
 -- ---- answers, made and taken apart
 

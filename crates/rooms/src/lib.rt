@@ -7,7 +7,7 @@ ghost use lib.Seq.{sets, slice};
 ghost use Rattle.exact.specs.Place.{peek, common};
 ghost use Rattle.exact.specs.Block.{lead};
 ghost use Rattle.language.specs.Tree.{width, rowList};
-ghost use Rattle.rooms.specs.Contract.{ample, Stepped, Small};
+ghost use Rattle.rooms.specs.Contract.{ample, Stepped, Takes, Small};
 use language::Kind;
 use language::WIDTH;
 
@@ -113,6 +113,41 @@ impl Cursor {
         }
         Step::Over
     }
+
+    // The byte b, taken: the cursor behind it, or the place where another stands.
+    pub fn take(self, doc: &[u8], b: u8) -> Ans
+        ensures { λ r. ⌜ Takes (now (doc .entry)) self b r ⌝ }
+    {
+        let at = self.at;
+        match self.step(&*doc) {
+            Step::Over => Ans::No(at),
+            Step::Byte(got, n) => {
+                if got == b {
+                    return Ans::Ok(n);
+                }
+                Ans::No(at)
+            }
+        }
+    }
+
+    // How many spaces stand here, of n.
+    pub fn indent(self, doc: &[u8], n: usize) -> usize
+        requires { ⌜ self .at ≤ length (now doc) ⌝ }
+        ensures { λ r. ⌜ (r ≡ lead n (drop (self .at) (now (doc .entry)))) × (r ≤ n) × (self .at + r ≤ length (now (doc .entry))) ⌝ }
+    {
+        let at = self.at;
+        let mut i = 0;
+        while i < n {
+            if doc.len() - at <= i {
+                return i;
+            }
+            if doc[at + i] != 32 {
+                return i;
+            }
+            i += 1;
+        }
+        i
+    }
 }
 
 // How many bytes of the word stand at `at`.
@@ -131,24 +166,6 @@ pub fn same(doc: &[u8], at: usize, word: &[u8]) -> usize
         n += 1;
     }
     n
-}
-
-// How many spaces stand at `at`, of n.
-pub fn indent(doc: &[u8], at: usize, n: usize) -> usize
-    requires { ⌜ at ≤ length (now doc) ⌝ }
-    ensures { λ r. ⌜ (r ≡ lead n (drop at (now (doc .entry)))) × (r ≤ n) × (at + r ≤ length (now (doc .entry))) ⌝ }
-{
-    let mut i = 0;
-    while i < n {
-        if doc.len() - at <= i {
-            return i;
-        }
-        if doc[at + i] != 32 {
-            return i;
-        }
-        i += 1;
-    }
-    i
 }
 
 // The greater of two places.

@@ -1,10 +1,11 @@
 -- Laws of hex digits, scalar values and letters behind a backslash, as the tests in code meet them.
-use mathlib.Core.Path.{_≡_, refl, _∙_}
+use mathlib.Core.Path.{_≡_, refl, ap, _∙_}
 use mathlib.Core.List.{List}
 use mathlib.Core.Bool.{Bool, true, false}
-use Prim.Native.Nat.{ℕ, _-_, _≤_, _<_}
+use Prim.Native.Nat.{ℕ, suc, _-_, _≤_, _<_}
 use native.Mathlib.Omega.{arith}
 use native.Mathlib.Decide.{decLe}
+use lib.ListN.{length, List·getD-eq-default}
 use lib.Dec.{leb}
 use borrow.Author.Needs.{needs}
 use borrow.Author.Tests.{le-leb, lt-leb}
@@ -12,7 +13,14 @@ use mathlib.Core.Logic.{_⊎_, inl, inr}
 use Rattle.exact.specs.Class.{pick, clash, Class, is, within, _to_, sub, inside, and, or, or-of, range-of}
 use Rattle.exact.specs.Place.{peek}
 use Rattle.language.specs.Strings.{hexval, hexdigit, lowhex, scalar, lettered}
-use Rattle.strings.specs.Contract.{digitOf, DigitAt, lettering, Letter}
+use Rattle.characters.specs.declared.Reading.{Reading}
+use Rattle.characters.specs.declared.Took.{Took}
+use Rattle.characters.specs.declared.Took.the-variants.{Byte, Over}
+use Rattle.characters.specs.Reads.{ByteRead, byte-there, byte-next, byte-over}
+use Rattle.characters.specs.Plains.{other}
+use Rattle.strings.specs.declared.digits.Digit.{Digit}
+use Rattle.strings.specs.declared.digits.Digit.the-variants.{Of, None}
+use Rattle.strings.specs.Contract.{digitOf, DigitAt, Digited, DigitRead, lettering, Letter}
 
 -- ---- a digit at a place
 
@@ -41,38 +49,90 @@ digit-most c b h = by (is c b) refl
 
 -- a byte of the class has its value, another one 16
 module _ (c : Class) (b : ℕ) where
-  data Digit : Type 0 where
-    digit : is c b ≡ true → digitOf c b ≡ hexval b → Digit
-    no-digit : is c b ≡ false → digitOf c b ≡ 16 → Digit
+  data Valued : Type 0 where
+    valued : is c b ≡ true → digitOf c b ≡ hexval b → Valued
+    no-value : is c b ≡ false → digitOf c b ≡ 16 → Valued
 
-  digit-of : Digit
+  digit-of : Valued
   unfolding digitOf
   digit-of = by (is c b) refl
     where
-      by : (x : Bool) → is c b ≡ x → Digit
-      by true e = digit e (rw e refl)
-      by false e = no-digit e (rw e refl)
+      by : (x : Bool) → is c b ≡ x → Valued
+      by true e = valued e (rw e refl)
+      by false e = no-value e (rw e refl)
 
   pub digit-is : (d : ℕ) → d ≡ digitOf c b → (d ≡ 16 → ⊥) → (is c b ≡ true) × (d ≡ hexval b)
   digit-is d e n = by digit-of
     where
-      by : Digit → (is c b ≡ true) × (d ≡ hexval b)
-      by (digit h k) = (h, e ∙ k)
-      by (no-digit h k) = absurd (n (e ∙ k))
+      by : Valued → (is c b ≡ true) × (d ≡ hexval b)
+      by (valued h k) = (h, e ∙ k)
+      by (no-value h k) = absurd (n (e ∙ k))
 
   pub digit-none : sub c hexdigit ≡ true → (d : ℕ) → d ≡ digitOf c b → d ≡ 16 → is c b ≡ false
   digit-none s d e m = by digit-of
     where
-      by : Digit → is c b ≡ false
-      by (digit h k) = absurd (let l = hexval-low b (inside c hexdigit b s h) in omega arith)
-      by (no-digit h k) = h
+      by : Valued → is c b ≡ false
+      by (valued h k) = absurd (let l = hexval-low b (inside c hexdigit b s h) in omega arith)
+      by (no-value h k) = h
 
-module _ (doc : List ℕ) (at b r : ℕ) (look : b ≡ peek doc at) where
-  pub hex-at : r ≡ digitOf hexdigit b → DigitAt hexdigit doc at r
-  hex-at h = record { is = rw (← look) h; most = rw h (digit-most hexdigit b refl) }
+pub low-at : (doc : List ℕ) (at b r : ℕ) → b ≡ peek doc at → r ≡ digitOf lowhex b → DigitAt lowhex doc at r
+low-at doc at b r look h = record { is = rw (← look) h; most = rw h (digit-most lowhex b refl) }
 
-  pub low-at : r ≡ digitOf lowhex b → DigitAt lowhex doc at r
-  low-at h = record { is = rw (← look) h; most = rw h (digit-most lowhex b refl) }
+-- ---- a digit read
+
+module _ (c : Class) (doc : List ℕ) (at : ℕ) (within-hex : sub c hexdigit ≡ true) (t : Took) (h : ByteRead doc at t) where
+  pub digit-over : t ≡ Over → is c 256 ≡ false → DigitRead c doc at None
+  unfolding DigitRead
+  digit-over e n = rw (byte-over doc at t h e) n
+
+  module _ (b d : ℕ) (n : Reading) (e : t ≡ Byte b n) (k : d ≡ digitOf c b) where
+    here : b ≡ peek doc at
+    here = byte-there doc at t h b n e
+
+    pub digit-other : d ≡ 16 → DigitRead c doc at None
+    unfolding DigitRead
+    digit-other z = rw (← here) (digit-none c b within-hex d k z)
+
+    pub digit-read : (d ≡ 16 → ⊥) → DigitRead c doc at (Of d n)
+    unfolding DigitRead
+    digit-read z =
+        let x = digit-is c b d k z in
+        record {
+          digit = rw (← here) (x .0);
+          value = rw (← here) (x .1);
+          small = let l = digit-most c b within-hex in omega (arith, z);
+          next = byte-next doc at t h b n e;
+        }
+
+-- .. and taken apart
+module _ (c : Class) (doc : List ℕ) (at : ℕ) (r : Digit) (h : DigitRead c doc at r) where
+  pub digited : (d : ℕ) (n : Reading) → r ≡ Of d n → Digited c doc at d (n .at)
+  unfolding DigitRead
+  digited d n e = rw e at h
+
+  pub undigited : r ≡ None → is c (peek doc at) ≡ false
+  unfolding DigitRead
+  undigited e = rw e at h
+
+pub hex-sub : sub hexdigit hexdigit ≡ true
+hex-sub = refl
+
+pub low-sub : sub lowhex hexdigit ≡ true
+low-sub = refl
+
+pub hex-over : is hexdigit 256 ≡ false
+hex-over = refl
+
+pub low-over : is lowhex 256 ≡ false
+low-over = refl
+
+-- a byte of a class is there
+pub class-in : (k : Class) (doc : List ℕ) (at : ℕ) → is k 256 ≡ false → is k (peek doc at) ≡ true → at < length doc
+class-in k doc at n e = by (decLe (suc at) (length doc))
+  where
+    by : Dec (suc at ≤ length doc) → at < length doc
+    by (yes l) = l
+    by (no l) = absurd (clash e (ap (is k) (List·getD-eq-default doc 256 (omega arith)) ∙ n))
 
 -- ---- digits of either case
 
@@ -143,20 +203,15 @@ module _ (v : ℕ) where
       both true = refl
       both false = refl
 
-pub ruleset digits = (hex-below, hex-decimal, hex-middle, hex-upper, hex-between, hex-lower, hex-above, hex-at, needs)
+pub ruleset digits = (hex-below, hex-decimal, hex-middle, hex-upper, hex-between, hex-lower, hex-above, needs)
 
-pub ruleset lows = (low-below, low-decimal, low-middle, low-lower, low-above, low-at, needs)
+pub ruleset lows = (low-below, low-decimal, low-middle, low-lower, low-above, needs)
+
+pub ruleset digit-reads = (digit-over, digit-other, digit-read, hex-sub, low-sub, hex-over, low-over, needs)
 
 pub ruleset scalars = (scalar-low, scalar-gap, scalar-high, needs)
 
 -- ---- letters
-
-pub other : (a b : ℕ) → (b ≡ a → ⊥) → and (leb a b) (leb b a) ≡ false
-other a b n = by (decLe a b)
-  where
-    by : Dec (a ≤ b) → and (leb a b) (leb b a) ≡ false
-    by (yes h) = rw (le-leb a b h, lt-leb b a (omega (arith, n))) refl
-    by (no h) = rw (lt-leb a b (omega arith)) refl
 
 module _ (b : ℕ) where
   pub letter-quote : b ≡ 34 → Letter b 34

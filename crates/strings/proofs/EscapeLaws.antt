@@ -1,33 +1,40 @@
--- What escapes have to show at each return.
-use mathlib.Core.Path.{_≡_, refl, sym, ap, _∙_}
+-- What escapes have to show at each return, from what taking a byte tells.
+use mathlib.Core.Path.{_≡_, refl, sym, _∙_}
 use mathlib.Core.List.{List, [], _∷_}
-use mathlib.Core.Logic.{_⊎_, inl, inr}
+use mathlib.Core.Logic.{_⊎_, inl, inr, ⊎-elim}
 use mathlib.Core.Bool.{Bool, true, false}
-use Prim.Native.Nat.{ℕ, suc, _+_, _/_, _%_, _^_, _≤_, _<_}
+use Prim.Native.Nat.{ℕ, suc, _+_, _<_}
+use native.Mathlib.Numerals.{add-one}
 use native.Mathlib.Omega.{arith}
-use lib.ListN.{length, drop, set}
-use lib.Seq.{drop-drop}
-use lib.Dec.{leb}
+use lib.ListN.{drop, set}
 use borrow.Author.Needs.{needs}
-use Rattle.exact.specs.Class.{pick, clash, Class, is, only, _to_, inside, range-of, or-of}
-use Rattle.exact.specs.Out.{ok, bad, bind, Reader}
+use Rattle.exact.specs.Class.{pick, clash, within, is, only, _to_, inside, range-of, or-of}
+use Rattle.exact.specs.Out.{ok, bad, Reader}
 use Rattle.exact.specs.Lang.{retR, byteR}
+use Rattle.exact.specs.Answers.{bind-bind, bind-same}
 use Rattle.exact.specs.Comb.{seqR}
 use Rattle.exact.specs.Ll.{wordR}
-use Rattle.exact.specs.Place.{peek, peek-in, byte-peek, alt-peek, byte-is, byte-not, common, word-all, word-part, common-most}
+use Rattle.exact.specs.Place.{peek, byte-peek, alt-peek, byte-not}
 use Rattle.language.specs.Characters.{utf8}
-use Rattle.language.specs.Strings.{hexNumber, lettered, standsFor}
+use Rattle.language.specs.Strings.{lettered, standsFor}
+use Rattle.characters.specs.declared.Reading.{Reading}
+use Rattle.characters.specs.declared.Skip.{Skip}
+use Rattle.characters.specs.declared.Skip.the-variants.{End, Bad}
+use Rattle.characters.specs.Reads.{Skips, ends-of, bad-of}
+use Rattle.characters.specs.Plains.{other}
 use Rattle.rooms.specs.declared.Cursor.{Cursor}
+use Rattle.rooms.specs.declared.Step.{Step}
+use Rattle.rooms.specs.declared.Step.the-variants.{Byte, Over}
 use Rattle.rooms.specs.declared.Ans.{Ans}
 use Rattle.rooms.specs.declared.Ans.the-variants.{Ok, No}
-use Rattle.rooms.specs.Contract.{Ready}
+use Rattle.rooms.specs.Contract.{Stepped, Takes, Ready}
+use Rattle.rooms.specs.Laws.{step-byte, step-next, step-inside, step-over}
 use Rattle.strings.specs.declared.escapes.Coded.{Coded}
 use Rattle.strings.specs.declared.escapes.Coded.the-variants.{Named, Unnamed}
 use Rattle.strings.specs.Code.{codeR}
-use Rattle.strings.specs.Quoted.{escapeR, singleEscapeR}
+use Rattle.strings.specs.Quoted.{letterR, bracedR, codedR, behindR, escapeR, singled, itselfR, singleEscapeR}
 use Rattle.strings.specs.Contract.{lettering, Letter, Naming, CodeAt, Stored, Texts}
-use Rattle.strings.proofs.DigitLaws.{other}
-use Rattle.strings.proofs.TextLaws.{text-refused, spelling}
+use Rattle.strings.proofs.TextLaws.{text-refused, spelling, front-not, front-ready, front-read}
 
 -- ---- behind the backslash
 
@@ -43,7 +50,7 @@ letter-low b e =
     (pick-low (is (only 110) b) 10 _ (omega arith)
     (pick-low (is (only 114) b) 13 _ (omega arith) (pick-low (is (only 116) b) 9 b (omega arith) l))))
   where
-    low : (Rattle.exact.specs.Class.within (34 to 116) b ≡ true) ⊎ (false ≡ true) → b < 256
+    low : (within (34 to 116) b ≡ true) ⊎ (false ≡ true) → b < 256
     low (inl x) = let h = range-of 34 116 b x in omega arith
     low (inr x) = absurd (clash x refl)
 
@@ -59,148 +66,156 @@ lettered-of b = by (is lettered b) refl
     by true e = letter e (rw e refl)
     by false e = no-letter e (rw e refl)
 
-abbrev letterR : Reader (List ℕ)
-letterR = seqR (byteR (is lettered)) λ b. retR (standsFor b ∷ [])
+-- ---- a letter
 
-abbrev codedR : Reader (List ℕ)
-codedR = seqR (wordR (117 ∷ 123 ∷ [])) λ _. seqR codeR λ ds. seqR (byteR (is (only 125))) λ _. retR (utf8 (hexNumber 0 ds))
+module _ (doc : List ℕ) (c : Cursor) where
+  abbrev Behind : Ans → List ℕ → List ℕ → Type 0
+  Behind a T T' = Texts doc c (behindR (c .at) (drop (c .at) doc)) a T T'
 
-module _ (doc : List ℕ) (at : ℕ) (back : 92 ≡ peek doc at) where
-  pub back-in : at + 1 ≤ length doc
-  back-in = let h = peek-in doc at 92 back (omega arith) in omega arith
+  choice : behindR (c .at) (drop (c .at) doc) ≡ pick (is lettered (peek doc (c .at))) (letterR (c .at) (drop (c .at) doc)) (codedR (c .at) (drop (c .at) doc))
+  choice = alt-peek doc (c .at) lettered refl letterR codedR
 
-  behind : escapeR at (drop at doc) ≡ pick (is lettered (peek doc (at + 1))) (letterR (at + 1) (drop (at + 1) doc)) (codedR (at + 1) (drop (at + 1) doc))
-  unfolding escapeR
-  behind = rw (byte-is doc at 92 92 (omega arith) back refl) (alt-peek doc (at + 1) lettered refl letterR codedR)
+  module _ (t : Step) (h : Stepped doc c t) where
+    pub letter-over : (T : List ℕ) → t ≡ Over → Behind (No (c .at)) T T
+    letter-over T e =
+        let z : peek doc (c .at) ≡ 256 = step-over doc c t h e in
+        text-refused doc c _ T T (c .at) (choice ∙ rw (z, byte-not doc (c .at) 117 256 (omega arith) (sym z) (λ k. omega arith)) refl)
 
-  letter-ok : is lettered (peek doc (at + 1)) ≡ true → escapeR at (drop at doc) ≡ ok (standsFor (peek doc (at + 1)) ∷ []) (at + 2) (drop (at + 2) doc)
-  letter-ok h =
-      let z : suc (at + 1) ≡ at + 2 = omega arith in
-      behind ∙ rw (h, byte-peek doc (at + 1) lettered refl, h, z) refl
+    module _ (b : ℕ) (n : Cursor) (e : t ≡ Byte b n) (r : ℕ) (l : Letter b r) where
+      here : b ≡ peek doc (c .at)
+      here = step-byte doc c t h b n e
 
-  coded-at : lettering (peek doc (at + 1)) ≡ 256 → escapeR at (drop at doc) ≡ codedR (at + 1) (drop (at + 1) doc)
-  coded-at h = by (lettered-of (peek doc (at + 1)))
-    where
-      by : Lettered (peek doc (at + 1)) → escapeR at (drop at doc) ≡ codedR (at + 1) (drop (at + 1) doc)
-      by (letter x y) = absurd (let l = letter-low (peek doc (at + 1)) x in omega arith)
-      by (no-letter x y) = behind ∙ rw x refl
-
-utf8-most : (v : ℕ) → length (utf8 v) ≤ 4
-utf8-most v = by (leb v 127) (leb v 2047) (leb v 65535)
-  where
-    by : (x y z : Bool) → length (pick x (v ∷ []) (pick y ((192 + v / 64) ∷ (128 + v % 64) ∷ []) (pick z ((224 + v / 4096) ∷ (128 + v / 64 % 64) ∷ (128 + v % 64) ∷ []) ((240 + v / 262144) ∷ (128 + v / 4096 % 64) ∷ (128 + v / 64 % 64) ∷ (128 + v % 64) ∷ [])))) ≤ 4
-    by true y z = omega arith
-    by false true z = omega arith
-    by false false true = omega arith
-    by false false false = omega arith
-
--- ---- answers
-
-module _ (doc : List ℕ) (c : Cursor) (ready : Ready doc c) (back : 92 ≡ peek doc (c .at)) where
-  abbrev At : ℕ → List ℕ
-  At i = drop i doc
-
-  abbrev Escaped : Ans → List ℕ → List ℕ → Type 0
-  Escaped a T T' = Texts doc c (escapeR (c .at) (At (c .at))) a T T'
-
-  pub letter-read : (b r : ℕ) (T T' : List ℕ) → b ≡ peek doc (c .at + 1) → Letter b r → (r ≡ 256 → ⊥) → T' ≡ set T (c .text) r
-      → Escaped (Ok (record { at = c .at + 2; row = c .row; text = c .text + 1 })) T T'
-  letter-read b r T T' look l n t = by (lettered-of (peek doc (c .at + 1)))
-    where
-      is-r : r ≡ lettering (peek doc (c .at + 1))
-      is-r = l .is ∙ ap lettering look
-
-      by : Lettered (peek doc (c .at + 1)) → Escaped (Ok (record { at = c .at + 2; row = c .row; text = c .text + 1 })) T T'
-      by (no-letter x y) = absurd (n (is-r ∙ y))
-      by (letter x y) =
-          let i = peek-in doc (c .at + 1) (peek doc (c .at + 1)) refl (small (is-r ∙ y) x) in
-          let z : r ≡ standsFor (peek doc (c .at + 1)) = is-r ∙ y in
-          spelling doc c _ T T' (r ∷ []) (c .at + 2) (c .text + 1) (letter-ok doc (c .at) back x ∙ rw z refl) (omega arith) (omega arith) refl (omega arith) t
+      pub letter-read : (T T' : List ℕ) → (r ≡ 256 → ⊥) → T' ≡ set T (c .text) r → Behind (Ok (record { at = n .at; row = c .row; text = c .text + 1 })) T T'
+      letter-read T T' m k = by (lettered-of b)
         where
-          small : r ≡ standsFor (peek doc (c .at + 1)) → is lettered (peek doc (c .at + 1)) ≡ true → peek doc (c .at + 1) < 256
-          small q x = low (or-of _ _ (inside lettered ((34 to 116) ∷ []) (peek doc (c .at + 1)) refl x))
-            where
-              low : (Rattle.exact.specs.Class.within (34 to 116) (peek doc (c .at + 1)) ≡ true) ⊎ (false ≡ true) → peek doc (c .at + 1) < 256
-              low (inl y) = let h = range-of 34 116 (peek doc (c .at + 1)) y in omega arith
-              low (inr y) = absurd (clash y refl)
+          by : Lettered b → Behind (Ok (record { at = n .at; row = c .row; text = c .text + 1 })) T T'
+          by (no-letter x y) = absurd (m (l .is ∙ y))
+          by (letter x y) =
+              let i = step-inside doc c t h b n e in
+              let z : r ≡ standsFor b = l .is ∙ y in
+              let f : letterR (c .at) (drop (c .at) doc) ≡ ok (standsFor b ∷ []) (suc (c .at)) (drop (suc (c .at)) doc) = rw (byte-peek doc (c .at) lettered refl, ← here, x) refl in
+              rw (step-next doc c t h b n e)
+              (spelling doc c _ T T' (r ∷ []) (c .at + 1) (c .text + 1) (choice ∙ rw (← here, x, f, ← z, add-one) refl) (omega arith) (omega arith) refl (omega arith) k)
 
-  pub letter-none-at : (b r : ℕ) → b ≡ peek doc (c .at + 1) → Letter b r → r ≡ 256 → lettering (peek doc (c .at + 1)) ≡ 256
-  letter-none-at b r look l e = rw (← look) (sym (l .is) ∙ e)
+      pub letter-none : (a : Ans) (T T' : List ℕ) → r ≡ 256 → Texts doc c (codedR (c .at) (drop (c .at) doc)) a T T' → Behind a T T'
+      letter-none a T T' z k = by (lettered-of b)
+        where
+          by : Lettered b → Behind a T T'
+          by (no-letter x y) = rw (choice, ← here, x) k
+          by (letter x y) = absurd (let f = letter-low b x in let g : 256 ≡ standsFor b = sym z ∙ (l .is ∙ y) in omega arith)
 
-  module _ (none : lettering (peek doc (c .at + 1)) ≡ 256) (n : ℕ) (same : n ≡ common (117 ∷ 123 ∷ []) (At (c .at + 1))) where
-    pub coded-word : (T : List ℕ) → n < 2 → Escaped (No (c .at + 1 + n)) T T
-    coded-word T l =
-        text-refused doc c _ T T (c .at + 1 + n)
-        (coded-at doc (c .at) back none ∙ rw (word-part (117 ∷ 123 ∷ []) (c .at + 1) (At (c .at + 1)) (λ e. omega arith), ← same) refl)
+pub ruleset lettering-on = (letter-over, letter-read, letter-none, needs)
 
-    braced : 2 ≤ n → escapeR (c .at) (At (c .at)) ≡ bind (codeR (c .at + 3) (At (c .at + 3))) (λ ds. seqR (byteR (is (only 125))) λ _. retR (utf8 (hexNumber 0 ds)))
-    braced l =
-        let m = common-most (117 ∷ 123 ∷ []) (At (c .at + 1)) in
-        let z : c .at + 1 + 2 ≡ c .at + 3 = omega arith in
-        coded-at doc (c .at) back none
-        ∙ rw (word-all (117 ∷ 123 ∷ []) (c .at + 1) (At (c .at + 1)) (omega arith), drop-drop 2 (c .at + 1) doc, z) refl
+-- ---- `u{..}`
 
-    module _ (full : 2 ≤ n) (r : Coded) (code : CodeAt doc (c .at + 3) r) where
-      pub coded-bad : (T : List ℕ) (q : ℕ) → r ≡ Unnamed q → Escaped (No q) T T
-      unfolding CodeAt
-      coded-bad T q e = let h : codeR (c .at + 3) (At (c .at + 3)) ≡ bad q = rw e at code in text-refused doc c _ T T q (braced full ∙ rw h refl)
+module _ (doc : List ℕ) (c : Cursor) (r : Coded) (code : CodeAt doc (c .at) r) where
+  abbrev Braced : Ans → List ℕ → List ℕ → Type 0
+  Braced a T T' = Texts doc c (bracedR (c .at) (drop (c .at) doc)) a T T'
 
-      module _ (v e : ℕ) (named : r ≡ Named v e) where
-        naming : Naming doc (c .at + 3) v e
-        unfolding CodeAt
-        naming = rw named at code
+  pub coded-bad : (T : List ℕ) (q : ℕ) → r ≡ Unnamed q → Braced (No q) T T
+  unfolding CodeAt
+  coded-bad T q e = let h : codeR (c .at) (drop (c .at) doc) ≡ bad q = rw e at code in text-refused doc c _ T T q (rw h refl)
 
-        pub coded-top : v < 1114112
-        coded-top = naming .top
+  module _ (v : ℕ) (m : Reading) (named : r ≡ Named v m) where
+    naming : Naming doc (c .at) v (m .at)
+    unfolding CodeAt
+    naming = rw named at code
 
-        pub coded-fits : e + 1 < 2 ^ 64
-        coded-fits = omega (arith, naming .inside, ready .small)
+    pub coded-top : v < 1114112
+    coded-top = naming .top
 
-        module _ (b : ℕ) (look : b ≡ peek doc e) where
-          pub coded-open : (T : List ℕ) → (b ≡ 125 → ⊥) → Escaped (No e) T T
-          coded-open T k = text-refused doc c _ T T e (braced full ∙ rw (naming .is, byte-not doc e 125 b (omega arith) look k) refl)
+    module _ (s : Skip) (shut : Skips doc (m .at) (byteR (is (only 125)) (m .at) (drop (m .at) doc)) s) where
+      pub coded-open : (T : List ℕ) (p : ℕ) → s ≡ Bad p → Braced (No p) T T
+      coded-open T p e = text-refused doc c _ T T p (rw (naming .is, bad-of doc (m .at) _ s p e shut) refl)
 
-          pub coded-read : (x : ℕ) (T T' : List ℕ) → b ≡ 125 → Stored T T' (c .text) v x → Escaped (Ok (record { at = e + 1; row = c .row; text = x })) T T'
-          coded-read x T T' k t =
-              let i = peek-in doc e b look (omega arith) in
-              let m = utf8-most v in
-              spelling doc c _ T T' (utf8 v) (e + 1) x
-              (braced full ∙ rw (naming .is, byte-is doc e 125 b (omega arith) look k, naming .number) refl)
-              (omega (arith, naming .ahead)) (omega arith) (t .end) (omega (arith, naming .ahead)) (t .room)
+      pub coded-read : (e x : ℕ) (T T' : List ℕ) → s ≡ End e → Stored T T' (c .text) v x → Braced (Ok (record { at = e; row = c .row; text = x })) T T'
+      coded-read e x T T' k t =
+          let z = ends-of doc (m .at) _ s e k shut in
+          spelling doc c _ T T' (utf8 v) e x (rw (naming .is, z .is, naming .number) refl)
+          (omega (arith, naming .ahead, z .behind)) (z .inside) (t .end) (omega (arith, naming .few, z .behind)) (t .room)
+
+pub ruleset bracing = (coded-bad, coded-top, coded-open, coded-read, needs)
+
+-- ---- a backslash, `u` and `{`
+
+module _ (doc : List ℕ) (c : Cursor) (t : Ans) where
+  module _ (h : Takes doc c 92 t) where
+    pub escape-not : (T : List ℕ) (p : ℕ) → t ≡ No p → Texts doc c (escapeR (c .at) (drop (c .at) doc)) (No p) T T
+    unfolding escapeR
+    escape-not T p e = front-not doc c 92 (omega arith) t h behindR T p e
+
+    pub escape-on : (n : Cursor) (a : Ans) (T T' : List ℕ) → t ≡ Ok n → Texts doc n (behindR (n .at) (drop (n .at) doc)) a T T' → Texts doc c (escapeR (c .at) (drop (c .at) doc)) a T T'
+    unfolding escapeR
+    escape-on n a T T' e x = front-read doc c 92 (omega arith) t h n e behindR a T T' x
+
+    pub single-not : (T : List ℕ) (p : ℕ) → t ≡ No p → Texts doc c (singleEscapeR (c .at) (drop (c .at) doc)) (No p) T T
+    unfolding singleEscapeR
+    single-not T p e = front-not doc c 92 (omega arith) t h itselfR T p e
+
+    pub single-on : (n : Cursor) (a : Ans) (T T' : List ℕ) → t ≡ Ok n → Texts doc n (itselfR (n .at) (drop (n .at) doc)) a T T' → Texts doc c (singleEscapeR (c .at) (drop (c .at) doc)) a T T'
+    unfolding singleEscapeR
+    single-on n a T T' e x = front-read doc c 92 (omega arith) t h n e itselfR a T T' x
+
+    pub back-ready : (n : Cursor) → t ≡ Ok n → Ready doc c → Ready doc n
+    back-ready n e ready = front-ready doc c 92 (omega arith) t h n e ready
+
+pub ruleset escapes = (escape-not, escape-on, single-not, single-on, back-ready, needs)
+
+-- `u{` is `u`, and then `{`
+abbrev openR : Reader (List ℕ)
+openR = seqR (byteR (is (only 123))) λ _. bracedR
+
+word-as : (at : ℕ) (s : List ℕ) → codedR at s ≡ seqR (byteR (is (only 117))) (λ _. openR) at s
+word-as at s =
+    bind-bind (byteR (is (only 117)) at s) (λ _. wordR (123 ∷ [])) (λ _. bracedR)
+    ∙ bind-same (byteR (is (only 117)) at s) _ _ (λ v a t. bind-bind (byteR (is (only 123)) a t) (λ _. retR 0) (λ _. bracedR))
+
+module _ (doc : List ℕ) (c : Cursor) (t : Ans) (h : Takes doc c 117 t) where
+  abbrev Coding : Ans → List ℕ → List ℕ → Type 0
+  Coding a T T' = Texts doc c (codedR (c .at) (drop (c .at) doc)) a T T'
+
+  pub letter-u-not : (T : List ℕ) (p : ℕ) → t ≡ No p → Coding (No p) T T
+  letter-u-not T p e = rw (word-as (c .at) (drop (c .at) doc)) (front-not doc c 117 (omega arith) t h openR T p e)
+
+  module _ (u : Cursor) (e : t ≡ Ok u) (s : Ans) (k : Takes doc u 123 s) where
+    pub brace-not : (T : List ℕ) (p : ℕ) → s ≡ No p → Coding (No p) T T
+    brace-not T p x =
+        rw (word-as (c .at) (drop (c .at) doc)) (front-read doc c 117 (omega arith) t h u e openR (No p) T T (front-not doc u 123 (omega arith) s k bracedR T p x))
+
+    module _ (n : Cursor) (x : s ≡ Ok n) where
+      pub brace-ready : Ready doc c → Ready doc n
+      brace-ready ready = front-ready doc u 123 (omega arith) s k n x (front-ready doc c 117 (omega arith) t h u e ready)
+
+      pub brace-on : (a : Ans) (T T' : List ℕ) → Texts doc n (bracedR (n .at) (drop (n .at) doc)) a T T' → Coding a T T'
+      brace-on a T T' y =
+          rw (word-as (c .at) (drop (c .at) doc))
+          (front-read doc c 117 (omega arith) t h u e openR a T T' (front-read doc u 123 (omega arith) s k n x bracedR a T T' y))
+
+pub ruleset bracings = (letter-u-not, brace-not, brace-ready, brace-on, needs)
 
 -- ---- single quotes
 
-abbrev singled : Class
-singled = (39 to 39) ∷ (92 to 92) ∷ []
+module _ (doc : List ℕ) (c : Cursor) (t : Step) (h : Stepped doc c t) where
+  abbrev Itself : Ans → List ℕ → List ℕ → Type 0
+  Itself a T T' = Texts doc c (itselfR (c .at) (drop (c .at) doc)) a T T'
 
-module _ (doc : List ℕ) (c : Cursor) (ready : Ready doc c) (back : 92 ≡ peek doc (c .at)) (b : ℕ) (look : b ≡ peek doc (c .at + 1)) where
-  abbrev Singly : Ans → List ℕ → List ℕ → Type 0
-  Singly a T T' = Texts doc c (singleEscapeR (c .at) (drop (c .at) doc)) a T T'
+  pub itself-over : (T : List ℕ) → t ≡ Over → Itself (No (c .at)) T T
+  itself-over T e =
+      let z : peek doc (c .at) ≡ 256 = step-over doc c t h e in
+      text-refused doc c _ T T (c .at) (rw (byte-peek doc (c .at) singled refl, z) refl)
 
-  single-is : singleEscapeR (c .at) (drop (c .at) doc) ≡ pick (is singled b) (ok (b ∷ []) (c .at + 2) (drop (c .at + 2) doc)) (bad (c .at + 1))
-  unfolding singleEscapeR
-  single-is =
-      let z : suc (c .at + 1) ≡ c .at + 2 = omega arith in
-      rw (byte-is doc (c .at) 92 92 (omega arith) back refl, byte-peek doc (c .at + 1) singled refl, ← look, z) (by (is singled b))
-    where
-      by : (x : Bool) → bind (pick x (ok b (c .at + 2) (drop (c .at + 2) doc)) (bad (c .at + 1))) (λ b. retR (b ∷ [])) ≡ pick x (ok (b ∷ []) (c .at + 2) (drop (c .at + 2) doc)) (bad (c .at + 1))
-      by true = refl
-      by false = refl
+  module _ (b : ℕ) (n : Cursor) (e : t ≡ Byte b n) where
+    pub itself-read : (T T' : List ℕ) → (b ≡ 39) ⊎ (b ≡ 92) → T' ≡ set T (c .text) b → Itself (Ok (record { at = n .at; row = c .row; text = c .text + 1 })) T T'
+    itself-read T T' z k =
+        let s : is singled b ≡ true = ⊎-elim (λ x. rw x refl) (λ x. rw x refl) z in
+        let here : b ≡ peek doc (c .at) = step-byte doc c t h b n e in
+        let i = step-inside doc c t h b n e in
+        rw (step-next doc c t h b n e)
+        (spelling doc c _ T T' (b ∷ []) (c .at + 1) (c .text + 1) (rw (byte-peek doc (c .at) singled refl, ← here, s, add-one) refl) (omega arith) (omega arith) refl (omega arith) k)
 
-  single-took : (a : ℕ) (T T' : List ℕ) → a < 256 → is singled a ≡ true → b ≡ a → T' ≡ set T (c .text) a → Singly (Ok (record { at = c .at + 2; row = c .row; text = c .text + 1 })) T T'
-  single-took a T T' l s k t =
-      let i = peek-in doc (c .at + 1) b look (omega arith) in
-      spelling doc c _ T T' (a ∷ []) (c .at + 2) (c .text + 1) (single-is ∙ rw (k, s) refl) (omega arith) (omega arith) refl (omega arith) t
+    pub itself-not : (T : List ℕ) → ((b ≡ 39) ⊎ (b ≡ 92) → ⊥) → Itself (No (c .at)) T T
+    itself-not T k =
+        let here : b ≡ peek doc (c .at) = step-byte doc c t h b n e in
+        text-refused doc c _ T T (c .at) (rw (byte-peek doc (c .at) singled refl, ← here, other 39 b (λ x. k (inl x)), other 92 b (λ x. k (inr x))) refl)
 
-  pub single-quote : (T T' : List ℕ) → b ≡ 39 → T' ≡ set T (c .text) 39 → Singly (Ok (record { at = c .at + 2; row = c .row; text = c .text + 1 })) T T'
-  single-quote T T' k t = single-took 39 T T' (omega arith) refl k t
-
-  pub single-back : (T T' : List ℕ) → b ≡ 92 → T' ≡ set T (c .text) 92 → Singly (Ok (record { at = c .at + 2; row = c .row; text = c .text + 1 })) T T'
-  single-back T T' k t = single-took 92 T T' (omega arith) refl k t
-
-  pub single-not : (T : List ℕ) → (b ≡ 39 → ⊥) → (b ≡ 92 → ⊥) → Singly (No (c .at + 1)) T T
-  single-not T k l = text-refused doc c _ T T (c .at + 1) (single-is ∙ rw (other 39 b k, other 92 b l) refl)
-
-pub ruleset escapes = (back-in, letter-read, letter-none-at, coded-word, coded-bad, coded-top, coded-fits, coded-open, coded-read, needs)
-
-pub ruleset singles = (single-quote, single-back, single-not, needs)
+pub ruleset selves = (itself-over, itself-read, itself-not, needs)

@@ -2,7 +2,7 @@
 use mathlib.Core.Path.{_≡_, refl, sym, ap, _∙_}
 use mathlib.Core.List.{List, [], _∷_}
 use mathlib.Core.Bool.{true, false}
-use Prim.Native.Nat.{ℕ, suc, _+_, _*_, _≤_, _<_}
+use Prim.Native.Nat.{ℕ, suc, _+_, _*_, _^_, _≤_, _<_}
 use native.Mathlib.Numerals.{add-one}
 use native.Mathlib.Omega.{arith}
 use lib.ListN.{drop, set}
@@ -17,13 +17,16 @@ use Rattle.language.specs.Strings.{lowhex, hexval}
 use Rattle.rooms.specs.declared.Cursor.{Cursor}
 use Rattle.rooms.specs.declared.Ans.{Ans}
 use Rattle.rooms.specs.declared.Ans.the-variants.{Ok, No}
-use Rattle.rooms.specs.Contract.{Ready}
+use Rattle.rooms.specs.Contract.{onward, Takes}
+use Rattle.rooms.specs.Laws.{take-next, take-byte, take-place, take-other}
+use Rattle.characters.specs.declared.Reading.{Reading}
+use Rattle.strings.specs.declared.digits.Digit.{Digit}
+use Rattle.strings.specs.declared.digits.Digit.the-variants.{Of, None}
 use Rattle.strings.specs.declared.hex.Next.the-variants.{Begins, Stops}
 use Rattle.strings.specs.Bytes.{pairR, furtherR, digitNext, pairsOn}
-use Rattle.strings.specs.Contract.{DigitAt, Texts}
+use Rattle.strings.specs.Contract.{digitOf, DigitAt, Digited, DigitRead, Texts}
 use Rattle.strings.specs.Hexes.{pairTextR, Furthers}
-use Rattle.strings.proofs.DigitLaws.{digit-is, digit-none}
-use Rattle.strings.proofs.PlainLaws.{class-in}
+use Rattle.strings.proofs.DigitLaws.{digit-is, digit-none, low-at, digited, undigited, class-in}
 use Rattle.strings.proofs.TextLaws.{text-refused, spelling}
 
 -- ---- a digit at a place
@@ -37,33 +40,47 @@ module _ (doc : List ℕ) (at d : ℕ) (a : DigitAt lowhex doc at d) where
 
 -- ---- a pair
 
-module _ (doc : List ℕ) (c : Cursor) (ready : Ready doc c) (h : ℕ) (high : DigitAt lowhex doc (c .at) h) where
+module _ (doc : List ℕ) (c : Cursor) (r : Digit) (high : DigitRead lowhex doc (c .at) r) where
   abbrev Pair : Ans → List ℕ → List ℕ → Type 0
   Pair a T T' = Texts doc c (pairTextR (c .at) (drop (c .at) doc)) a T T'
 
-  pub pair-none : (T : List ℕ) → h ≡ 16 → Pair (No (c .at)) T T
+  pub pair-none : (T : List ℕ) → r ≡ None → Pair (No (c .at)) T T
   unfolding pairR
-  pair-none T e = text-refused doc c _ T T (c .at) (rw (byte-peek doc (c .at) lowhex refl, low-none doc (c .at) h high e) refl)
+  pair-none T e = text-refused doc c _ T T (c .at) (rw (byte-peek doc (c .at) lowhex refl, undigited lowhex doc (c .at) r high e) refl)
 
-  module _ (n : h ≡ 16 → ⊥) (l : ℕ) (low : DigitAt lowhex doc (c .at + 1) l) where
-    first : pairR (c .at) (drop (c .at) doc)
-        ≡ bind (byteR (is lowhex) (c .at + 1) (drop (c .at + 1) doc)) (λ b. retR (16 * h + hexval b))
+  pub pair-times : (h : ℕ) (m : Reading) → r ≡ Of h m → 16 * h < 2 ^ 32
+  pair-times h m e = omega (arith, digited lowhex doc (c .at) r high h m e .small)
+
+  module _ (h : ℕ) (m : Reading) (e : r ≡ Of h m) (s : Digit) (low : DigitRead lowhex doc (m .at) s) where
+    x : Digited lowhex doc (c .at) h (m .at)
+    x = digited lowhex doc (c .at) r high h m e
+
+    first : pairR (c .at) (drop (c .at) doc) ≡ bind (byteR (is lowhex) (m .at) (drop (m .at) doc)) (λ b. retR (16 * h + hexval b))
     unfolding pairR
-    first = let x = low-is doc (c .at) h high n in rw (byte-peek doc (c .at) lowhex refl, x .0, x .1, add-one) refl
+    first = rw (byte-peek doc (c .at) lowhex refl, x .digit, x .value, x .next, add-one) refl
 
-    pub pair-half : (T : List ℕ) → l ≡ 16 → Pair (No (c .at + 1)) T T
-    pair-half T e = text-refused doc c _ T T (c .at + 1) (ap (fmap (_∷ [])) first ∙ rw (byte-peek doc (c .at + 1) lowhex refl, low-none doc (c .at + 1) l low e) refl)
+    pub pair-half : (T : List ℕ) → s ≡ None → Pair (No (m .at)) T T
+    pair-half T k = text-refused doc c _ T T (m .at) (ap (fmap (_∷ [])) first ∙ rw (byte-peek doc (m .at) lowhex refl, undigited lowhex doc (m .at) s low k) refl)
 
-    pub pair-read : (T T' : List ℕ) → (l ≡ 16 → ⊥) → T' ≡ set T (c .text) (16 * h + l) → Pair (Ok (record { at = c .at + 2; row = c .row; text = c .text + 1 })) T T'
-    pair-read T T' m t =
-        let x = low-is doc (c .at + 1) l low m in
-        let i = class-in lowhex doc (c .at + 1) refl (x .0) in
-        let z : suc (c .at + 1) ≡ c .at + 2 = omega arith in
-        spelling doc c _ T T' ((16 * h + l) ∷ []) (c .at + 2) (c .text + 1)
-        (ap (fmap (_∷ [])) first ∙ rw (byte-peek doc (c .at + 1) lowhex refl, x .0, x .1, z) refl)
-        (omega arith) (omega arith) refl (omega arith) t
+    module _ (l : ℕ) (n : Reading) (k : s ≡ Of l n) where
+      y : Digited lowhex doc (m .at) l (n .at)
+      y = digited lowhex doc (m .at) s low l n k
 
-pub ruleset pairing = (pair-none, pair-half, pair-read, needs)
+      pub pair-byte : 16 * h + l < 256
+      pair-byte = omega (arith, x .small, y .small)
+
+      pub pair-fits : 16 * h + l < 2 ^ 32
+      pair-fits = omega (arith, pair-byte)
+
+      pub pair-read : (T T' : List ℕ) → T' ≡ set T (c .text) (16 * h + l) → Pair (Ok (record { at = n .at; row = c .row; text = c .text + 1 })) T T'
+      pair-read T T' t =
+          let i = class-in lowhex doc (m .at) refl (y .digit) in
+          let z : suc (m .at) ≡ n .at = omega (arith, y .next) in
+          spelling doc c _ T T' ((16 * h + l) ∷ []) (n .at) (c .text + 1)
+          (ap (fmap (_∷ [])) first ∙ rw (byte-peek doc (m .at) lowhex refl, y .digit, y .value, z) refl)
+          (omega (arith, x .next, y .next)) (omega (arith, y .next)) refl (omega (arith, x .next, y .next)) t
+
+pub ruleset pairing = (pair-none, pair-times, pair-half, pair-byte, pair-fits, pair-read, needs)
 
 -- ---- what follows a pair
 
@@ -88,49 +105,67 @@ lead-peek doc at = by (there doc at)
     by (byte-there p) = ap (lead 1) p
     by (none-there p q) = ap (lead 1) p ∙ rw q refl
 
-module _ (doc : List ℕ) (at d : ℕ) (a : DigitAt lowhex doc at d) where
-  pub further-here : d < 16 → Furthers doc at (Begins at)
+module _ (doc : List ℕ) (c : Cursor) (b d : ℕ) (look : b ≡ peek doc (c .at)) (a : d ≡ digitOf lowhex b) where
+  here : DigitAt lowhex doc (c .at) d
+  here = low-at doc (c .at) b d look a
+
+  pub further-here : d < 16 → Furthers doc c (Begins c)
   unfolding Furthers furtherR
   further-here l =
-      let x = low-is doc at d a (λ e. omega arith) in
+      let x = low-is doc (c .at) d here (λ e. omega arith) in
       record {
-        on = on-peek doc at ∙ rw (x .0) refl;
-        is = alt-peek doc at lowhex refl pairR (seqR (byteR (is (only 32))) λ _. pairR) ∙ rw (x .0) refl;
+        on = on-peek doc (c .at) ∙ rw (x .0) refl;
+        is = alt-peek doc (c .at) lowhex refl pairR (seqR (byteR (is (only 32))) λ _. pairR) ∙ rw (x .0) refl;
         from = omega arith;
-        inside = class-in lowhex doc at refl (x .0);
+        inside = class-in lowhex doc (c .at) refl (x .0);
+        row = refl;
+        text = refl;
       }
 
-  module _ (no : 16 ≤ d) (b : ℕ) (look : b ≡ peek doc at) where
-    dark : is lowhex (peek doc at) ≡ false
-    dark = low-none doc at d a (let m = a .most in omega arith)
+  module _ (no : 16 ≤ d) (t : Ans) (h : Takes doc c 32 t) where
+    dark : is lowhex (peek doc (c .at)) ≡ false
+    dark = low-none doc (c .at) d here (let m = here .most in omega arith)
 
-    pub stops-here : (b ≡ 32 → ⊥) → Furthers doc at (Stops at)
+    pub stops-here : (p : ℕ) → t ≡ No p → Furthers doc c (Stops p)
     unfolding Furthers
-    stops-here n =
-        let z : is (only 32) (peek doc at) ≡ false = only-no 32 (peek doc at) (λ e. n (look ∙ e)) in
-        record { off = on-peek doc at ∙ rw (dark, z) refl; is = rw (lead-peek doc at, z) (omega arith) }
+    stops-here p e =
+        let z : is (only 32) (peek doc (c .at)) ≡ false = only-no 32 (peek doc (c .at)) (take-other doc c 32 t h p e) in
+        record { off = on-peek doc (c .at) ∙ rw (dark, z) refl; is = rw (lead-peek doc (c .at), z) (take-place doc c 32 t h p e ∙ omega arith) }
 
-    module _ (space : b ≡ 32) (f : ℕ) (behind : DigitAt lowhex doc (at + 1) f) where
-      blank : is (only 32) (peek doc at) ≡ true
-      blank = only-yes 32 (peek doc at) (sym look ∙ space)
+    module _ (n : Cursor) (e : t ≡ Ok n) (g f : ℕ) (look-behind : g ≡ peek doc (n .at)) (k : f ≡ digitOf lowhex g) where
+      step : n ≡ onward c 1
+      step = take-next doc c 32 t h n e
 
-      pub further-behind : f < 16 → Furthers doc at (Begins (at + 1))
+      blank : is (only 32) (peek doc (c .at)) ≡ true
+      blank = only-yes 32 (peek doc (c .at)) (sym (take-byte doc c 32 t h n e))
+
+      next-at : n .at ≡ c .at + 1
+      next-at = ap (λ (z : Cursor). z .at) step
+
+      behind : DigitAt lowhex doc (n .at) f
+      behind = low-at doc (n .at) g f look-behind k
+
+      pub further-behind : f < 16 → Furthers doc c (Begins n)
       unfolding Furthers furtherR
       further-behind l =
-          let x = low-is doc (at + 1) f behind (λ e. omega arith) in
+          let x = low-is doc (n .at) f behind (λ e. omega arith) in
+          let w : is lowhex (peek doc (c .at + 1)) ≡ true = rw (← next-at) (x .0) in
           record {
-            on = on-peek doc at ∙ rw (dark, blank, x .0) refl;
+            on = on-peek doc (c .at) ∙ rw (dark, blank, w) refl;
             is =
-                alt-peek doc at lowhex refl pairR (seqR (byteR (is (only 32))) λ _. pairR)
-                ∙ rw (dark, byte-is doc at 32 b (omega arith) look space) refl;
-            from = omega arith;
-            inside = class-in lowhex doc (at + 1) refl (x .0);
+                alt-peek doc (c .at) lowhex refl pairR (seqR (byteR (is (only 32))) λ _. pairR)
+                ∙ rw (dark, byte-is doc (c .at) 32 32 (omega arith) (take-byte doc c 32 t h n e) refl, next-at) refl;
+            from = omega (arith, next-at);
+            inside = class-in lowhex doc (n .at) refl (x .0);
+            row = ap (λ (z : Cursor). z .row) step;
+            text = ap (λ (z : Cursor). z .text) step;
           }
 
-      pub stops-behind : 16 ≤ f → Furthers doc at (Stops (at + 1))
+      pub stops-behind : 16 ≤ f → Furthers doc c (Stops (n .at))
       unfolding Furthers
       stops-behind l =
-          let y = low-none doc (at + 1) f behind (let m = behind .most in omega arith) in
-          record { off = on-peek doc at ∙ rw (dark, blank, y) refl; is = rw (lead-peek doc at, blank) refl }
+          let x = low-none doc (n .at) f behind (let m = behind .most in omega arith) in
+          let w : is lowhex (peek doc (c .at + 1)) ≡ false = rw (← next-at) x in
+          record { off = on-peek doc (c .at) ∙ rw (dark, blank, w) refl; is = rw (lead-peek doc (c .at), blank) next-at }
 
 pub ruleset furthering = (further-here, stops-here, further-behind, stops-behind, needs)

@@ -1,5 +1,5 @@
 -- A text and its row: laws for the returns of strings, keys and inline bytes.
-use mathlib.Core.Path.{_≡_, refl, sym, ap, _∙_}
+use mathlib.Core.Path.{_≡_, refl, ap, _∙_}
 use mathlib.Core.List.{List}
 use Prim.Native.Nat.{ℕ, _+_, _*_, _<_}
 use native.Mathlib.Omega.{arith}
@@ -9,7 +9,7 @@ use borrow.Author.Needs.{needs}
 use Rattle.exact.specs.Class.{is}
 use Rattle.exact.specs.Out.{Out, bind, Reader}
 use Rattle.exact.specs.Lang.{retR}
-use Rattle.exact.specs.Place.{peek, alt-is, alt-not, byte-not}
+use Rattle.exact.specs.Place.{peek, alt-is, alt-not}
 use Rattle.language.specs.Kind.{TRUE, STRING}
 use Rattle.language.specs.Tree.{leaf, width, rowList}
 use Rattle.rooms.specs.declared.Cursor.{Cursor}
@@ -18,11 +18,12 @@ use Rattle.rooms.specs.declared.Ans.{Ans}
 use Rattle.rooms.specs.declared.Ans.the-variants.{Ok, No}
 use Rattle.rooms.specs.Contract.{Ready, Answers}
 use Rattle.rooms.specs.Laws.{refused, took, leaf-text}
+use Rattle.characters.specs.Plains.{Quote, double, single}
 use Rattle.strings.specs.Spans.{spannedR}
-use Rattle.strings.specs.Quoted.{betweenR, doubleR, singleR, quotedR, stringR}
-use Rattle.strings.specs.Inside.{Quote, double, single, textR, Close, Leafed}
+use Rattle.strings.specs.Quoted.{doubleR, singleR, quotedR, stringR}
+use Rattle.strings.specs.Inside.{textR, Close, Leafed}
 use Rattle.strings.specs.Contract.{Texts}
-use Rattle.strings.proofs.TextLaws.{text-refused, text-taken, text-refusal}
+use Rattle.strings.proofs.TextLaws.{text-taken, text-refusal}
 
 -- ---- either quote
 
@@ -32,27 +33,16 @@ is-double = double
 pub is-single : Quote 39
 is-single = single
 
-pub byte-at : (doc : List ℕ) (at a b : ℕ) → b ≡ peek doc at → b ≡ a → a ≡ peek doc at
-byte-at doc at a b look e = sym e ∙ look
-
-module _ (doc : List ℕ) (c : Cursor) (b : ℕ) (look : b ≡ peek doc (c .at)) where
-  abbrev Quotes : Ans → List ℕ → List ℕ → Type 0
-  Quotes a T T' = Texts doc c (quotedR (c .at) (drop (c .at) doc)) a T T'
-
-  pub via-double-quote : (a : Ans) (T T' : List ℕ) → b ≡ 34 → Texts doc c (textR 34 (c .at) (drop (c .at) doc)) a T T' → Quotes a T T'
+module _ (doc : List ℕ) (c : Cursor) (b : ℕ) (look : b ≡ peek doc (c .at)) (a : Ans) (T T' : List ℕ) where
+  pub via-double-quote : b ≡ 34 → Texts doc c (textR 34 (c .at) (drop (c .at) doc)) a T T' → Texts doc c (quotedR (c .at) (drop (c .at) doc)) a T T'
   unfolding quotedR
-  via-double-quote a T T' e h = rw (alt-is doc (c .at) 34 b (omega arith) look doubleR singleR e) h
+  via-double-quote e h = rw (alt-is doc (c .at) 34 b (omega arith) look doubleR singleR e) h
 
-  pub via-single-quote : (a : Ans) (T T' : List ℕ) → b ≡ 39 → Texts doc c (textR 39 (c .at) (drop (c .at) doc)) a T T' → Quotes a T T'
+  pub via-single-quote : (b ≡ 34 → ⊥) → Texts doc c (textR 39 (c .at) (drop (c .at) doc)) a T T' → Texts doc c (quotedR (c .at) (drop (c .at) doc)) a T T'
   unfolding quotedR
-  via-single-quote a T T' e h = rw (alt-not doc (c .at) 34 b (omega arith) look doubleR singleR (λ z. omega arith)) h
+  via-single-quote e h = rw (alt-not doc (c .at) 34 b (omega arith) look doubleR singleR e) h
 
-  pub no-quote : (T : List ℕ) → (b ≡ 34 → ⊥) → (b ≡ 39 → ⊥) → Quotes (No (c .at)) T T
-  unfolding quotedR betweenR
-  no-quote T n m =
-      text-refused doc c _ T T (c .at) (alt-not doc (c .at) 34 b (omega arith) look doubleR singleR n ∙ rw (byte-not doc (c .at) 39 b (omega arith) look m) refl)
-
-pub ruleset quotes = (is-double, is-single, byte-at, via-double-quote, via-single-quote, no-quote, needs)
+pub ruleset quotes = (is-double, is-single, via-double-quote, via-single-quote, needs)
 
 -- ---- a row
 

@@ -1,5 +1,4 @@
 pub mod DigitLaws
-pub mod PlainLaws
 pub mod CodeLaws
 pub mod TextLaws
 pub mod EscapeLaws

@@ -14,7 +14,7 @@ use Rattle.rooms.specs.declared.Cursor.{Cursor}
 use Rattle.rooms.specs.declared.Ans.{Ans}
 use Rattle.rooms.specs.declared.Ans.the-variants.{Ok, No}
 use Rattle.rooms.specs.declared.Far.the-variants.{Upto, Not}
-use Rattle.rooms.specs.Contract.{ample, Ready}
+use Rattle.rooms.specs.Contract.{Ready}
 use Rattle.strings.specs.declared.hex.Next.{Next}
 use Rattle.strings.specs.declared.hex.Next.the-variants.{Begins, Stops}
 use Rattle.strings.specs.Bytes.{pairR, furtherR, further-ll, pairsR, pairsOn}
@@ -66,30 +66,27 @@ module _ (doc : List ℕ) (s n : Cursor) (T₀ T : List ℕ) (w : Within pairsR 
     pairs-by : pairsR (n .at) (drop (n .at) doc) ≡ fmap (got .0 ∷_) (manyP (m .at) (drop (m .at) doc))
     pairs-by = pairs-as (n .at) (drop (n .at) doc) ∙ ap (λ o. bind o (λ v a t. fmap (v ∷_) (manyP a t))) (got .2)
 
-    pub pair-small : m .at + 1 < ample
-    pair-small = let i = text .spelt .inside in omega (arith, w .ready .small)
-
-    module _ (f : Next) (k : Furthers doc (m .at) f) where
-      module _ (p : ℕ) (b : f ≡ Begins p) where
-        further : Further doc (m .at) p
+    module _ (f : Next) (k : Furthers doc m f) where
+      module _ (i : Cursor) (b : f ≡ Begins i) where
+        further : Further doc m i
         unfolding Furthers
         further = rw b at k
 
-        many-on : manyP (m .at) (drop (m .at) doc) ≡ pairsR p (drop p doc)
+        many-on : manyP (m .at) (drop (m .at) doc) ≡ pairsR (i .at) (drop (i .at) doc)
         many-on =
             manyG-turn (further-ll .exact .moves) pairsOn (lead 1) refl (m .at) (drop (m .at) doc) (further .on)
-            ∙ (ap (λ o. bind o (λ v a t. fmap (v ∷_) (manyP a t))) (further .is) ∙ sym (pairs-as p (drop p doc)))
+            ∙ (ap (λ o. bind o (λ v a t. fmap (v ∷_) (manyP a t))) (further .is) ∙ sym (pairs-as (i .at) (drop (i .at) doc)))
 
-        pub pairs-turn : Within pairsR doc s (record { at = p; row = m .row; text = m .text }) T₀ T₁
+        pub pairs-turn : Within pairsR doc s i T₀ T₁
         pairs-turn =
             let x = text .spelt .few in
             let y = further .from in
             let z = further .inside in
-            extend pairsR doc s n T₀ T w (record { at = p; row = m .row; text = m .text }) (text .value) T₁
-            (pairs-by ∙ (ap (fmap (got .0 ∷_)) many-on ∙ ap (λ u. fmap (u ++_) (pairsR p (drop p doc))) (sym (got .1))))
-            (omega arith) (text .spelt .row) (text .spelt .end) (omega arith) (text .spelt .room)
+            extend pairsR doc s n T₀ T w i (text .value) T₁
+            (pairs-by ∙ (ap (fmap (got .0 ∷_)) many-on ∙ ap (λ u. fmap (u ++_) (pairsR (i .at) (drop (i .at) doc))) (sym (got .1))))
+            (omega arith) (further .row ∙ text .spelt .row) (further .text ∙ text .spelt .end) (omega arith) (text .spelt .room)
 
-        pub pairs-less : length doc - p < length doc - n .at
+        pub pairs-less : length doc - i .at < length doc - n .at
         pairs-less = let x = text .spelt .ahead in let y = further .from in let z = further .inside in omega arith
 
       pub pairs-upto : (far : ℕ) → f ≡ Stops far → PairsAt doc s (Upto m far) T₀ T₁
@@ -119,4 +116,4 @@ module _ (doc : List ℕ) (s n : Cursor) (T₀ T : List ℕ) (w : Within pairsR 
             far-is = g .is;
           }
 
-pub ruleset pairing-on = (pairs-first, pairs-not, pair-small, pairs-turn, pairs-less, pairs-upto, needs)
+pub ruleset pairing-on = (pairs-first, pairs-not, pairs-turn, pairs-less, pairs-upto, needs)

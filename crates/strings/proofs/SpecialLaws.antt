@@ -1,11 +1,11 @@
 -- What stands in a string where no plain byte and no quote does: laws for each return.
-use mathlib.Core.Path.{_≡_, refl, sym, ap, _∙_}
-use mathlib.Core.List.{List, [], _∷_}
+use mathlib.Core.Path.{_≡_, refl, ap, _∙_}
+use mathlib.Core.List.{List}
 use mathlib.Core.Bool.{false}
-use Prim.Native.Nat.{ℕ, suc, _+_, _-_, _≤_, _<_}
+use Prim.Native.Nat.{ℕ, _+_, _-_, _≤_, _<_}
 use native.Mathlib.Omega.{arith}
 use lib.ListN.{length, drop}
-use lib.Seq.{sets, slice, slice-cons, length-slice}
+use lib.Seq.{sets, slice, length-slice}
 use borrow.Author.Needs.{needs}
 use borrow.Author.Tests.{le-leb, lt-leb}
 use Rattle.exact.specs.Class.{is}
@@ -14,6 +14,7 @@ use Rattle.language.specs.Characters.{utf8}
 use Rattle.language.specs.Answered.{limit}
 use Rattle.utf8.specs.Char.{charR}
 use Rattle.characters.specs.Reads.{Stands, ReadAt}
+use Rattle.characters.specs.Plains.{Quote, double, single, plainOf}
 use Rattle.characters.specs.declared.Reading.{Reading}
 use Rattle.characters.specs.declared.Read.{Read}
 use Rattle.characters.specs.declared.Read.the-variants.{Scalar, Not}
@@ -22,8 +23,9 @@ use Rattle.rooms.specs.declared.Ans.{Ans}
 use Rattle.rooms.specs.declared.Ans.the-variants.{Ok, No}
 use Rattle.rooms.specs.Contract.{ample, Ready}
 use Rattle.strings.specs.Quoted.{escapeR, singleEscapeR}
-use Rattle.strings.specs.Inside.{Quote, double, single, plainOf, escapesR, specialR, Special}
+use Rattle.strings.specs.Inside.{escapesR, specialR, Special}
 use Rattle.strings.specs.Contract.{Texts}
+use Rattle.strings.proofs.CleanLaws.{first-byte}
 use Rattle.strings.proofs.TextLaws.{text-refused, spelling}
 
 -- ---- a character of several bytes
@@ -59,16 +61,9 @@ module _ (q : ℕ) (doc : List ℕ) (c : Cursor) (ready : Ready doc c) (spot : S
       unfolding ReadAt
       here = rw is-scalar at read
 
-      first-byte : v < 128 → peek doc (c .at) ≡ v
-      first-byte l =
-          let p : slice (c .at) (n .at) doc ≡ peek doc (c .at) ∷ slice (suc (c .at)) (n .at) doc = slice-cons (c .at) (n .at) doc 256 (here .ahead) (here .inside) in
-          let u : utf8 v ≡ v ∷ [] = rw (le-leb v 127 (omega arith)) refl in
-          let w = here .bytes in
-          cc
-
       pub wide-low : (T : List ℕ) → v < 128 → Piece (No (c .at)) T T
       wide-low T l =
-          let e : is (plainOf q) v ≡ false = rw (← first-byte l) (spot .dark) in
+          let e : is (plainOf q) v ≡ false = rw (← first-byte doc (c .at) v (n .at) here (omega arith)) (spot .dark) in
           text-refused doc c _ T T (c .at) (as-char ∙ (here .taken (plainOf q) ∙ rw (le-leb v 127 (omega arith), e) refl))
 
       pub wide-read : (T T' : List ℕ) → 128 ≤ v → T' ≡ sets T (c .text) (slice (c .at) (n .at) doc)
@@ -87,9 +82,6 @@ single-quote double n = absurd (n refl)
 single-quote single n = refl
 
 module _ (q : ℕ) (doc : List ℕ) (c : Cursor) (b : ℕ) (look : b ≡ peek doc (c .at)) (a : Ans) (T T' : List ℕ) where
-  pub back-at : b ≡ 92 → 92 ≡ peek doc (c .at)
-  back-at e = sym e ∙ look
-
   pub not-back : (b ≡ 92 → ⊥) → peek doc (c .at) ≡ 92 → ⊥
   not-back n e = n (look ∙ e)
 
@@ -99,4 +91,4 @@ module _ (q : ℕ) (doc : List ℕ) (c : Cursor) (b : ℕ) (look : b ≡ peek do
   pub via-single : b ≡ 92 → Quote q → (q ≡ 34 → ⊥) → Texts doc c (singleEscapeR (c .at) (drop (c .at) doc)) a T T' → Texts doc c (specialR q (c .at) (drop (c .at) doc)) a T T'
   via-single e k n h = rw (alt-is doc (c .at) 92 b (omega arith) look (escapesR q) (charR (plainOf q)) e, single-quote k n) h
 
-pub ruleset specials = (scalar-from, scalar-inside, scalar-small, wide-not, wide-low, wide-read, back-at, not-back, via-double, via-single, needs)
+pub ruleset specials = (scalar-from, scalar-inside, scalar-small, wide-not, wide-low, wide-read, not-back, via-double, via-single, needs)

@@ -1,5 +1,5 @@
 -- What a function that reads a text has to show at a return, from what the tests and the calls on the way say: each law's conclusion is the contract.
-use mathlib.Core.Path.{_≡_, refl, sym, _∙_}
+use mathlib.Core.Path.{_≡_, refl, sym, ap, _∙_}
 use mathlib.Core.List.{List, [], _∷_, _++_}
 use Prim.Native.Nat.{ℕ, suc, _+_, _/_, _%_, _≤_, _<_}
 use native.Mathlib.Numerals.{add-one}
@@ -8,11 +8,16 @@ use lib.ListN.{length, drop, set}
 use lib.Seq.{sets}
 use borrow.Author.Needs.{needs}
 use borrow.Author.Tests.{le-leb, lt-leb}
-use Rattle.exact.specs.Class.{is}
-use Rattle.exact.specs.Out.{Out, ok, bad}
+use Rattle.exact.specs.Class.{is, only}
+use Rattle.exact.specs.Out.{Out, ok, bad, Reader}
+use Rattle.exact.specs.Lang.{byteR}
+use Rattle.exact.specs.Comb.{seqR}
+use Rattle.exact.specs.Place.{peek, peek-in, byte-is, byte-not}
 use Rattle.rooms.specs.declared.Cursor.{Cursor}
 use Rattle.rooms.specs.declared.Ans.{Ans}
 use Rattle.rooms.specs.declared.Ans.the-variants.{Ok, No}
+use Rattle.rooms.specs.Contract.{onward, Takes, Ready}
+use Rattle.rooms.specs.Laws.{take-next, take-byte, take-place, take-other}
 use Rattle.rooms.specs.Stores.{sets-append}
 use Rattle.strings.specs.Contract.{Texted, Texts, Stored}
 
@@ -94,3 +99,42 @@ module _ (doc : List ℕ) (c : Cursor) (o : Out (List ℕ)) (T T' : List ℕ) wh
       → Texts doc c o (Ok (record { at = e; row = c .row; text = x })) T T'
   unfolding Texts
   spelling v e x h a i y f t = record { value = v; is = h; spelt = record { ahead = a; inside = i; row = refl; end = y; few = f; room = t } }
+
+-- ---- a byte taken, and what stands behind it
+
+module _ (doc : List ℕ) (c : Cursor) (b : ℕ) (small : b < 256) (t : Ans) (h : Takes doc c b t) where
+  pub front-not : (q : Reader (List ℕ)) (T : List ℕ) (p : ℕ) → t ≡ No p → Texts doc c (seqR (byteR (is (only b))) (λ _. q) (c .at) (drop (c .at) doc)) (No p) T T
+  front-not q T p e =
+      text-refused doc c _ T T p
+      (rw (byte-not doc (c .at) b (peek doc (c .at)) small refl (take-other doc c b t h p e)) (ap bad (sym (take-place doc c b t h p e))))
+
+  module _ (n : Cursor) (e : t ≡ Ok n) where
+    pub front-ready : Ready doc c → Ready doc n
+    front-ready ready =
+        let i = peek-in doc (c .at) b (take-byte doc c b t h n e) small in
+        rw (take-next doc c b t h n e)
+        (record { small = ready .small; inside = omega arith; fewRows = omega (arith, ready .fewRows); fewText = omega (arith, ready .fewText) })
+
+    front-is : (q : Reader (List ℕ)) → seqR (byteR (is (only b))) (λ _. q) (c .at) (drop (c .at) doc) ≡ q (n .at) (drop (n .at) doc)
+    front-is q = rw (take-next doc c b t h n e, byte-is doc (c .at) b b small (take-byte doc c b t h n e) refl) refl
+
+    pub front-read : (q : Reader (List ℕ)) (a : Ans) (T T' : List ℕ) → Texts doc n (q (n .at) (drop (n .at) doc)) a T T'
+        → Texts doc c (seqR (byteR (is (only b))) (λ _. q) (c .at) (drop (c .at) doc)) a T T'
+    unfolding Texts
+    front-read q (No p) T T' x = front-is q ∙ x
+    front-read q (Ok m) T T' x =
+        let k : n ≡ onward c 1 = take-next doc c b t h n e in
+        let s = x .spelt in
+        record {
+          value = x .value;
+          is = front-is q ∙ x .is;
+          spelt =
+              record {
+                ahead = omega (arith, s .ahead, ap (λ (z : Cursor). z .at) k);
+                inside = s .inside;
+                row = s .row ∙ ap (λ (z : Cursor). z .row) k;
+                end = s .end ∙ ap (λ (z : Cursor). z .text + length (x .value)) k;
+                few = omega (arith, s .few, ap (λ (z : Cursor). z .at) k);
+                room = s .room ∙ ap (λ (z : Cursor). sets T (z .text) (x .value)) k;
+              };
+        }

@@ -1,6 +1,7 @@
 -- What a function that reads a text promises of the reader that it runs: where the cursor stands afterwards, and what the text room holds.
 use mathlib.Core.Path.{_≡_}
 use mathlib.Core.List.{List, [], _++_}
+use mathlib.Core.Bool.{true, false}
 use Prim.Native.Nat.{ℕ, zero, suc, _+_, _-_, _*_, _≤_, _<_}
 use lib.ListN.{length, drop}
 use lib.Seq.{sets, slice}
@@ -14,6 +15,8 @@ use Rattle.language.specs.Strings.{hexval, hexNumber, lettered, standsFor}
 use Rattle.rooms.specs.declared.Cursor.{Cursor}
 use Rattle.rooms.specs.declared.Ans.{Ans}
 use Rattle.rooms.specs.declared.Ans.the-variants.{Ok, No}
+use Rattle.strings.specs.declared.digits.Digit.{Digit}
+use Rattle.strings.specs.declared.digits.Digit.the-variants.{Of, None}
 use Rattle.strings.specs.declared.escapes.Coded.{Coded}
 use Rattle.strings.specs.declared.escapes.Coded.the-variants.{Named, Unnamed}
 use Rattle.strings.specs.Code.{Num, empty, num, grow, named, begins, codeR}
@@ -46,6 +49,17 @@ digitOf c b = pick (is c b) (hexval b) 16
 pub record DigitAt (c : Class) (doc : List ℕ) (at r : ℕ) : Type 0 where
   pub is : r ≡ digitOf c (peek doc at)
   pub most : r ≤ 16
+
+-- the digit d of the class stands at a place, and n behind it; or none does
+pub record Digited (c : Class) (doc : List ℕ) (at d n : ℕ) : Type 0 where
+  pub digit : is c (peek doc at) ≡ true
+  pub value : d ≡ hexval (peek doc at)
+  pub small : d < 16
+  pub next : n ≡ at + 1
+
+unfoldable pub DigitRead : Class → List ℕ → ℕ → Digit → Type 0
+DigitRead c doc at (Of d n) = Digited c doc at d (n .at)
+DigitRead c doc at None = is c (peek doc at) ≡ false
 
 -- what a letter behind a backslash stands for, 256 for nothing
 unfoldable pub lettering : ℕ → ℕ
@@ -86,9 +100,10 @@ pub record Naming (doc : List ℕ) (at v e : ℕ) : Type 0 where
   pub top : v < 0x110000
   pub ahead : at < e
   pub inside : e ≤ length doc
+  pub few : at + length (utf8 v) ≤ e
 
 unfoldable pub CodeAt : List ℕ → ℕ → Coded → Type 0
-CodeAt doc at (Named v e) = Naming doc at v e
+CodeAt doc at (Named v e) = Naming doc at v (e .at)
 CodeAt doc at (Unnamed p) = codeR at (drop at doc) ≡ bad p
 
 -- the bytes of a scalar value v stand in the room from x to r, as far as it reaches

@@ -12,6 +12,7 @@ use Rattle.rooms.specs.declared.Ans.{Ans}
 use Rattle.rooms.specs.declared.Ans.the-variants.{Ok, No}
 use Rattle.rooms.specs.declared.Far.{Far}
 use Rattle.rooms.specs.declared.Far.the-variants.{Upto, Not}
+use Rattle.rooms.specs.Contract.{onward}
 use Rattle.strings.specs.declared.hex.Next.{Next}
 use Rattle.strings.specs.declared.hex.Next.the-variants.{Begins, Stops}
 use Rattle.strings.specs.Bytes.{pairR, furtherR, pairsR, pairsOn}
@@ -21,21 +22,23 @@ use Rattle.strings.specs.Contract.{Texted}
 abbrev pub pairTextR : Reader (List ℕ)
 pairTextR at s = fmap (_∷ []) (pairR at s)
 
--- behind a pair that ends at `at` a further one begins at p
-pub record Further (doc : List ℕ) (at p : ℕ) : Type 0 where
-  pub on : pairsOn (drop at doc) ≡ true
-  pub is : furtherR at (drop at doc) ≡ pairR p (drop p doc)
-  pub from : at ≤ p
-  pub inside : p < length doc
+-- behind a pair that ends at c a further one begins at n
+pub record Further (doc : List ℕ) (c n : Cursor) : Type 0 where
+  pub on : pairsOn (drop (c .at) doc) ≡ true
+  pub is : furtherR (c .at) (drop (c .at) doc) ≡ pairR (n .at) (drop (n .at) doc)
+  pub from : c .at ≤ n .at
+  pub inside : n .at < length doc
+  pub row : n .row ≡ c .row
+  pub text : n .text ≡ c .text
 
 -- or none does, and one would begin as far as `far`
 pub record Stopped (doc : List ℕ) (at far : ℕ) : Type 0 where
   pub off : pairsOn (drop at doc) ≡ false
   pub is : far ≡ at + lead 1 (drop at doc)
 
-unfoldable pub Furthers : List ℕ → ℕ → Next → Type 0
-Furthers doc at (Begins p) = Further doc at p
-Furthers doc at (Stops far) = Stopped doc at far
+unfoldable pub Furthers : List ℕ → Cursor → Next → Type 0
+Furthers doc c (Begins n) = Further doc c n
+Furthers doc c (Stops far) = Stopped doc (c .at) far
 
 -- the pairs from c to n, behind which no further one begins
 pub record Paired (doc : List ℕ) (c n : Cursor) (far : ℕ) (text text' : List ℕ) : Type 0 where
@@ -48,5 +51,5 @@ PairsAt doc c (Not p) text text' = pairsR (c .at) (drop (c .at) doc) ≡ bad p
 
 -- `>` stands at n, and the cursor behind it; or it does not
 unfoldable pub Closed : List ℕ → Cursor → ℕ → Ans → Type 0
-Closed doc n far (Ok m) = (m ≡ record { at = n .at + 1; row = n .row; text = n .text }) × (62 ≡ peek doc (n .at))
+Closed doc n far (Ok m) = (m ≡ onward n 1) × (62 ≡ peek doc (n .at))
 Closed doc n far (No p) = (p ≡ far) × (peek doc (n .at) ≡ 62 → ⊥)

@@ -1,28 +1,26 @@
 -- Inside a string: what the functions that read one promise, over the quote that it stands in.
 use mathlib.Core.Path.{_≡_}
-use mathlib.Core.List.{List, [], _∷_, _++_}
+use mathlib.Core.List.{List, _++_}
 use mathlib.Core.Bool.{false}
 use Prim.Native.Nat.{ℕ, _+_, _-_, _*_, _≤_, _<_}
 use lib.ListN.{length, drop}
 use lib.Seq.{sets, slice}
 use lib.Dec.{eqb}
-use Rattle.exact.specs.Class.{pick, Class, is, _to_}
-use Rattle.exact.specs.Out.{Reader, fmap}
-use Rattle.exact.specs.Place.{peek, runEnd}
+use Rattle.exact.specs.Class.{pick, Class, is}
+use Rattle.exact.specs.Out.{Reader, ok, bad, fmap}
+use Rattle.exact.specs.Place.{peek}
+use Rattle.language.specs.Characters.{utf8}
 use Rattle.language.specs.Tree.{width, rowList}
+use Rattle.utf8.specs.Utf8.{charR}
+use Rattle.characters.specs.declared.Read.{Read}
+use Rattle.characters.specs.declared.Read.the-variants.{Scalar, Not}
+use Rattle.characters.specs.Plains.{plainOf}
 use Rattle.rooms.specs.declared.Cursor.{Cursor}
 use Rattle.rooms.specs.Contract.{ample, Ready}
 use Rattle.strings.specs.Quoted.{escapeR, singleEscapeR, pieceR, betweenR}
 use Rattle.strings.specs.Rest.{restR}
 
--- the two quotes, their plain bytes and their escapes
-pub data Quote : ℕ → Type 0 where
-  double : Quote 34
-  single : Quote 39
-
-abbrev pub plainOf : ℕ → Class
-plainOf q = (32 to (q - 1)) ∷ ((q + 1) to 91) ∷ (93 to 126) ∷ []
-
+-- the escapes of either quote
 abbrev pub escapesR : ℕ → Reader (List ℕ)
 escapesR q = pick (eqb q 34) escapeR singleEscapeR
 
@@ -36,22 +34,16 @@ leftR q = restR q (escapesR q) (plainOf q)
 abbrev pub specialR : ℕ → Reader (List ℕ)
 specialR q = pieceR (escapesR q) (plainOf q)
 
--- the bytes of a class from `at` on end at e
-pub record RunTo (c : Class) (doc : List ℕ) (at e : ℕ) : Type 0 where
-  pub is : e ≡ runEnd c doc at
-  pub from : at ≤ e
-  pub inside : e ≤ length doc
+-- a character v of the class stands from `at` up to n; or none does, and p is the place of the first byte that none has there
+pub record Char (c : Class) (doc : List ℕ) (at v n : ℕ) : Type 0 where
+  pub is : charR c at (drop at doc) ≡ ok (utf8 v) n (drop n doc)
+  pub bytes : slice at n doc ≡ utf8 v
+  pub ahead : at < n
+  pub inside : n ≤ length doc
 
--- they go on up to e at least
-pub record Passing (c : Class) (doc : List ℕ) (at e : ℕ) : Type 0 where
-  pub same : runEnd c doc at ≡ runEnd c doc e
-  pub from : at ≤ e
-  pub inside : e ≤ length doc
-
--- .. and end there, if those are fewer than 8
-pub record Near (c : Class) (doc : List ℕ) (at e : ℕ) : Type 0 where
-  pub passing : Passing c doc at e
-  pub ending : e - at < 8 → RunTo c doc at e
+unfoldable pub CharAt : Class → List ℕ → ℕ → Read → Type 0
+CharAt c doc at (Scalar v n) = Char c doc at v (n .at)
+CharAt c doc at (Not p) = charR c at (drop at doc) ≡ bad p
 
 -- what is left of a string from `at` on is the bytes up to e, and what is left from e on
 pub record CleanUpto (q : ℕ) (doc : List ℕ) (at e : ℕ) : Type 0 where

@@ -18,17 +18,30 @@ use Rattle.utf8.specs.Char.{charR, charS, char-ll}
 use Rattle.strings.specs.Code.{codeR, code-ll}
 use Rattle.strings.specs.Spans.{solid, spannedR, spanned-ll}
 
--- ESCAPES
+-- ESCAPES: a backslash, and what stands behind it: a letter, or `u{..}`, read as `u{`, the digits and `}`
+abbrev pub letterR : Reader (List ℕ)
+letterR = seqR (byteR (is lettered)) λ b. retR (standsFor b ∷ [])
+
+abbrev pub bracedR : Reader (List ℕ)
+bracedR = seqR codeR λ ds. seqR (byteR (is (only 125))) λ _. retR (utf8 (hexNumber 0 ds))
+
+abbrev pub codedR : Reader (List ℕ)
+codedR = seqR (wordR (117 ∷ 123 ∷ [])) λ _. bracedR
+
+abbrev pub behindR : Reader (List ℕ)
+behindR = altR (is lettered) letterR codedR
+
 unfoldable pub escapeR : Reader (List ℕ)
-escapeR =
-    seqR (byteR (is (only 92))) λ _.
-    altR
-    (is lettered)
-    (seqR (byteR (is lettered)) λ b. retR (standsFor b ∷ []))
-    (seqR (wordR (117 ∷ 123 ∷ [])) λ _. seqR codeR λ ds. seqR (byteR (is (only 125))) λ _. retR (utf8 (hexNumber 0 ds)))
+escapeR = seqR (byteR (is (only 92))) λ _. behindR
+
+abbrev pub singled : Class
+singled = (39 to 39) ∷ (92 to 92) ∷ []
+
+abbrev pub itselfR : Reader (List ℕ)
+itselfR = seqR (byteR (is singled)) λ b. retR (b ∷ [])
 
 unfoldable pub singleEscapeR : Reader (List ℕ)
-singleEscapeR = seqR (byteR (is (only 92))) λ _. seqR (byteR (is ((39 to 39) ∷ (92 to 92) ∷ []))) λ b. retR (b ∷ [])
+singleEscapeR = seqR (byteR (is (only 92))) λ _. itselfR
 
 abbrev pub escapeS : Shape
 escapeS = solid (only 92) []
@@ -50,7 +63,7 @@ escape-ll =
 
 pub singleEscape-ll : Ll escapeS SingleEscape singleEscapeR
 unfolding singleEscapeR
-singleEscape-ll = relax escapeS refl refl refl (seq-ll refl (byte₁ 92) λ _. seq-ll refl (byte-ll ((39 to 39) ∷ (92 to 92) ∷ []) 39 refl) λ b. ret-ll (b ∷ []))
+singleEscape-ll = relax escapeS refl refl refl (seq-ll refl (byte₁ 92) λ _. seq-ll refl (byte-ll singled 39 refl) λ b. ret-ll (b ∷ []))
 
 -- BETWEEN QUOTES
 abbrev pub pieceR : Reader (List ℕ) → Class → Reader (List ℕ)

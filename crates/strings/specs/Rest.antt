@@ -17,7 +17,7 @@ use Rattle.exact.specs.Comb.{seqR, manyR, alt-tame}
 use Rattle.exact.specs.Place.{peek, There, byte-there, none-there, there, run, runEnd, many-run, run-end, peek-cons}
 use Rattle.language.specs.Characters.{ascii}
 use Rattle.utf8.specs.Char.{charS, char-ll}
-use Rattle.strings.specs.Quoted.{pieceR, pieceS, betweenR}
+use Rattle.strings.specs.Quoted.{pieceR, pieceS}
 use Rattle.strings.specs.Turns.{many-turn}
 use Rattle.strings.specs.Plain.{char-first, char-plain, char-none}
 
@@ -119,9 +119,3 @@ module _ (quote : ℕ) (r : Reader (List ℕ)) (others : Class) (tame : Tame 1 r
   rest-close h l doc at e =
       let p : drop at doc ≡ quote ∷ drop (suc at) doc = peek-cons doc at quote e l in
       rw (p, apart-no (only quote) (pieceS others .first) quote h (only-is quote), only-is quote, add-one) refl
-
-  pub between-rest : quote < 256 → (doc : List ℕ) (at : ℕ) → quote ≡ peek doc at → betweenR quote r others at (drop at doc) ≡ restR quote r others (at + 1) (drop (at + 1) doc)
-  unfolding betweenR restR
-  between-rest l doc at e =
-      let p : drop at doc ≡ quote ∷ drop (suc at) doc = peek-cons doc at quote e l in
-      rw (p, only-is quote, add-one) refl

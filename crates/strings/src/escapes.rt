@@ -1,58 +1,24 @@
 // The escapes of quoted strings: what may stand behind a backslash, and the bytes that it stands for.
 ghost use mathlib.Core.Path.{_≡_};
-ghost use Prim.Native.Nat.{ℕ, _+_, _%_, _≤_, _<_};
+ghost use Prim.Native.Nat.{_+_, _%_, _≤_, _<_};
 ghost use lib.ListN.{length, drop, set};
-ghost use Rattle.exact.specs.Place.{peek};
-ghost use Rattle.language.specs.Strings.{hexdigit, scalar};
+ghost use Rattle.language.specs.Strings.{scalar};
 ghost use Rattle.rooms.specs.Contract.{ample, Ready};
-ghost use Rattle.strings.specs.Contract.{digitOf, DigitAt, lettering, Letter, Digits, Halts, CodeAt, Stored, Texts};
-ghost use Rattle.strings.specs.Quoted.{escapeR, singleEscapeR};
+ghost use Rattle.strings.specs.Contract.{Letter, Digits, Halts, CodeAt, Stored, Texts};
+ghost use Rattle.strings.specs.Quoted.{bracedR, codedR, behindR, escapeR, itselfR, singleEscapeR};
+use super::digits::Digit;
+use super::digits::hex;
+use characters::Reading;
+use characters::Skip;
 use rooms::Ans;
 use rooms::Cursor;
+use rooms::Step;
 use rooms::put_byte;
-use rooms::same;
 
 // The digits of `\u{..}`: the scalar value that they name and the place behind them, or the place where they are refused.
 pub enum Coded {
-    Named(u32, usize),
+    Named(u32, Reading),
     Unnamed(usize),
-}
-
-// The value of a hex digit of either case, 16 for another byte.
-fn hex_digit(b: u32) -> u32
-    ensures { λ r. ⌜ r ≡ digitOf hexdigit b ⌝ }
-{
-    if b < 48 {
-        return 16;
-    }
-    if b <= 57 {
-        return b - 48;
-    }
-    if b < 65 {
-        return 16;
-    }
-    if b <= 70 {
-        return b - 55;
-    }
-    if b < 97 {
-        return 16;
-    }
-    if b <= 102 {
-        return b - 87;
-    }
-    16
-}
-
-// The value of the hex digit at `at`, 16 where none stands.
-fn hex_at(doc: &[u8], at: usize) -> u32
-    ensures { λ r. ⌜ DigitAt hexdigit (now (doc .entry)) at r ⌝ }
-{
-    let c = Cursor {
-        at,
-        row: 0,
-        text: 0,
-    };
-    hex_digit(c.look(&*doc))
 }
 
 // Neither a surrogate nor past the last scalar value.
@@ -69,50 +35,53 @@ fn is_scalar(v: u32) -> bool
 }
 
 // Digits from `at` to e make v, and no further one is read: they name a scalar value or are refused behind the last.
-fn ended(doc: &[u8], at: usize, v: u32, e: usize) -> Coded
-    requires { ⌜ Digits (now doc) at e v × Halts (now doc) at e v ⌝ }
-    ensures { λ r. ⌜ CodeAt (now (doc .entry)) at r ⌝ }
+fn ended(doc: &[u8], at: Reading, v: u32, e: Reading) -> Coded
+    requires { ⌜ Digits (now doc) (at .at) (e .at) v × Halts (now doc) (at .at) (e .at) v ⌝ }
+    ensures { λ r. ⌜ CodeAt (now (doc .entry)) (at .at) r ⌝ }
 {
-    if e == at {
-        return Coded::Unnamed(e);
+    if e.at == at.at {
+        return Coded::Unnamed(e.at);
     }
     if is_scalar(v) {
         return Coded::Named(v, e);
     }
-    Coded::Unnamed(e)
+    Coded::Unnamed(e.at)
 }
 
 // Five digits that end at e make v. A sixth is read only where a scalar value results.
-fn sixth(doc: &[u8], at: usize, v: u32, e: usize) -> Coded
-    requires { ⌜ length (now doc) < ample ⌝ }
-    requires { ⌜ Digits (now doc) at e v × (e ≡ at + 5) ⌝ }
-    ensures { λ r. ⌜ CodeAt (now (doc .entry)) at r ⌝ }
+fn sixth(doc: &[u8], at: Reading, v: u32, e: Reading) -> Coded
+    requires { ⌜ Digits (now doc) (at .at) (e .at) v × (e .at ≡ at .at + 5) ⌝ }
+    ensures { λ r. ⌜ CodeAt (now (doc .entry)) (at .at) r ⌝ }
 {
-    let d = hex_at(&*doc, e);
-    if d == 16 {
-        return ended(&*doc, at, v, e);
+    match hex(&*doc, e) {
+        Digit::None => ended(&*doc, at, v, e),
+        Digit::Of(d, m) => {
+            let w = 16 * v + d;
+            if is_scalar(w) {
+                return Coded::Named(w, m);
+            }
+            ended(&*doc, at, v, e)
+        }
     }
-    let w = 16 * v + d;
-    if is_scalar(w) {
-        return Coded::Named(w, e + 1);
-    }
-    ended(&*doc, at, v, e)
 }
 
 // The digits of `\u{..}` that stand at `at`.
-fn code(doc: &[u8], at: usize) -> Coded
-    requires { ⌜ (length (now doc) < ample) × (at ≤ length (now doc)) ⌝ }
-    ensures { λ r. ⌜ CodeAt (now (doc .entry)) at r ⌝ }
+fn code(doc: &[u8], at: Reading) -> Coded
+    requires { ⌜ (length (now doc) < ample) × (at .at ≤ length (now doc)) ⌝ }
+    ensures { λ r. ⌜ CodeAt (now (doc .entry)) (at .at) r ⌝ }
 {
     let mut v: u32 = 0;
     let mut e = at;
-    while e < at + 5 {
-        let d = hex_at(&*doc, e);
-        if d == 16 {
-            return ended(&*doc, at, v, e);
+    while e.at < at.at + 5 {
+        match hex(&*doc, e) {
+            Digit::None => {
+                return ended(&*doc, at, v, e);
+            }
+            Digit::Of(d, m) => {
+                v = 16 * v + d;
+                e = m;
+            }
         }
-        v = 16 * v + d;
-        e += 1;
     }
     sixth(&*doc, at, v, e)
 }
@@ -190,88 +159,102 @@ fn stands_for(b: u32) -> u32
     256
 }
 
-// `\u{..}`, whose backslash stands at the cursor, with no letter behind it that stands for a byte.
+// The digits of `\u{..}` and the brace behind them.
+fn braced(doc: &[u8], text: &mut [u8], c: Cursor) -> Ans
+    requires { ⌜ Ready (now doc) c ⌝ }
+    ensures { λ r. ⌜ Texts (now (doc .entry)) c (bracedR (c .at) (drop (c .at) (now (doc .entry)))) r (now (text .entry)) (now (text .exit)) ⌝ }
+{
+    match code(&*doc, Reading { at: c.at }) {
+        Coded::Unnamed(p) => Ans::No(p),
+        Coded::Named(v, e) => match e.take(&*doc, 125) {
+            Skip::Bad(p) => Ans::No(p),
+            Skip::End(at) => {
+                let x = put_scalar(text, c.text, v);
+                Ans::Ok(Cursor {
+                    at,
+                    row: c.row,
+                    text: x,
+                })
+            }
+        },
+    }
+}
+
+// `u{..}` behind a backslash.
 fn scalar_escape(doc: &[u8], text: &mut [u8], c: Cursor) -> Ans
     requires { ⌜ Ready (now doc) c ⌝ }
-    requires { ⌜ (92 ≡ peek (now doc) (c .at)) × (lettering (peek (now doc) (c .at + 1)) ≡ 256) ⌝ }
-    ensures { λ r. ⌜ Texts (now (doc .entry)) c (escapeR (c .at) (drop (c .at) (now (doc .entry)))) r (now (text .entry)) (now (text .exit)) ⌝ }
+    ensures { λ r. ⌜ Texts (now (doc .entry)) c (codedR (c .at) (drop (c .at) (now (doc .entry)))) r (now (text .entry)) (now (text .exit)) ⌝ }
 {
-    let at = c.at;
-    let n = same(&*doc, at + 1, b"u{");
-    if n < 2 {
-        return Ans::No(at + 1 + n);
+    match c.take(&*doc, 117) {
+        Ans::No(p) => Ans::No(p),
+        Ans::Ok(u) => match u.take(&*doc, 123) {
+            Ans::No(p) => Ans::No(p),
+            Ans::Ok(n) => braced(&*doc, text, n),
+        },
     }
-    match code(&*doc, at + 3) {
-        Coded::Unnamed(p) => Ans::No(p),
-        Coded::Named(v, e) => {
-            let close = Cursor {
-                at: e,
-                row: c.row,
-                text: c.text,
-            };
-            if close.look(&*doc) != 125 {
-                return Ans::No(e);
+}
+
+// What stands behind a backslash in double quotes: a letter that stands for a byte, or `u{..}`.
+fn behind(doc: &[u8], text: &mut [u8], c: Cursor) -> Ans
+    requires { ⌜ Ready (now doc) c ⌝ }
+    ensures { λ r. ⌜ Texts (now (doc .entry)) c (behindR (c .at) (drop (c .at) (now (doc .entry)))) r (now (text .entry)) (now (text .exit)) ⌝ }
+{
+    match c.step(&*doc) {
+        Step::Over => Ans::No(c.at),
+        Step::Byte(b, n) => {
+            let v = stands_for(b as u32);
+            if v == 256 {
+                return scalar_escape(&*doc, text, c);
             }
-            let x = put_scalar(text, c.text, v);
+            put_byte(text, c.text, v as u8);
             Ans::Ok(Cursor {
-                at: e + 1,
+                at: n.at,
                 row: c.row,
-                text: x,
+                text: c.text + 1,
             })
         }
     }
 }
 
-// An escape in double quotes, whose backslash stands at the cursor.
+// An escape in double quotes.
 pub fn escape(doc: &[u8], text: &mut [u8], c: Cursor) -> Ans
     requires { ⌜ Ready (now doc) c ⌝ }
-    requires { ⌜ 92 ≡ peek (now doc) (c .at) ⌝ }
     ensures { λ r. ⌜ Texts (now (doc .entry)) c (escapeR (c .at) (drop (c .at) (now (doc .entry)))) r (now (text .entry)) (now (text .exit)) ⌝ }
 {
-    let letter = Cursor {
-        at: c.at + 1,
-        row: c.row,
-        text: c.text,
-    };
-    let b = stands_for(letter.look(&*doc));
-    if b == 256 {
-        return scalar_escape(&*doc, text, c);
+    match c.take(&*doc, 92) {
+        Ans::No(p) => Ans::No(p),
+        Ans::Ok(n) => behind(&*doc, text, n),
     }
-    put_byte(text, c.text, b as u8);
-    Ans::Ok(Cursor {
-        at: c.at + 2,
-        row: c.row,
-        text: c.text + 1,
-    })
 }
 
-// An escape in single quotes, whose backslash stands at the cursor.
+// What stands behind a backslash in single quotes, for itself: a single quote, or a backslash.
+fn itself(doc: &[u8], text: &mut [u8], c: Cursor) -> Ans
+    requires { ⌜ Ready (now doc) c ⌝ }
+    ensures { λ r. ⌜ Texts (now (doc .entry)) c (itselfR (c .at) (drop (c .at) (now (doc .entry)))) r (now (text .entry)) (now (text .exit)) ⌝ }
+{
+    match c.step(&*doc) {
+        Step::Over => Ans::No(c.at),
+        Step::Byte(b, n) => match b {
+            39 | 92 => {
+                put_byte(text, c.text, b);
+                Ans::Ok(Cursor {
+                    at: n.at,
+                    row: c.row,
+                    text: c.text + 1,
+                })
+            }
+            _ => Ans::No(c.at),
+        },
+    }
+}
+
+// An escape in single quotes.
 pub fn single_escape(doc: &[u8], text: &mut [u8], c: Cursor) -> Ans
     requires { ⌜ Ready (now doc) c ⌝ }
-    requires { ⌜ 92 ≡ peek (now doc) (c .at) ⌝ }
     ensures { λ r. ⌜ Texts (now (doc .entry)) c (singleEscapeR (c .at) (drop (c .at) (now (doc .entry)))) r (now (text .entry)) (now (text .exit)) ⌝ }
 {
-    let letter = Cursor {
-        at: c.at + 1,
-        row: c.row,
-        text: c.text,
-    };
-    let b = letter.look(&*doc);
-    if b == 39 {
-        put_byte(text, c.text, 39);
-        return Ans::Ok(Cursor {
-            at: c.at + 2,
-            row: c.row,
-            text: c.text + 1,
-        });
+    match c.take(&*doc, 92) {
+        Ans::No(p) => Ans::No(p),
+        Ans::Ok(n) => itself(&*doc, text, n),
     }
-    if b == 92 {
-        put_byte(text, c.text, 92);
-        return Ans::Ok(Cursor {
-            at: c.at + 2,
-            row: c.row,
-            text: c.text + 1,
-        });
-    }
-    Ans::No(c.at + 1)
 }

@@ -1,16 +1,15 @@
 // Quoted strings, keys and inline bytes: each reads at the cursor, writes its row and its decoded text into the rooms lent as far as those reach, and answers
 // the cursor behind it or the place where it is refused.
+mod clean;
+mod digits;
 mod escapes;
 mod hex;
 mod keys;
-mod plain;
 mod quotes;
 
 pub use hex::inline_bytes;
 pub use hex::pairs;
-pub use keys::is_key;
 pub use keys::key;
-pub use keys::key_end;
 pub use quotes::put_leaf;
 pub use quotes::quoted;
 pub use quotes::string;

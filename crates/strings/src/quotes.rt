@@ -1,15 +1,15 @@
 // Quoted strings: plain bytes and characters of several bytes are passed over and copied in runs, escapes are decoded one at a time.
 ghost use mathlib.Core.Path.{_≡_};
-ghost use Prim.Native.Nat.{ℕ, _+_, _≤_, _<_};
-ghost use lib.ListN.{length, drop};
+ghost use lib.ListN.{drop};
 ghost use Rattle.exact.specs.Place.{peek};
+ghost use Rattle.characters.specs.Plains.{Quote};
 ghost use Rattle.rooms.specs.Contract.{Ready, Answers};
 ghost use Rattle.strings.specs.Contract.{Texts};
-ghost use Rattle.strings.specs.Inside.{Quote, textR, specialR, CleanTo, Copied, Special, Close, Leafed};
+ghost use Rattle.strings.specs.Inside.{textR, leftR, specialR, CleanTo, Copied, Special, Close, Leafed};
 ghost use Rattle.strings.specs.Quoted.{quotedR, stringR};
+use super::clean::clean_end;
 use super::escapes::escape;
 use super::escapes::single_escape;
-use super::plain::clean_end;
 use characters::Read;
 use characters::Reading;
 use language::Kind;
@@ -25,7 +25,8 @@ fn clean(doc: &[u8], text: &mut [u8], c: Cursor, quote: u8) -> Cursor
     ensures { λ r. ⌜ Copied (CleanTo quote) (now (doc .entry)) c r (now (text .entry)) (now (text .exit)) ⌝ }
 {
     let at = c.at;
-    let e = clean_end(&*doc, at, quote);
+    let n = clean_end(&*doc, Reading { at }, quote);
+    let e = n.at;
     copy(&*doc, at, e, text, c.text);
     Cursor {
         at: e,
@@ -74,35 +75,38 @@ fn special(doc: &[u8], text: &mut [u8], c: Cursor, quote: u8) -> Ans
     single_escape(&*doc, text, c)
 }
 
-// A string between two of these quotes, the first of which stands at the cursor.
-fn between(doc: &[u8], text: &mut [u8], c: Cursor, quote: u8) -> Ans
+// What is left of a string behind its first quote.
+fn left(doc: &[u8], text: &mut [u8], c: Cursor, quote: u8) -> Ans
     requires { ⌜ Ready (now doc) c × Quote quote ⌝ }
-    requires { ⌜ quote ≡ peek (now doc) (c .at) ⌝ }
-    ensures { λ r. ⌜ Texts (now (doc .entry)) c (textR quote (c .at) (drop (c .at) (now (doc .entry)))) r (now (text .entry)) (now (text .exit)) ⌝ }
+    ensures { λ r. ⌜ Texts (now (doc .entry)) c (leftR quote (c .at) (drop (c .at) (now (doc .entry)))) r (now (text .entry)) (now (text .exit)) ⌝ }
 {
-    let mut n = Cursor {
-        at: c.at + 1,
-        row: c.row,
-        text: c.text,
-    };
+    let mut n = c;
     loop {
         let e = clean(&*doc, text, n, quote);
-        if e.look(&*doc) == quote as u32 {
-            return Ans::Ok(Cursor {
-                at: e.at + 1,
-                row: e.row,
-                text: e.text,
-            });
-        }
-        let got = special(&*doc, text, e, quote);
-        match got {
-            Ans::No(p) => {
-                return Ans::No(p);
-            }
+        match e.take(&*doc, quote) {
             Ans::Ok(m) => {
-                n = m;
+                return Ans::Ok(m);
             }
+            Ans::No(_) => match special(&*doc, text, e, quote) {
+                Ans::No(p) => {
+                    return Ans::No(p);
+                }
+                Ans::Ok(m) => {
+                    n = m;
+                }
+            },
         }
+    }
+}
+
+// A string between two of these quotes.
+fn between(doc: &[u8], text: &mut [u8], c: Cursor, quote: u8) -> Ans
+    requires { ⌜ Ready (now doc) c × Quote quote ⌝ }
+    ensures { λ r. ⌜ Texts (now (doc .entry)) c (textR quote (c .at) (drop (c .at) (now (doc .entry)))) r (now (text .entry)) (now (text .exit)) ⌝ }
+{
+    match c.take(&*doc, quote) {
+        Ans::No(p) => Ans::No(p),
+        Ans::Ok(n) => left(&*doc, text, n, quote),
     }
 }
 
@@ -111,14 +115,10 @@ pub fn quoted(doc: &[u8], text: &mut [u8], c: Cursor) -> Ans
     requires { ⌜ Ready (now doc) c ⌝ }
     ensures { λ r. ⌜ Texts (now (doc .entry)) c (quotedR (c .at) (drop (c .at) (now (doc .entry)))) r (now (text .entry)) (now (text .exit)) ⌝ }
 {
-    let b = c.look(&*doc);
-    if b == 34 {
+    if c.look(&*doc) == 34 {
         return between(&*doc, text, c, 34);
     }
-    if b == 39 {
-        return between(&*doc, text, c, 39);
-    }
-    Ans::No(c.at)
+    between(&*doc, text, c, 39)
 }
 
 // The row of a text that was read from the cursor c up to n.

@@ -6,12 +6,10 @@ use native.Mathlib.Omega.{arith}
 use lib.ListN.{length, drop}
 use lib.IntN.{ℤ, pos, negℤ}
 use lib.Signed.{ltZ}
-use Rattle.language.specs.declared.Answer.{Answer}
-use Rattle.language.specs.declared.Answer.the-variants.{Accepted}
 use Rattle.language.specs.Kind.{INTEGER, ARRAY, OBJECT, KEY}
 use Rattle.language.specs.Tree.{Tree, leaf, node, none, more, width, size, sizes, textOf, textsOf, rowsOf, rowss, Repeats, inside, again, has-here, has-later}
 use Rattle.language.specs.Document.{Document}
-use Rattle.language.specs.Answered.{limit, deepest, SYNTAX, END, REPEAT, refusal, Stops, Answered, accepted, stopped, repeated}
+use Rattle.language.specs.Answered.{limit, deepest, SYNTAX, END, REPEAT, Stops, Answered, accepted, stopped, repeated}
 use Rattle.utf8.specs.Told.{Answer as Judgement, given, refused-syntax, refused-end}
 use Rattle.language.specs.Scalars.{plain, minus}
 use Rattle.language.specs.Strings.{hexNumber}
@@ -54,10 +52,10 @@ pub data Border : Type 0 where
 
 -- what it says, whatever rooms are lent: a refusal leaves them as they came, and what is given stands in rooms that are large enough
 abbrev pub Says : Border → Type 0
-Says (refuses doc n p) = (table text : List ℕ) → Answered doc table text (refusal n p) table text
+Says (refuses doc n p) = (table text : List ℕ) → Answered doc table text n p 0 table text
 Says (gives doc n rows bytes) =
     (table text : List ℕ) → width * n ≤ length table → length bytes ≤ length text
-    → Answered doc table text (Accepted n (length bytes)) (rows ++ drop (width * n) table) (bytes ++ drop (length bytes) text)
+    → Answered doc table text 0 n (length bytes) (rows ++ drop (width * n) table) (bytes ++ drop (length bytes) text)
 Says (compares left right v) = compared left right ≡ record { number = 0; value = v }
 
 abbrev pub All : List Border → Type 0

@@ -7,8 +7,8 @@ use lib.ListN.{length, drop, getD}
 use Rattle.language.specs.declared.Answer.{Answer}
 use Rattle.language.specs.declared.Answer.the-variants.{Accepted}
 use Rattle.language.specs.Kind.{INTEGER}
-use Rattle.language.specs.Tree.{Tree, leaf, size, textOf, rowsOf}
-use Rattle.language.specs.Answered.{CHAR, SYNTAX, END, ROWS, refusal, number, value, Reads, Answered, accepted, rows}
+use Rattle.language.specs.Tree.{Tree, leaf, width, size, textOf, rowsOf}
+use Rattle.language.specs.Answered.{CHAR, SYNTAX, END, ROWS, number, value, second, Reads, Answered, accepted, rows}
 use Rattle.utf8.specs.Told.{given, refused-syntax, refused-end}
 use Rattle.repeats.specs.Flat.{flat, Twice}
 use Rattle.repeats.specs.Repeating.{repeats-twice}
@@ -25,7 +25,7 @@ abbrev pub Reader : Type 0
 Reader = List ℕ → List ℕ → List ℕ → After
 
 abbrev pub Meets : Reader → Type 0
-Meets r = (doc table text : List ℕ) → Answered doc table text (r doc table text .answer) (r doc table text .table) (r doc table text .text)
+Meets r = (doc table text : List ℕ) → let a = r doc table text in Answered doc table text (number (a .answer)) (value (a .answer)) (second (a .answer)) (a .table) (a .text)
 
 -- ---- the witnesses: `1⏎` in rooms that are just large enough, and in none; `1`; `[1,2]⏎`
 
@@ -45,54 +45,57 @@ reads-one = record { short = omega arith; word = has-tree _ tree₁ refl; once =
     never : (p : ℕ) → Twice p (flat 0 0 tree₁) → ⊥
     never p x = elim x [ ]
 
-one-given : Answered one seven (0 ∷ []) (Accepted 1 1) (4 ∷ 0 ∷ 1 ∷ 0 ∷ 1 ∷ 0 ∷ 1 ∷ []) (49 ∷ [])
+one-given : Answered one seven (0 ∷ []) 0 1 1 (4 ∷ 0 ∷ 1 ∷ 0 ∷ 1 ∷ 0 ∷ 1 ∷ []) (49 ∷ [])
 unfolding tree₁ seven size textOf rowsOf
 one-given = accepted tree₁ reads-one (omega arith) (omega arith)
 
-one-needs : Answered one [] [] (refusal ROWS 1) [] []
+one-needs : Answered one [] [] ROWS 1 0 [] []
 unfolding tree₁ size
 one-needs = rows tree₁ reads-one (omega arith)
 
-cut : Answered (49 ∷ []) [] [] (refusal END 1) [] []
+cut : (table text : List ℕ) → Answered (49 ∷ []) table text END 1 0 table text
 unfolding reading
-cut = at-end _ 1 (omega arith) refl [] []
+cut = at-end _ 1 (omega arith) refl
 
 comma : List ℕ
 comma = 91 ∷ 49 ∷ 44 ∷ 50 ∷ 93 ∷ 10 ∷ []
 
-tight : Answered comma [] [] (refusal SYNTAX 3) [] []
+tight : Answered comma [] [] SYNTAX 3 0 [] []
 unfolding reading comma
 tight = at-syntax _ 3 (omega arith) refl [] []
 
 module _ (r : Reader) (m : Meets r) where
   -- whoever meets the promise answers so
-  must : (doc table text : List ℕ) (a : Answer) (table′ text′ : List ℕ) → Answered doc table text a table′ text′
-      → (r doc table text .answer ≡ a) × (r doc table text .table ≡ table′) × (r doc table text .text ≡ text′)
-  must doc table text a table′ text′ x =
-      one-answer doc table text (r doc table text .answer) a (r doc table text .table) (r doc table text .text) table′ text′ (m doc table text) x
+  must : {doc table text : List ℕ} {n v s : ℕ} {table′ text′ : List ℕ} → Answered doc table text n v s table′ text′
+      → (number (r doc table text .answer) ≡ n) × (value (r doc table text .answer) ≡ v) × (r doc table text .table ≡ table′)
+  must {doc} {table} {text} x =
+      let e = one-answer doc table text _ _ _ _ _ _ _ _ _ _ (m doc table text) x in
+      (e .0, e .1, e .3)
 
   -- "a reader that refuses everything"
   pub not-refuses-all : ((doc table text : List ℕ) → number (r doc table text .answer) ≡ 0 → ⊥) → ⊥
-  not-refuses-all w = w one seven (0 ∷ []) (ap number (must one seven (0 ∷ []) _ _ _ one-given .0))
+  not-refuses-all w = w one seven (0 ∷ []) (must one-given .0)
 
-  -- "one that always answers the tree of `1`"
-  pub not-always-one : ((doc table text : List ℕ) → r doc table text .answer ≡ Accepted 1 1) → ⊥
-  not-always-one w = let e = ap number (sym (w (49 ∷ []) [] []) ∙ must (49 ∷ []) [] [] _ _ _ cut .0) in omega arith
+  -- "one that always answers the tree of `1`", whatever it says where the rooms are too small for that: ROWS and TEXT too
+  pub not-always-one : ((doc table text : List ℕ) → width ≤ length table → 1 ≤ length text → r doc table text .answer ≡ Accepted (record { 0 = 1 }) 1) → ⊥
+  unfolding seven
+  not-always-one w = omega (arith, ap number (w (49 ∷ []) seven (0 ∷ []) (omega arith) (omega arith)), must (cut seven (0 ∷ [])) .0)
 
   -- "one that counts but writes no rows"
   pub not-rowless : ((doc table text : List ℕ) → r doc table text .table ≡ table) → ⊥
   unfolding seven
-  not-rowless w = let e = ap (λ (l : List ℕ). getD l 0 0) (sym (w one seven (0 ∷ [])) ∙ must one seven (0 ∷ []) _ _ _ one-given .1) in omega arith
+  not-rowless w = let e = ap (λ (l : List ℕ). getD l 0 0) (sym (w one seven (0 ∷ [])) ∙ must one-given .2) in omega arith
 
   -- "one that puts every refusal at 0"
-  pub not-at-zero : ((doc table text : List ℕ) (n p : ℕ) → r doc table text .answer ≡ refusal n p → p ≡ 0) → ⊥
-  not-at-zero w = let e = w (49 ∷ []) [] [] END 1 (must (49 ∷ []) [] [] _ _ _ cut .0) in omega arith
+  pub not-at-zero : ((doc table text : List ℕ) → CHAR ≤ number (r doc table text .answer) → number (r doc table text .answer) ≤ END → value (r doc table text .answer) ≡ 0) → ⊥
+  not-at-zero w = let e = must (cut [] []) in omega (arith, w (49 ∷ []) [] [] (omega arith) (omega arith))
 
   -- "one that puts it at the last byte"
-  pub not-at-last : ((doc table text : List ℕ) (n p : ℕ) → CHAR ≤ n → n ≤ END → r doc table text .answer ≡ refusal n p → p ≡ length doc - 1) → ⊥
+  pub not-at-last : ((doc table text : List ℕ) → CHAR ≤ number (r doc table text .answer) → number (r doc table text .answer) ≤ END
+      → value (r doc table text .answer) ≡ length doc - 1) → ⊥
   unfolding comma
-  not-at-last w = let e = w comma [] [] SYNTAX 3 (omega arith) (omega arith) (must comma [] [] _ _ _ tight .0) in omega arith
+  not-at-last w = let e = must tight in omega (arith, w comma [] [] (omega arith) (omega arith))
 
   -- "one that invents the rows needed": it says of `1⏎` that more or fewer than one row is needed
-  pub not-invents-rows : (p : ℕ) → (p ≡ 1 → ⊥) → r one [] [] .answer ≡ refusal ROWS p → ⊥
-  not-invents-rows p n e = n (ap value (sym e ∙ must one [] [] _ _ _ one-needs .0))
+  pub not-invents-rows : (value (r one [] [] .answer) ≡ 1 → ⊥) → number (r one [] [] .answer) ≡ ROWS → ⊥
+  not-invents-rows n e = n (must one-needs .1)

@@ -1,16 +1,16 @@
 // The C interface: each function answers a number of document 01, 0 for none, and puts its values where it is told.
-ghost use Rattle.yay.specs.Exports.{ReadInto, FoundAt, ComparedTo, TextAt};
+ghost use Rattle.exports.specs.Exports.{FoundAt, ComparedTo, TextAt};
+ghost use Rattle.language.specs.Answered.{Answered};
 ghost use mathlib.Core.Path.{_≡_};
 ghost use Prim.Native.Nat.{_+_, _*_, _<_};
 ghost use lib.ListN.{length, getD};
 ghost use Rattle.language.specs.Tree.{width};
 use integers::Compared;
-use language::Answer;
 use language::Row;
 use language::WIDTH;
 use questions::Found;
 
-// 0 with the counts of rows and text bytes; or the number of a refusal with its place and 0.
+// 0 with the counts of rows and text bytes; or the number of a refusal with its place, or what is needed, and 0.
 #[no_mangle]
 pub extern "C" fn yay_read(
     doc: &[u8],
@@ -19,20 +19,12 @@ pub extern "C" fn yay_read(
     first: &mut usize,
     second: &mut usize,
 ) -> u32
-    ensures { λ r. ⌜ ReadInto (now (doc .entry)) (now (table .entry)) (now (text .entry)) r (now (first .exit)) (now (second .exit)) (now (table .exit)) (now (text .exit)) ⌝ }
+    ensures { λ r. ⌜ Answered (now (doc .entry)) (now (table .entry)) (now (text .entry)) r (now (first .exit)) (now (second .exit)) (now (table .exit)) (now (text .exit)) ⌝ }
 {
-    match reader::read(&*doc, table, text) {
-        Answer::Accepted(rows, bytes) => {
-            *first = rows;
-            *second = bytes;
-            0
-        }
-        Answer::Refused(number, place) => {
-            *first = place.0;
-            *second = 0;
-            number
-        }
-    }
+    let answer = reader::read(&*doc, table, text);
+    *first = answer.value();
+    *second = answer.second();
+    answer.number()
 }
 
 // 0 with the row of the key's value; or 9 or 10 with 0.

@@ -122,6 +122,8 @@ fn main() -> ExitCode {
         return ExitCode::SUCCESS;
     }
     let mut bench = Bench::default();
+    println!("Measured by {}.", bench.clock.name());
+    println!();
     let mut bad = shapes(&mut bench);
     println!();
     bad += hostile(&mut bench);

@@ -3,9 +3,6 @@ use Rattle.inline.proofs.Containers.{containing}
 use Rattle.inline.proofs.enclose.Statement.{statement}
 use Rattle.inline.proofs.enclose.Tie as tie
 
-kind-of-requires : tie.Need-kind-of-requires
-kind-of-requires c κs = search containing
-
 row-of-requires : tie.Need-row-of-requires
 row-of-requires c κs = search containing
 
@@ -19,5 +16,4 @@ returns : tie.Need-returns
 returns c = search containing
 
 pub enclose-spec : {M : Type 1} → statement M
-enclose-spec =
-    tie.close (tie.spec kind-of-requires row-of-requires put-row-requires same-length returns)
+enclose-spec = tie.close (tie.spec row-of-requires put-row-requires same-length returns)

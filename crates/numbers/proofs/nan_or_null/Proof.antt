@@ -1,19 +1,28 @@
--- `nan_or_null` meets its contract. Assumes nothing.
+-- `nan_or_null` meets its contract: the second byte chooses the keyword.
 use Rattle.numbers.proofs.NumberLaws.{pair-laws}
 use Rattle.numbers.proofs.nan_or_null.Statement.{statement}
 use Rattle.numbers.proofs.nan_or_null.Tie as tie
 
-add-look : tie.Need-add-look
-add-look c = search pair-laws
+take-requires : tie.Need-take-requires
+take-requires c κs = search pair-laws
 
-look-requires : tie.Need-look-requires
-look-requires c κs = search pair-laws
+enum-known-e : tie.Need-enum-known-e
+enum-known-e c = search pair-laws
 
 slice-aggregate-float-word : tie.Need-slice-aggregate-float-word
 slice-aggregate-float-word c = search pair-laws
 
 float-word-requires : tie.Need-float-word-requires
 float-word-requires c κs = search pair-laws
+
+enum-known-p : tie.Need-enum-known-p
+enum-known-p c = search pair-laws
+
+slice-aggregate-keyword : tie.Need-slice-aggregate-keyword
+slice-aggregate-keyword c = search pair-laws
+
+keyword-requires : tie.Need-keyword-requires
+keyword-requires c κs = search pair-laws
 
 same-length : tie.Need-same-length
 same-length c = search pair-laws
@@ -23,12 +32,6 @@ same-length-2 c = search pair-laws
 
 returns : tie.Need-returns
 returns c = search pair-laws
-
-slice-aggregate-keyword : tie.Need-slice-aggregate-keyword
-slice-aggregate-keyword c = search pair-laws
-
-keyword-requires : tie.Need-keyword-requires
-keyword-requires c κs = search pair-laws
 
 same-length-3 : tie.Need-same-length-3
 same-length-3 c = search pair-laws
@@ -43,15 +46,16 @@ pub nan-or-null-spec : {M : Type 1} → statement M
 nan-or-null-spec =
     tie.close
     (tie.spec
-    add-look
-    look-requires
+    take-requires
+    enum-known-e
     slice-aggregate-float-word
     float-word-requires
+    enum-known-p
+    slice-aggregate-keyword
+    keyword-requires
     same-length
     same-length-2
     returns
-    slice-aggregate-keyword
-    keyword-requires
     same-length-3
     same-length-4
     returns-2)

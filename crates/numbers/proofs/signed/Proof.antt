@@ -1,47 +1,46 @@
--- `signed` meets its contract. Assumes nothing.
-use borrow.Author.Needs.{needs}
+-- `signed` meets its contract: the byte behind the sign chooses the reader.
 use Rattle.numbers.proofs.NumberLaws.{pair-laws}
 use Rattle.numbers.proofs.signed.Statement.{statement}
 use Rattle.numbers.proofs.signed.Tie as tie
 
-add-look : tie.Need-add-look
-add-look c = search needs
+take-requires : tie.Need-take-requires
+take-requires c κs = search pair-laws
 
-look-requires : tie.Need-look-requires
-look-requires c κs = search needs
+enum-known-e : tie.Need-enum-known-e
+enum-known-e c = search pair-laws
 
 slice-aggregate-float-word : tie.Need-slice-aggregate-float-word
-slice-aggregate-float-word c = search needs
+slice-aggregate-float-word c = search pair-laws
 
 float-word-requires : tie.Need-float-word-requires
-float-word-requires c κs = search needs
+float-word-requires c κs = search pair-laws
 
 anew-requires : tie.Need-anew-requires
-anew-requires c κs = search needs
+anew-requires c κs = search pair-laws
 
-same-length : tie.Need-same-length
-same-length c = search needs
-
-same-length-2 : tie.Need-same-length-2
-same-length-2 c = search needs
-
-returns : tie.Need-returns
-returns c = rw (c .anew .ensures) (search pair-laws)
-
-add-number : tie.Need-add-number
-add-number c = search needs
+enum-known-p : tie.Need-enum-known-p
+enum-known-p c = search pair-laws
 
 number-requires : tie.Need-number-requires
 number-requires c κs = search pair-laws
 
 anew-requires-2 : tie.Need-anew-requires-2
-anew-requires-2 c κs = search needs
+anew-requires-2 c κs = search pair-laws
+
+same-length : tie.Need-same-length
+same-length c = search pair-laws
+
+same-length-2 : tie.Need-same-length-2
+same-length-2 c = search pair-laws
+
+returns : tie.Need-returns
+returns c = rw (c .anew .ensures) (search pair-laws)
 
 same-length-3 : tie.Need-same-length-3
-same-length-3 c = search needs
+same-length-3 c = search pair-laws
 
 same-length-4 : tie.Need-same-length-4
-same-length-4 c = search needs
+same-length-4 c = search pair-laws
 
 returns-2 : tie.Need-returns-2
 returns-2 c = rw (c .anew2 .ensures) (search pair-laws)
@@ -50,17 +49,17 @@ pub signed-spec : {M : Type 1} → statement M
 signed-spec =
     tie.close
     (tie.spec
-    add-look
-    look-requires
+    take-requires
+    enum-known-e
     slice-aggregate-float-word
     float-word-requires
     anew-requires
+    enum-known-p
+    number-requires
+    anew-requires-2
     same-length
     same-length-2
     returns
-    add-number
-    number-requires
-    anew-requires-2
     same-length-3
     same-length-4
     returns-2)

@@ -1,12 +1,9 @@
+-- `word` reads a word of a row.
 use native.Mathlib.Omega.{arith}
-use mathlib.Core.Path.{refl}
 use borrow.Author.Needs.{needs}
-use Rattle.yay.specs.Exports.{read-into, found-at, found-missing, found-bad, text-inside, text-at, text-bad}
 use Prim.Native.Nat.{_+_, _*_}
 use Rattle.yay.proofs.word.Statement.{statement}
 use Rattle.yay.proofs.word.Tie as tie
-use Rattle.yay.proofs.word.Reads as reads
-use Rattle.yay.proofs.word.Lts as lts
 use Rattle.language.specs.Tree.{width}
 
 mul-result : tie.Need-mul-result

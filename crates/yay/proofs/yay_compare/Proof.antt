@@ -1,12 +1,8 @@
-use native.Mathlib.Omega.{arith}
-use mathlib.Core.Path.{refl}
+-- `yay_compare` answers as `compare` does, by its number and its order.
 use borrow.Author.Needs.{needs}
-use Rattle.yay.specs.Exports.{read-into, found-at, found-missing, found-bad, compared-less, compared-equal, compared-greater, compared-none}
+use Rattle.yay.proofs.Exporting.{compared-less, compared-equal, compared-greater, compared-none}
 use Rattle.yay.proofs.yay_compare.Statement.{statement}
 use Rattle.yay.proofs.yay_compare.Tie as tie
-use Rattle.yay.proofs.yay_compare.Reads as reads
-use Rattle.yay.proofs.yay_compare.Lts as lts
-use Rattle.integers.proofs.compare.Reads as compare-reads
 
 compare-requires : tie.Need-compare-requires
 compare-requires c κs = search needs

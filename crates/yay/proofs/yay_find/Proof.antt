@@ -1,12 +1,8 @@
-use native.Mathlib.Omega.{arith}
-use mathlib.Core.Path.{refl}
+-- `yay_find` answers as `find` does, by its number and its row.
 use borrow.Author.Needs.{needs}
-use Rattle.yay.specs.Exports.{read-into, found-at, found-missing, found-bad}
+use Rattle.yay.proofs.Exporting.{found-at, found-missing, found-bad}
 use Rattle.yay.proofs.yay_find.Statement.{statement}
 use Rattle.yay.proofs.yay_find.Tie as tie
-use Rattle.yay.proofs.yay_find.Reads as reads
-use Rattle.yay.proofs.yay_find.Lts as lts
-use Rattle.questions.proofs.find.Reads as find-reads
 
 find-requires : tie.Need-find-requires
 find-requires c κs = search needs

@@ -1,21 +1,20 @@
-use native.Mathlib.Omega.{arith}
-use mathlib.Core.Path.{refl}
+-- `yay_read` meets the promise of `read`, by the number and the values of its answer.
 use borrow.Author.Needs.{needs}
-use Rattle.yay.specs.Exports.{read-into, found-at, found-missing, found-bad}
+use Rattle.yay.proofs.Exporting.{read-as}
 use Rattle.yay.proofs.yay_read.Statement.{statement}
 use Rattle.yay.proofs.yay_read.Tie as tie
-use Rattle.yay.proofs.yay_read.Reads as reads
-use Rattle.yay.proofs.yay_read.Lts as lts
-use Rattle.reader.proofs.read.Reads as read-reads
 
 read-requires : tie.Need-read-requires
 read-requires c κs = search needs
 
-enum-known-rows : tie.Need-enum-known-rows
-enum-known-rows c = search needs
+value-requires : tie.Need-value-requires
+value-requires c κs = search needs
 
-enum-known-number : tie.Need-enum-known-number
-enum-known-number c = search needs
+second-requires : tie.Need-second-requires
+second-requires c κs = search needs
+
+number-requires : tie.Need-number-requires
+number-requires c κs = search needs
 
 same-length : tie.Need-same-length
 same-length c = search needs
@@ -24,27 +23,16 @@ same-length-2 : tie.Need-same-length-2
 same-length-2 c = search needs
 
 returns : tie.Need-returns
-returns c = search (read-into, needs)
-
-same-length-3 : tie.Need-same-length-3
-same-length-3 c = search needs
-
-same-length-4 : tie.Need-same-length-4
-same-length-4 c = search needs
-
-returns-2 : tie.Need-returns-2
-returns-2 c = search (read-into, needs)
+returns c = search (read-as, needs)
 
 pub yay-read-spec : {M : Type 1} → statement M
 yay-read-spec =
     tie.close
     (tie.spec
     read-requires
-    enum-known-rows
-    enum-known-number
+    value-requires
+    second-requires
+    number-requires
     same-length
     same-length-2
-    returns
-    same-length-3
-    same-length-4
-    returns-2)
+    returns)

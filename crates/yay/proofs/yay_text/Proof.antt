@@ -1,14 +1,8 @@
-use native.Mathlib.Omega.{arith}
-use mathlib.Core.Path.{refl}
+-- `yay_text` answers as `text_number` does, and where the text stands.
 use borrow.Author.Needs.{needs}
-use Rattle.yay.specs.Exports.{read-into, found-at, found-missing, found-bad, text-inside, text-at, text-bad}
-use Prim.Native.Nat.{_+_, _*_}
+use Rattle.yay.proofs.Exporting.{text-inside, text-at, text-bad}
 use Rattle.yay.proofs.yay_text.Statement.{statement}
 use Rattle.yay.proofs.yay_text.Tie as tie
-use Rattle.yay.proofs.yay_text.Reads as reads
-use Rattle.yay.proofs.yay_text.Lts as lts
-use Rattle.questions.proofs.text_number.Reads as text-number-reads
-use Rattle.yay.proofs.word.Reads as word-reads
 
 text-number-requires : tie.Need-text-number-requires
 text-number-requires c κs = search needs

@@ -1,7 +1,7 @@
 -- `body` meets its contract: up to a its lines were read.
 use Prim.Native.Nat.{_-_}
 use lib.ListN.{length}
-use Rattle.blocktext.proofs.BodyLaws.{Bodying, bodying, body-inner, text-further, text-inner}
+use Rattle.blocktext.proofs.BodyLaws.{Bodying, bodying, text-inner}
 use native.Mathlib.Omega.{arith}
 use Rattle.blocktext.proofs.body.body.Statement.{statement}
 use Rattle.blocktext.proofs.body.body.Tie as tie
@@ -21,32 +21,29 @@ loop-holds c = search bodying
 body-line-requires : tie.Need-body-line-requires Inv-loop μ-loop
 body-line-requires c κs = search bodying
 
-enum-told : tie.Need-enum-told Inv-loop μ-loop
-enum-told c = search bodying
-
-add-a-2 : tie.Need-add-a-2 Inv-loop μ-loop
-add-a-2 c = search bodying
+enum-known-seen : tie.Need-enum-known-seen Inv-loop μ-loop
+enum-known-seen c = search bodying
 
 loop-less : tie.Need-loop-less Inv-loop μ-loop
-loop-less c = omega (arith, body-inner _ _ _ _ _ _ ((c .before .before .before .loop) .inv) _ ((c .before .before .body-line) .ensures) ((c .enum-told) .given .1))
+loop-less c = search bodying
 
 loop-again : tie.Need-loop-again Inv-loop μ-loop
 loop-again c = search bodying
 
-enum-known-seen : tie.Need-enum-known-seen Inv-loop μ-loop
-enum-known-seen c = search bodying
+enum-known-seen-2 : tie.Need-enum-known-seen-2 Inv-loop μ-loop
+enum-known-seen-2 c = search bodying
 
 returns : tie.Need-returns Inv-loop μ-loop
 returns c = search bodying
 
-enum-known-seen-2 : tie.Need-enum-known-seen-2 Inv-loop μ-loop
-enum-known-seen-2 c = search bodying
+enum-known-seen-3 : tie.Need-enum-known-seen-3 Inv-loop μ-loop
+enum-known-seen-3 c = search bodying
 
 returns-2 : tie.Need-returns-2 Inv-loop μ-loop
 returns-2 c = search bodying
 
-enum-known-seen-3 : tie.Need-enum-known-seen-3 Inv-loop μ-loop
-enum-known-seen-3 c = search bodying
+enum-known-seen-4 : tie.Need-enum-known-seen-4 Inv-loop μ-loop
+enum-known-seen-4 c = search bodying
 
 add-lesser : tie.Need-add-lesser Inv-loop μ-loop
 add-lesser c = search bodying
@@ -60,11 +57,11 @@ sub-lesser c = search bodying
 lesser-requires : tie.Need-lesser-requires Inv-loop μ-loop
 lesser-requires c κs = search bodying
 
-add-a-3 : tie.Need-add-a-3 Inv-loop μ-loop
-add-a-3 c = record { fits = omega (arith, text-inner _ _ _ _ _ _ ((c .before .before .before .before .before .loop) .inv) _ ((c .before .before .before .before .body-line) .ensures) _ _ ((c .before .before .seen3) .given .1)) }
+add-a-2 : tie.Need-add-a-2 Inv-loop μ-loop
+add-a-2 c = record { fits = omega (arith, text-inner _ _ _ _ _ _ ((c .before .before .before .before .before .loop) .inv) _ ((c .before .before .before .before .body-line) .ensures) _ _ ((c .before .before .seen4) .given .1)) }
 
 loop-less-2 : tie.Need-loop-less-2 Inv-loop μ-loop
-loop-less-2 c = omega (arith, text-further _ _ _ _ _ _ ((c .before .before .before .before .before .loop) .inv) _ ((c .before .before .before .before .body-line) .ensures) _ _ ((c .before .before .seen3) .given .1), text-inner _ _ _ _ _ _ ((c .before .before .before .before .before .loop) .inv) _ ((c .before .before .before .before .body-line) .ensures) _ _ ((c .before .before .seen3) .given .1))
+loop-less-2 c = search bodying
 
 loop-again-2 : tie.Need-loop-again-2 Inv-loop μ-loop
 loop-again-2 c = search bodying
@@ -78,19 +75,18 @@ body-spec =
     add-a
     loop-holds
     body-line-requires
-    enum-told
-    add-a-2
+    enum-known-seen
     loop-less
     loop-again
-    enum-known-seen
-    returns
     enum-known-seen-2
-    returns-2
+    returns
     enum-known-seen-3
+    returns-2
+    enum-known-seen-4
     add-lesser
     add-lesser-2
     sub-lesser
     lesser-requires
-    add-a-3
+    add-a-2
     loop-less-2
     loop-again-2)

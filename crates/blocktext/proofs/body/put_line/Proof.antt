@@ -1,82 +1,81 @@
 -- `put_line` meets its contract.
-use borrow.Author.Needs.{needs}
-use native.Mathlib.Omega.{arith}
-use mathlib.Core.Path.{refl}
-use Rattle.blocktext.proofs.PutLaws.{put-blank, put-fits, put-inside, put-text}
+use Rattle.blocktext.proofs.PutLaws.{putting-line, put-text}
 use Rattle.blocktext.proofs.body.put_line.Statement.{statement}
 use Rattle.blocktext.proofs.body.put_line.Tie as tie
 
-byte-at-requires : tie.Need-byte-at-requires
-byte-at-requires c κs = search needs
+take-requires : tie.Need-take-requires
+take-requires c κs = search putting-line
+
+enum-known-m : tie.Need-enum-known-m
+enum-known-m c = search putting-line
 
 put-byte-requires : tie.Need-put-byte-requires
-put-byte-requires c κs = search needs
+put-byte-requires c κs = search putting-line
 
-add-t17 : tie.Need-add-t17
-add-t17 c = search needs
+add-t19 : tie.Need-add-t19
+add-t19 c = search putting-line
 
-add-t18 : tie.Need-add-t18
-add-t18 c = search needs
+enum-known-a : tie.Need-enum-known-a
+enum-known-a c = search putting-line
 
-same-length : tie.Need-same-length
-same-length c = search needs
-
-returns : tie.Need-returns
-returns c = put-blank ((c .before .before .before .before .before .before .before .before .args) .doc .now) ((c .before .before .before .before .before .before .before .before .args) .col) ((c .before .before .before .before .before .before .before .before .args) .least) ((c .before .before .before .before .before .before .before .before .args) .n) ((c .before .before .before .before .before .byte-at) .result) ((c .before .before .before .before .before .byte-at) .ensures) ((c .before .before .before .before .before .before .before .before .args) .text .now) ((c .before .before .before .before .if1) .taken) ((c .before .before .put-byte) .last .0) ((c .before .before .put-byte) .ensures)
-
-line-feed-requires : tie.Need-line-feed-requires
-line-feed-requires c κs = search needs
+line-end-requires : tie.Need-line-end-requires
+line-end-requires c κs = search putting-line
 
 add-from : tie.Need-add-from
-add-from c = search needs
+add-from c = search putting-line
 
 add-from-2 : tie.Need-add-from-2
-add-from-2 c = search needs
+add-from-2 c = search putting-line
 
 add-from-3 : tie.Need-add-from-3
-add-from-3 c = search needs
+add-from-3 c = search putting-line
 
 copy-requires : tie.Need-copy-requires
-copy-requires c κs = (put-fits _ _ _ _ _ ((c .before .before .before .byte-at) .ensures) ((c .before .before .before .before .before .before .args) .text .now) (λ z. (c .before .before .if1) .left z) _ ((c .before .line-feed) .ensures) ((c .before .before .before .before .before .before .pre)), put-inside _ ((c .before .before .before .before .before .before .args) .col) ((c .before .before .before .before .before .before .args) .least) ((c .before .before .before .before .before .before .args) .n) _ ((c .before .before .before .byte-at) .ensures) ((c .before .before .before .before .before .before .args) .text .now) (λ z. (c .before .before .if1) .left z) _ ((c .before .line-feed) .ensures), omega (arith, put-inside _ ((c .before .before .before .before .before .before .args) .col) ((c .before .before .before .before .before .before .args) .least) ((c .before .before .before .before .before .before .args) .n) _ ((c .before .before .before .byte-at) .ensures) ((c .before .before .before .before .before .before .args) .text .now) (λ z. (c .before .before .if1) .left z) _ ((c .before .line-feed) .ensures)))
+copy-requires c κs = search putting-line
 
 sub-put-byte : tie.Need-sub-put-byte
-sub-put-byte c = omega (arith, put-fits _ _ _ _ _ ((c .before .before .before .before .before .before .before .byte-at) .ensures) ((c .before .before .before .before .before .before .before .before .before .before .args) .text .now) (λ z. (c .before .before .before .before .before .before .if1) .left z) _ ((c .before .before .before .before .before .line-feed) .ensures) ((c .before .before .before .before .before .before .before .before .before .before .pre)))
+sub-put-byte c = search putting-line
 
 add-put-byte : tie.Need-add-put-byte
-add-put-byte c = search needs
+add-put-byte c = search putting-line
 
 put-byte-requires-2 : tie.Need-put-byte-requires-2
-put-byte-requires-2 c κs = search needs
+put-byte-requires-2 c κs = search putting-line
 
-add-t21 : tie.Need-add-t21
-add-t21 c = search needs
+add-t23 : tie.Need-add-t23
+add-t23 c = search putting-line
 
-sub-t22 : tie.Need-sub-t22
-sub-t22 c = omega (arith, put-fits _ _ _ _ _ ((c .before .before .before .before .before .before .before .before .before .before .byte-at) .ensures) ((c .before .before .before .before .before .before .before .before .before .before .before .before .before .args) .text .now) (λ z. (c .before .before .before .before .before .before .before .before .before .if1) .left z) _ ((c .before .before .before .before .before .before .before .before .line-feed) .ensures) ((c .before .before .before .before .before .before .before .before .before .before .before .before .before .pre)))
+sub-t24 : tie.Need-sub-t24
+sub-t24 c = search putting-line
 
-add-t30 : tie.Need-add-t30
-add-t30 c = search needs
+add-t32 : tie.Need-add-t32
+add-t32 c = search putting-line
 
-add-t31 : tie.Need-add-t31
-add-t31 c = search needs
+add-t33 : tie.Need-add-t33
+add-t33 c = search putting-line
+
+same-length : tie.Need-same-length
+same-length c = search putting-line
+
+returns : tie.Need-returns
+returns c = search putting-line
 
 same-length-2 : tie.Need-same-length-2
-same-length-2 c = search needs
+same-length-2 c = search putting-line
 
 returns-2 : tie.Need-returns-2
-returns-2 c = put-text ((c .before .before .before .before .before .before .before .before .before .before .before .before .before .args) .doc .now) ((c .before .before .before .before .before .before .before .before .before .before .before .before .before .args) .col) ((c .before .before .before .before .before .before .before .before .before .before .before .before .before .args) .least) ((c .before .before .before .before .before .before .before .before .before .before .before .before .before .args) .n) ((c .before .before .before .before .before .before .before .before .before .before .byte-at) .result) ((c .before .before .before .before .before .before .before .before .before .before .byte-at) .ensures) ((c .before .before .before .before .before .before .before .before .before .before .before .before .before .args) .text .now) (λ z. (c .before .before .before .before .before .before .before .before .before .if1) .left z) ((c .before .before .before .before .before .before .before .before .line-feed) .result) ((c .before .before .before .before .before .before .before .before .line-feed) .ensures) _ refl ((c .before .before .before .before .before .before .copy) .last .1 .1 .1 .0) ((c .before .before .put-byte2) .last .0) ((c .before .before .before .before .before .before .copy) .ensures) ((c .before .before .put-byte2) .ensures)
+returns-2 c = put-text _ _ _ _ _ ((c .before .before .before .before .before .before .before .before .before .before .before .before .take) .ensures) _ _ ((c .before .before .before .before .before .before .before .before .before .before .a) .given .1) _ ((c .before .before .before .before .before .before .before .before .line-end) .ensures) _ _ ((c .before .before .before .before .before .before .copy) .ensures) ((c .before .before .put-byte2) .ensures)
 
 pub put-line-spec : {M : Type 1} → statement M
 put-line-spec =
     tie.close
     (tie.spec
-    byte-at-requires
+    take-requires
+    enum-known-m
     put-byte-requires
-    add-t17
-    add-t18
-    same-length
-    returns
-    line-feed-requires
+    add-t19
+    enum-known-a
+    line-end-requires
     add-from
     add-from-2
     add-from-3
@@ -84,9 +83,11 @@ put-line-spec =
     sub-put-byte
     add-put-byte
     put-byte-requires-2
-    add-t21
-    sub-t22
-    add-t30
-    add-t31
+    add-t23
+    sub-t24
+    add-t32
+    add-t33
+    same-length
+    returns
     same-length-2
     returns-2)

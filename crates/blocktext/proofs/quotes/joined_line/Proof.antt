@@ -1,49 +1,56 @@
 -- `joined_line` meets its contract.
-use borrow.Author.Needs.{needs}
-use Rattle.blocktext.proofs.JoinedLaws.{line-bad, line-not, line-end}
+use Rattle.blocktext.proofs.JoinedLaws.{one-line}
 use Rattle.blocktext.proofs.quotes.joined_line.Statement.{statement}
 use Rattle.blocktext.proofs.quotes.joined_line.Tie as tie
 
 quoted-requires : tie.Need-quoted-requires
-quoted-requires c κs = search needs
+quoted-requires c κs = search one-line
 
-enum-known-got : tie.Need-enum-known-got
-enum-known-got c = search needs
+enum-known-p : tie.Need-enum-known-p
+enum-known-p c = search one-line
+
+enum-known-n : tie.Need-enum-known-n
+enum-known-n c = search one-line
+
+take-requires : tie.Need-take-requires
+take-requires c κs = search one-line
+
+enum-known-p-2 : tie.Need-enum-known-p-2
+enum-known-p-2 c = search one-line
+
+enum-told : tie.Need-enum-told
+enum-told c = search one-line
 
 same-length : tie.Need-same-length
-same-length c = search needs
+same-length c = search one-line
 
 returns : tie.Need-returns
-returns c = line-bad ((c .before .before .before .before .before .before .before .before .before .args) .doc .now) (record { at = (c .before .before .before .before .before .before .before .before .before .args) .at; row = 0; text = (c .before .before .before .before .before .before .before .before .before .args) .x }) ((c .before .before .before .before .before .quoted) .result) ((c .before .before .before .before .before .before .before .before .before .args) .text .now) ((c .before .before .before .before .before .quoted) .last .1 .0) ((c .before .before .before .before .before .quoted) .ensures) _ ((c .before .got) .given .1)
-
-enum-known-got-2 : tie.Need-enum-known-got-2
-enum-known-got-2 c = search needs
-
-byte-at-requires : tie.Need-byte-at-requires
-byte-at-requires c κs = search needs
+returns c = search one-line
 
 same-length-2 : tie.Need-same-length-2
-same-length-2 c = search needs
+same-length-2 c = search one-line
 
 returns-2 : tie.Need-returns-2
-returns-2 c = line-not ((c .before .before .before .before .before .before .before .before .before .before .before .args) .doc .now) (record { at = (c .before .before .before .before .before .before .before .before .before .before .before .args) .at; row = 0; text = (c .before .before .before .before .before .before .before .before .before .before .before .args) .x }) ((c .before .before .before .before .before .before .before .quoted) .result) ((c .before .before .before .before .before .before .before .before .before .before .before .args) .text .now) ((c .before .before .before .before .before .before .before .quoted) .last .1 .0) ((c .before .before .before .before .before .before .before .quoted) .ensures) _ ((c .before .before .before .got2) .given .1) ((c .before .byte-at) .result) ((c .before .byte-at) .ensures) ((c .if1) .taken)
+returns-2 c = search one-line
 
 same-length-3 : tie.Need-same-length-3
-same-length-3 c = search needs
+same-length-3 c = search one-line
 
 returns-3 : tie.Need-returns-3
-returns-3 c = line-end ((c .before .before .before .before .before .before .before .before .before .before .before .args) .doc .now) (record { at = (c .before .before .before .before .before .before .before .before .before .before .before .args) .at; row = 0; text = (c .before .before .before .before .before .before .before .before .before .before .before .args) .x }) ((c .before .before .before .before .before .before .before .quoted) .result) ((c .before .before .before .before .before .before .before .before .before .before .before .args) .text .now) ((c .before .before .before .before .before .before .before .quoted) .last .1 .0) ((c .before .before .before .before .before .before .before .quoted) .ensures) _ ((c .before .before .before .got2) .given .1) ((c .before .byte-at) .result) ((c .before .byte-at) .ensures) ((c .if1) .left)
+returns-3 c = search one-line
 
 pub joined-line-spec : {M : Type 1} → statement M
 joined-line-spec =
     tie.close
     (tie.spec
     quoted-requires
-    enum-known-got
+    enum-known-p
+    enum-known-n
+    take-requires
+    enum-known-p-2
+    enum-told
     same-length
     returns
-    enum-known-got-2
-    byte-at-requires
     same-length-2
     returns-2
     same-length-3

@@ -1,6 +1,7 @@
 -- `Reading::scalar` hands back the scalar value read and the place behind it, or the byte that no character has there.
-use Rattle.characters.proofs.Chars.{reading}
+use Rattle.characters.proofs.Chars.{wide-known, reading}
 use borrow.Author.Needs.{needs}
+use mathlib.Core.Logic.{⊎-elim}
 use Rattle.characters.proofs.Reading.scalar.Statement.{statement}
 use Rattle.characters.proofs.Reading.scalar.Tie as tie
 
@@ -10,29 +11,32 @@ returns c = search reading
 shared-slice-read-b : tie.Need-shared-slice-read-b
 shared-slice-read-b c = search needs
 
-cast-t11 : tie.Need-cast-t11
-cast-t11 c = search needs
+cast-t12 : tie.Need-cast-t12
+cast-t12 c = search needs
 
-add-t12 : tie.Need-add-t12
-add-t12 c = search needs
+add-t13 : tie.Need-add-t13
+add-t13 c = search needs
 
 returns-2 : tie.Need-returns-2
 returns-2 c = search reading
 
-wide-end-requires : tie.Need-wide-end-requires
-wide-end-requires c κs = search needs
+whole-requires : tie.Need-whole-requires
+whole-requires c κs = search needs
+
+walk-end-requires : tie.Need-walk-end-requires
+walk-end-requires c κs = search needs
 
 enum-known-p : tie.Need-enum-known-p
 enum-known-p c = search needs
+
+returns-3 : tie.Need-returns-3
+returns-3 c = search reading
 
 enum-known-n : tie.Need-enum-known-n
 enum-known-n c = search needs
 
 value-requires : tie.Need-value-requires
-value-requires c κs = search reading
-
-returns-3 : tie.Need-returns-3
-returns-3 c = search reading
+value-requires c κs = ⊎-elim (λ w. wide-known _ _ _ _ _ (w .1 .ensures) (w .3 .given .1) (w .5)) (λ w. search reading) (c .if3 .came)
 
 returns-4 : tie.Need-returns-4
 returns-4 c = search reading
@@ -43,12 +47,13 @@ scalar-spec =
     (tie.spec
     returns
     shared-slice-read-b
-    cast-t11
-    add-t12
+    cast-t12
+    add-t13
     returns-2
-    wide-end-requires
+    whole-requires
+    walk-end-requires
     enum-known-p
+    returns-3
     enum-known-n
     value-requires
-    returns-3
     returns-4)

@@ -1,35 +1,28 @@
 -- `further` meets its contract: the spaces before a line, and the byte behind them.
 use Rattle.judge.proofs.Looking.{following}
-use borrow.Author.Needs.{needs}
 use Rattle.judge.proofs.look.further.Statement.{statement}
 use Rattle.judge.proofs.look.further.Tie as tie
 
 indent-requires : tie.Need-indent-requires
-indent-requires c κs = search needs
+indent-requires c κs = search following
 
-add-t9 : tie.Need-add-t9
-add-t9 c = search needs
+add-moved : tie.Need-add-moved
+add-moved c = search following
+
+moved-requires : tie.Need-moved-requires
+moved-requires c κs = search following
 
 returns : tie.Need-returns
 returns c = search following
 
-add-byte-at : tie.Need-add-byte-at
-add-byte-at c = search needs
-
-byte-at-requires : tie.Need-byte-at-requires
-byte-at-requires c κs = search needs
+look-requires : tie.Need-look-requires
+look-requires c κs = search following
 
 begins-requires : tie.Need-begins-requires
-begins-requires c κs = search needs
-
-add-t15 : tie.Need-add-t15
-add-t15 c = search needs
+begins-requires c κs = search following
 
 returns-2 : tie.Need-returns-2
 returns-2 c = search following
-
-add-t14 : tie.Need-add-t14
-add-t14 c = search needs
 
 returns-3 : tie.Need-returns-3
 returns-3 c = search following
@@ -39,12 +32,10 @@ further-spec =
     tie.close
     (tie.spec
     indent-requires
-    add-t9
+    add-moved
+    moved-requires
     returns
-    add-byte-at
-    byte-at-requires
+    look-requires
     begins-requires
-    add-t15
     returns-2
-    add-t14
     returns-3)

@@ -31,6 +31,7 @@ use Rattle.judge.proofs.nesting.+behind+block+bullet+item+member+nested
 use Rattle.judge.proofs.nesting.property.Reads as property
 use Rattle.judge.proofs.nesting.property.Kinds as property-kinds
 use Rattle.judge.proofs.nesting.+behind+block+bullet+item+member+nested+property.Lts-property as property-lts
+use Rattle.inline.proofs.pass.Reads as pass-reads
 use Rattle.judge.proofs.lines.enclose.Reads as enclose-reads
 use Rattle.judge.proofs.lines.kept.Reads as kept-reads
 use Rattle.judge.proofs.lines.key_row.Reads as key-row-reads
@@ -43,10 +44,9 @@ use Rattle.judge.proofs.look.moved.Reads as moved-reads
 use Rattle.judge.proofs.look.one_space.Reads as one-space-reads
 use Rattle.judge.proofs.look.starts.Reads as starts-reads
 use Rattle.rooms.proofs.Block.anew.Reads as anew-reads
-use Rattle.rooms.proofs.Cursor.look.Reads as look-reads
+use Rattle.rooms.proofs.Cursor.indent.Reads as indent-reads
+use Rattle.rooms.proofs.Cursor.take.Reads as take-reads
 use Rattle.rooms.proofs.greater.Reads as greater-reads
-use Rattle.rooms.proofs.indent.Reads as indent-reads
-use Rattle.rooms.proofs.same.Reads as same-reads
 use Rattle.judge.proofs.nesting.+behind+block+bullet+item+member+nested+property.{
   statement,
 }
@@ -119,10 +119,10 @@ property-below t =
     and 3 property-kinds.ps (falls 3 property-kinds.ps _<_ μ-property t) property.Pre
 
 abbrev behind-claims : ℕ → behind-lts.Claims
-behind-claims t = (one-space-reads.Asked, one-space-reads.Learnt, moved-reads.Asked, moved-reads.Learnt, on-line-reads.Asked, on-line-reads.Learnt, anew-reads.Asked, anew-reads.Learnt, line-end-reads.Asked, line-end-reads.Learnt, nested-below t, nested.Post)
+behind-claims t = (one-space-reads.Asked, one-space-reads.Learnt, on-line-reads.Asked, on-line-reads.Learnt, anew-reads.Asked, anew-reads.Learnt, line-end-reads.Asked, line-end-reads.Learnt, moved-reads.Asked, moved-reads.Learnt, nested-below t, nested.Post)
 
 abbrev block-claims : ℕ → block-lts.Claims
-block-claims t = (member-below t, member.Post, greater-reads.Asked, greater-reads.Learnt, further-reads.Asked, further-reads.Learnt, enclose-reads.Asked, enclose-reads.Learnt, moved-reads.Asked, moved-reads.Learnt)
+block-claims t = (member-below t, member.Post, greater-reads.Asked, greater-reads.Learnt, further-reads.Asked, further-reads.Learnt, enclose-reads.Asked, enclose-reads.Learnt)
 
 abbrev bullet-claims : ℕ → bullet-lts.Claims
 bullet-claims t = (member-below t, member.Post, enclose-reads.Asked, enclose-reads.Learnt)
@@ -131,22 +131,19 @@ abbrev item-claims : ℕ → item-lts.Claims
 item-claims t = (opener-reads.Asked, opener-reads.Learnt, anew-reads.Asked, anew-reads.Learnt, starts-reads.Asked, starts-reads.Learnt, bullet-below t, bullet.Post, block-below t, block.Post, kept-reads.Asked, kept-reads.Learnt)
 
 abbrev member-claims : ℕ → member-lts.Claims
-member-claims t = (property-below t, property.Post, same-reads.Asked, same-reads.Learnt, moved-reads.Asked, moved-reads.Learnt, item-below t, item.Post)
+member-claims t = (property-below t, property.Post, pass-reads.Asked, pass-reads.Learnt, item-below t, item.Post)
 
 abbrev nested-claims : ℕ → nested-lts.Claims
 nested-claims t = (indent-reads.Asked, indent-reads.Learnt, moved-reads.Asked, moved-reads.Learnt, nested-line-reads.Asked, nested-line-reads.Learnt, starts-reads.Asked, starts-reads.Learnt, block-below t, block.Post, anew-reads.Asked, anew-reads.Learnt, kept-reads.Asked, kept-reads.Learnt)
 
 abbrev property-claims : ℕ → property-lts.Claims
-property-claims t = (key-row-reads.Asked, key-row-reads.Learnt, look-reads.Asked, look-reads.Learnt, moved-reads.Asked, moved-reads.Learnt, behind-below t, behind.Post)
+property-claims t = (key-row-reads.Asked, key-row-reads.Learnt, take-reads.Asked, take-reads.Learnt, behind-below t, behind.Post)
 
 behind-one-space-requires : (t : ℕ) → behind-lts.Need-one-space-requires (behind-claims t) (behind-at t) behind.Post
 behind-one-space-requires t c κs = search needs
 
-behind-add-moved : (t : ℕ) → behind-lts.Need-add-moved (behind-claims t) (behind-at t) behind.Post
-behind-add-moved t c = search needs
-
-behind-moved-requires : (t : ℕ) → behind-lts.Need-moved-requires (behind-claims t) (behind-at t) behind.Post
-behind-moved-requires t c κs = search needs
+behind-enum-known-n : (t : ℕ) → behind-lts.Need-enum-known-n (behind-claims t) (behind-at t) behind.Post
+behind-enum-known-n t c = search behind-colon
 
 behind-on-line-requires : (t : ℕ) → behind-lts.Need-on-line-requires (behind-claims t) (behind-at t) behind.Post
 behind-on-line-requires t c κs = search behind-colon
@@ -163,6 +160,9 @@ behind-same-length-2 t c = search needs
 behind-returns : (t : ℕ) → behind-lts.Need-returns (behind-claims t) (behind-at t) behind.Post
 behind-returns t c = rw (c .anew .ensures) (search behind-colon)
 
+behind-enum-told : (t : ℕ) → behind-lts.Need-enum-told (behind-claims t) (behind-at t) behind.Post
+behind-enum-told t c = search behind-colon
+
 behind-line-end-requires : (t : ℕ) → behind-lts.Need-line-end-requires (behind-claims t) (behind-at t) behind.Post
 behind-line-end-requires t c κs = search needs
 
@@ -172,8 +172,8 @@ behind-enum-known-p t c = search needs
 behind-enum-known-a : (t : ℕ) → behind-lts.Need-enum-known-a (behind-claims t) (behind-at t) behind.Post
 behind-enum-known-a t c = search needs
 
-behind-moved-requires-2 : (t : ℕ) → behind-lts.Need-moved-requires-2 (behind-claims t) (behind-at t) behind.Post
-behind-moved-requires-2 t c κs = search needs
+behind-moved-requires : (t : ℕ) → behind-lts.Need-moved-requires (behind-claims t) (behind-at t) behind.Post
+behind-moved-requires t c κs = search needs
 
 behind-add-nested : (t : ℕ) → behind-lts.Need-add-nested (behind-claims t) (behind-at t) behind.Post
 behind-add-nested t c = search needs
@@ -259,11 +259,8 @@ block-same-length-4 t c = search needs
 block-returns-2 : (t : ℕ) → block-lts.Need-returns-2 (block-claims t) (block-at t) block.Post block-Inv-loop block-μ-loop
 block-returns-2 t c = block-done _ _ _ _ _ _ _ _ _ _ _ _ (c .before .before .before .before .before .before .before .before .before .before .before .before .before .before .before .before .before .before .before .before .loop .inv .0) _ _ _ (c .before .before .before .before .before .before .before .before .before .before .before .before .before .before .before .before .before .member .ensures) _ _ _ (c .before .before .before .before .before .before .before .before .before .before .before .n .given .1) _ (c .before .before .before .before .before .before .before .before .further .ensures) _ _ _ _ _ _ (c .before .before .before .before .before .before .p2 .given .1) (c .before .before .before .before .before .before .before .before .before .greater2 .ensures) (c .greater3 .ensures) refl (c .before .before .before .enclose .ensures)
 
-block-enum-known-a : (t : ℕ) → block-lts.Need-enum-known-a (block-claims t) (block-at t) block.Post block-Inv-loop block-μ-loop
-block-enum-known-a t c = search needs
-
-block-moved-requires : (t : ℕ) → block-lts.Need-moved-requires (block-claims t) (block-at t) block.Post block-Inv-loop block-μ-loop
-block-moved-requires t c κs = search needs
+block-enum-known-m : (t : ℕ) → block-lts.Need-enum-known-m (block-claims t) (block-at t) block.Post block-Inv-loop block-μ-loop
+block-enum-known-m t c = search block-laws
 
 block-loop-less : (t : ℕ) → block-lts.Need-loop-less (block-claims t) (block-at t) block.Post block-Inv-loop block-μ-loop
 block-loop-less t c = search block-laws
@@ -394,29 +391,23 @@ member-same-length-2 t c = search needs
 member-returns : (t : ℕ) → member-lts.Need-returns (member-claims t) (member-at t) member.Post
 member-returns t c = search member-laws
 
-member-slice-aggregate-same : (t : ℕ) → member-lts.Need-slice-aggregate-same (member-claims t) (member-at t) member.Post
-member-slice-aggregate-same t c = search needs
+member-pass-requires : (t : ℕ) → member-lts.Need-pass-requires (member-claims t) (member-at t) member.Post
+member-pass-requires t c κs = search member-laws
 
-member-same-requires : (t : ℕ) → member-lts.Need-same-requires (member-claims t) (member-at t) member.Post
-member-same-requires t c κs = search needs
+member-enum-known-p : (t : ℕ) → member-lts.Need-enum-known-p (member-claims t) (member-at t) member.Post
+member-enum-known-p t c = search member-laws
 
-member-add-t23 : (t : ℕ) → member-lts.Need-add-t23 (member-claims t) (member-at t) member.Post
-member-add-t23 t c = search needs
-
-member-returns-2 : (t : ℕ) → member-lts.Need-returns-2 (member-claims t) (member-at t) member.Post
-member-returns-2 t c = search member-laws
-
-member-add-moved : (t : ℕ) → member-lts.Need-add-moved (member-claims t) (member-at t) member.Post
-member-add-moved t c = search needs
-
-member-moved-requires : (t : ℕ) → member-lts.Need-moved-requires (member-claims t) (member-at t) member.Post
-member-moved-requires t c κs = search needs
+member-enum-known-n : (t : ℕ) → member-lts.Need-enum-known-n (member-claims t) (member-at t) member.Post
+member-enum-known-n t c = search member-laws
 
 member-add-item : (t : ℕ) → member-lts.Need-add-item (member-claims t) (member-at t) member.Post
 member-add-item t c = search needs
 
 member-item-requires : (t : ℕ) → member-lts.Need-item-requires (member-claims t) (member-at t) member.Post
 member-item-requires t c κs = (search needs, (search member-laws, search needs))
+
+member-returns-2 : (t : ℕ) → member-lts.Need-returns-2 (member-claims t) (member-at t) member.Post
+member-returns-2 t c = search member-laws
 
 member-same-length-3 : (t : ℕ) → member-lts.Need-same-length-3 (member-claims t) (member-at t) member.Post
 member-same-length-3 t c = search needs
@@ -430,17 +421,14 @@ member-returns-3 t c = search member-laws
 nested-indent-requires : (t : ℕ) → nested-lts.Need-indent-requires (nested-claims t) (nested-at t) nested.Post
 nested-indent-requires t c κs = search needs
 
-nested-add-t16 : (t : ℕ) → nested-lts.Need-add-t16 (nested-claims t) (nested-at t) nested.Post
-nested-add-t16 t c = search needs
-
-nested-returns : (t : ℕ) → nested-lts.Need-returns (nested-claims t) (nested-at t) nested.Post
-nested-returns t c = search nested-laws
-
 nested-add-moved : (t : ℕ) → nested-lts.Need-add-moved (nested-claims t) (nested-at t) nested.Post
 nested-add-moved t c = search needs
 
 nested-moved-requires : (t : ℕ) → nested-lts.Need-moved-requires (nested-claims t) (nested-at t) nested.Post
 nested-moved-requires t c κs = search needs
+
+nested-returns : (t : ℕ) → nested-lts.Need-returns (nested-claims t) (nested-at t) nested.Post
+nested-returns t c = search nested-laws
 
 nested-nested-line-requires : (t : ℕ) → nested-lts.Need-nested-line-requires (nested-claims t) (nested-at t) nested.Post
 nested-nested-line-requires t c κs = search nested-laws
@@ -523,8 +511,17 @@ property-enum-known-p t c = search needs
 property-enum-known-n : (t : ℕ) → property-lts.Need-enum-known-n (property-claims t) (property-at t) property.Post
 property-enum-known-n t c = search needs
 
-property-look-requires : (t : ℕ) → property-lts.Need-look-requires (property-claims t) (property-at t) property.Post
-property-look-requires t c κs = search needs
+property-take-requires : (t : ℕ) → property-lts.Need-take-requires (property-claims t) (property-at t) property.Post
+property-take-requires t c κs = search property-laws
+
+property-enum-known-p-2 : (t : ℕ) → property-lts.Need-enum-known-p-2 (property-claims t) (property-at t) property.Post
+property-enum-known-p-2 t c = search property-laws
+
+property-enum-known-m : (t : ℕ) → property-lts.Need-enum-known-m (property-claims t) (property-at t) property.Post
+property-enum-known-m t c = search property-laws
+
+property-behind-requires : (t : ℕ) → property-lts.Need-behind-requires (property-claims t) (property-at t) property.Post
+property-behind-requires t c κs = (search needs, (search (property-ready, needs), search needs))
 
 property-same-length : (t : ℕ) → property-lts.Need-same-length (property-claims t) (property-at t) property.Post
 property-same-length t c = search needs
@@ -534,15 +531,6 @@ property-same-length-2 t c = search needs
 
 property-returns : (t : ℕ) → property-lts.Need-returns (property-claims t) (property-at t) property.Post
 property-returns t c = search property-laws
-
-property-add-moved : (t : ℕ) → property-lts.Need-add-moved (property-claims t) (property-at t) property.Post
-property-add-moved t c = record { fits = omega (arith, key-inside _ _ _ _ _ _ _ _ (c .before .before .before .before .before .before .before .before .before .before .before .key-row .ensures) _ (c .before .before .before .before .before .n .given .1)) }
-
-property-moved-requires : (t : ℕ) → property-lts.Need-moved-requires (property-claims t) (property-at t) property.Post
-property-moved-requires t c κs = search needs
-
-property-behind-requires : (t : ℕ) → property-lts.Need-behind-requires (property-claims t) (property-at t) property.Post
-property-behind-requires t c κs = (search needs, (property-ready _ _ _ _ _ _ _ _ (c .before .before .before .before .before .before .before .before .before .before .before .before .key-row .ensures) _ _ (c .before .before .before .before .before .before .n .given .1) (c .before .before .before .before .look .ensures) _ (c .before .before .before .if1 .left) (c .moved .ensures) (search needs), search needs))
 
 property-same-length-3 : (t : ℕ) → property-lts.Need-same-length-3 (property-claims t) (property-at t) property.Post
 property-same-length-3 t c = search needs
@@ -564,21 +552,34 @@ property-returns-3 t c = search property-laws
 
 pub +behind+block+bullet+item+member+nested+property-spec : {M : Type 1} → statement M
 +behind+block+bullet+item+member+nested+property-spec =
-    close μ-behind μ-block μ-bullet μ-item μ-member μ-nested μ-property (λ t. behind-lts.spec (behind-claims t)
+    close μ-behind μ-block μ-bullet μ-item μ-member μ-nested μ-property (λ t. behind-lts.spec (
+      one-space-reads.Asked,
+      one-space-reads.Learnt,
+      on-line-reads.Asked,
+      on-line-reads.Learnt,
+      anew-reads.Asked,
+      anew-reads.Learnt,
+      line-end-reads.Asked,
+      line-end-reads.Learnt,
+      moved-reads.Asked,
+      moved-reads.Learnt,
+      nested-below t,
+      nested.Post,
+    )
     (behind-at t)
     behind.Post
     (behind-one-space-requires t)
-    (behind-add-moved t)
-    (behind-moved-requires t)
+    (behind-enum-known-n t)
     (behind-on-line-requires t)
     (behind-anew-requires t)
     (behind-same-length t)
     (behind-same-length-2 t)
     (behind-returns t)
+    (behind-enum-told t)
     (behind-line-end-requires t)
     (behind-enum-known-p t)
     (behind-enum-known-a t)
-    (behind-moved-requires-2 t)
+    (behind-moved-requires t)
     (behind-add-nested t)
     (behind-nested-requires t)
     (behind-anew-requires-2 t)
@@ -586,7 +587,16 @@ pub +behind+block+bullet+item+member+nested+property-spec : {M : Type 1} → sta
     (behind-same-length-3 t)
     (behind-same-length-4 t)
     (behind-returns-3 t))
-    (λ t. block-lts.spec (block-claims t)
+    (λ t. block-lts.spec (
+      member-below t,
+      member.Post,
+      greater-reads.Asked,
+      greater-reads.Learnt,
+      further-reads.Asked,
+      further-reads.Learnt,
+      enclose-reads.Asked,
+      enclose-reads.Learnt,
+    )
     (block-at t)
     block.Post
     block-Inv-loop
@@ -610,8 +620,7 @@ pub +behind+block+bullet+item+member+nested+property-spec : {M : Type 1} → sta
     (block-same-length-3 t)
     (block-same-length-4 t)
     (block-returns-2 t)
-    (block-enum-known-a t)
-    (block-moved-requires t)
+    (block-enum-known-m t)
     (block-loop-less t)
     (block-loop-again t))
     (λ t. bullet-lts.spec
@@ -630,7 +639,20 @@ pub +behind+block+bullet+item+member+nested+property-spec : {M : Type 1} → sta
     (bullet-same-length-3 t)
     (bullet-same-length-4 t)
     (bullet-returns-2 t))
-    (λ t. item-lts.spec (item-claims t)
+    (λ t. item-lts.spec (
+      opener-reads.Asked,
+      opener-reads.Learnt,
+      anew-reads.Asked,
+      anew-reads.Learnt,
+      starts-reads.Asked,
+      starts-reads.Learnt,
+      bullet-below t,
+      bullet.Post,
+      block-below t,
+      block.Post,
+      kept-reads.Asked,
+      kept-reads.Learnt,
+    )
     (item-at t)
     item.Post
     (item-opener-requires t)
@@ -658,32 +680,51 @@ pub +behind+block+bullet+item+member+nested+property-spec : {M : Type 1} → sta
     (item-same-length-7 t)
     (item-same-length-8 t)
     (item-returns-4 t))
-    (λ t. member-lts.spec (member-claims t)
+    (λ t. member-lts.spec (
+      property-below t,
+      property.Post,
+      pass-reads.Asked,
+      pass-reads.Learnt,
+      item-below t,
+      item.Post,
+    )
     (member-at t)
     member.Post
     (member-property-requires t)
     (member-same-length t)
     (member-same-length-2 t)
     (member-returns t)
-    (member-slice-aggregate-same t)
-    (member-same-requires t)
-    (member-add-t23 t)
-    (member-returns-2 t)
-    (member-add-moved t)
-    (member-moved-requires t)
+    (member-pass-requires t)
+    (member-enum-known-p t)
+    (member-enum-known-n t)
     (member-add-item t)
     (member-item-requires t)
+    (member-returns-2 t)
     (member-same-length-3 t)
     (member-same-length-4 t)
     (member-returns-3 t))
-    (λ t. nested-lts.spec (nested-claims t)
+    (λ t. nested-lts.spec (
+      indent-reads.Asked,
+      indent-reads.Learnt,
+      moved-reads.Asked,
+      moved-reads.Learnt,
+      nested-line-reads.Asked,
+      nested-line-reads.Learnt,
+      starts-reads.Asked,
+      starts-reads.Learnt,
+      block-below t,
+      block.Post,
+      anew-reads.Asked,
+      anew-reads.Learnt,
+      kept-reads.Asked,
+      kept-reads.Learnt,
+    )
     (nested-at t)
     nested.Post
     (nested-indent-requires t)
-    (nested-add-t16 t)
-    (nested-returns t)
     (nested-add-moved t)
     (nested-moved-requires t)
+    (nested-returns t)
     (nested-nested-line-requires t)
     (nested-same-length t)
     (nested-same-length-2 t)
@@ -708,19 +749,26 @@ pub +behind+block+bullet+item+member+nested+property-spec : {M : Type 1} → sta
     (nested-same-length-7 t)
     (nested-same-length-8 t)
     (nested-returns-5 t))
-    λ t. property-lts.spec (property-claims t)
+    λ t. property-lts.spec (
+      key-row-reads.Asked,
+      key-row-reads.Learnt,
+      take-reads.Asked,
+      take-reads.Learnt,
+      behind-below t,
+      behind.Post,
+    )
     (property-at t)
     property.Post
     (property-key-row-requires t)
     (property-enum-known-p t)
     (property-enum-known-n t)
-    (property-look-requires t)
+    (property-take-requires t)
+    (property-enum-known-p-2 t)
+    (property-enum-known-m t)
+    (property-behind-requires t)
     (property-same-length t)
     (property-same-length-2 t)
     (property-returns t)
-    (property-add-moved t)
-    (property-moved-requires t)
-    (property-behind-requires t)
     (property-same-length-3 t)
     (property-same-length-4 t)
     (property-returns-2 t)

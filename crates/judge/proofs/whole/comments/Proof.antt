@@ -1,4 +1,4 @@
--- `comments` meets its contract. The loop's invariant: some comments were read, and the others are read from the place. The measure is what is left of the document.
+-- `comments` meets its contract. The loop's invariant: some comments were read, and the others are read from the cursor. The measure is what is left of the document.
 use Prim.Native.Nat.{_-_}
 use lib.ListN.{length}
 use Rattle.judge.proofs.Documents.{Headed, head-start, heading}
@@ -6,16 +6,16 @@ use Rattle.judge.proofs.whole.comments.Statement.{statement}
 use Rattle.judge.proofs.whole.comments.Tie as tie
 
 abbrev Inv-loop : tie.InvT-loop
-Inv-loop doc at₀ at = Headed doc at
+Inv-loop doc c₀ c = Headed doc (c .at)
 
 abbrev μ-loop : tie.MeasureT-loop
-μ-loop doc at₀ at = length doc - at
+μ-loop doc c₀ c = length doc - c .at
 
 loop-holds : tie.Need-loop-holds Inv-loop μ-loop
 loop-holds c = head-start _
 
-byte-at-requires : tie.Need-byte-at-requires Inv-loop μ-loop
-byte-at-requires c κs = search heading
+look-requires : tie.Need-look-requires Inv-loop μ-loop
+look-requires c κs = search heading
 
 comment-line-requires : tie.Need-comment-line-requires Inv-loop μ-loop
 comment-line-requires c κs = search heading
@@ -28,6 +28,9 @@ returns c = search heading
 
 enum-known-n : tie.Need-enum-known-n Inv-loop μ-loop
 enum-known-n c = search heading
+
+moved-requires : tie.Need-moved-requires Inv-loop μ-loop
+moved-requires c κs = search heading
 
 loop-less : tie.Need-loop-less Inv-loop μ-loop
 loop-less c = search heading
@@ -45,11 +48,12 @@ comments-spec =
     Inv-loop
     μ-loop
     loop-holds
-    byte-at-requires
+    look-requires
     comment-line-requires
     enum-known-p
     returns
     enum-known-n
+    moved-requires
     loop-less
     loop-again
     returns-2)

@@ -1,33 +1,31 @@
--- `spaced_group` meets its contract. Assumes nothing.
+-- `spaced_group` meets its contract: runs of digits are passed as long as a gap stands between them.
 use Prim.Native.Nat.{_-_}
 use lib.ListN.{length}
-use Rattle.numbers.proofs.DigitLaws.{Going, gap-inside, digit-laws}
+use Rattle.numbers.specs.Contract.{PastGap}
+use Rattle.numbers.proofs.DigitLaws.{Going, digit-laws}
 use Rattle.numbers.proofs.digits.spaced_group.Statement.{statement}
 use Rattle.numbers.proofs.digits.spaced_group.Tie as tie
 
 abbrev Inv-loop : tie.InvT-loop
-Inv-loop doc at end₀ dense₀ end dense = Going doc at end dense
+Inv-loop doc at end₀ dense₀ next₀ end dense next = Going doc at (end .at) dense × PastGap doc (end .at) (next .at)
 
 abbrev μ-loop : tie.MeasureT-loop
-μ-loop doc at end₀ dense₀ end dense = length doc - end
+μ-loop doc at end₀ dense₀ next₀ end dense next = length doc - end .at
 
-run-requires : tie.Need-run-requires Inv-loop μ-loop
-run-requires c κs = search digit-laws
+digits-requires : tie.Need-digits-requires Inv-loop μ-loop
+digits-requires c κs = search digit-laws
 
 returns : tie.Need-returns Inv-loop μ-loop
 returns c = search digit-laws
 
+after-gap-requires : tie.Need-after-gap-requires Inv-loop μ-loop
+after-gap-requires c κs = search digit-laws
+
 loop-holds : tie.Need-loop-holds Inv-loop μ-loop
 loop-holds c = search digit-laws
 
-is-gap-requires : tie.Need-is-gap-requires Inv-loop μ-loop
-is-gap-requires c κs = search digit-laws
-
-add-run : tie.Need-add-run Inv-loop μ-loop
-add-run c = search digit-laws
-
-run-requires-2 : tie.Need-run-requires-2 Inv-loop μ-loop
-run-requires-2 c κs = gap-inside (c .before .before .before .before .before .before .args .doc .now) (c .before .before .loop .end) (c .before .is-gap .result) (c .before .is-gap .ensures) (c .if2 .taken)
+after-gap-requires-2 : tie.Need-after-gap-requires-2 Inv-loop μ-loop
+after-gap-requires-2 c κs = search digit-laws
 
 loop-less : tie.Need-loop-less Inv-loop μ-loop
 loop-less c = search digit-laws
@@ -44,12 +42,11 @@ spaced-group-spec =
     (tie.spec
     Inv-loop
     μ-loop
-    run-requires
+    digits-requires
     returns
+    after-gap-requires
     loop-holds
-    is-gap-requires
-    add-run
-    run-requires-2
+    after-gap-requires-2
     loop-less
     loop-again
     returns-2)

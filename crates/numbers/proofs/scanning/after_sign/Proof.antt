@@ -1,26 +1,29 @@
--- `after_sign` meets its contract. Assumes nothing.
-use Rattle.numbers.proofs.FloatLaws.{scan-laws}
+-- `after_sign` meets its contract: a sign is taken, or none stands there.
+use Rattle.numbers.proofs.TakeLaws.{sign-laws}
 use Rattle.numbers.proofs.scanning.after_sign.Statement.{statement}
 use Rattle.numbers.proofs.scanning.after_sign.Tie as tie
 
-look-requires : tie.Need-look-requires
-look-requires c κs = search scan-laws
+byte-requires : tie.Need-byte-requires
+byte-requires c κs = search sign-laws
 
-add-result : tie.Need-add-result
-add-result c = search scan-laws
+enum-told : tie.Need-enum-told
+enum-told c = search sign-laws
+
+enum-known-b : tie.Need-enum-known-b
+enum-known-b c = search sign-laws
 
 returns : tie.Need-returns
-returns c = search scan-laws
-
-add-result-2 : tie.Need-add-result-2
-add-result-2 c = search scan-laws
+returns c = search sign-laws
 
 returns-2 : tie.Need-returns-2
-returns-2 c = search scan-laws
+returns-2 c = search sign-laws
 
 returns-3 : tie.Need-returns-3
-returns-3 c = search scan-laws
+returns-3 c = search sign-laws
+
+returns-4 : tie.Need-returns-4
+returns-4 c = search sign-laws
 
 pub after-sign-spec : {M : Type 1} → statement M
 after-sign-spec =
-    tie.close (tie.spec look-requires add-result returns add-result-2 returns-2 returns-3)
+    tie.close (tie.spec byte-requires enum-told enum-known-b returns returns-2 returns-3 returns-4)

@@ -1,4 +1,4 @@
--- `code` meets its contract.
+-- `code` answers the scalar value that the digits name. The loop's invariant: those up to e make v.
 use Prim.Native.Nat.{_+_, _-_}
 use Rattle.strings.specs.Contract.{Digits}
 use Rattle.strings.proofs.CodeLaws.{codes}
@@ -6,19 +6,22 @@ use Rattle.strings.proofs.escapes.code.Statement.{statement}
 use Rattle.strings.proofs.escapes.code.Tie as tie
 
 abbrev Inv-loop : tie.InvT-loop
-Inv-loop doc at v₀ e₀ v e = Digits doc at e v
+Inv-loop doc at v₀ e₀ v e = Digits doc (at .at) (e .at) v
 
 abbrev μ-loop : tie.MeasureT-loop
-μ-loop doc at v₀ e₀ v e = at + 5 - e
+μ-loop doc at v₀ e₀ v e = at .at + 5 - e .at
 
 loop-holds : tie.Need-loop-holds Inv-loop μ-loop
 loop-holds c = search codes
 
-add-loop : tie.Need-add-loop Inv-loop μ-loop
-add-loop c = search codes
+add-if1 : tie.Need-add-if1 Inv-loop μ-loop
+add-if1 c = search codes
 
-hex-at-requires : tie.Need-hex-at-requires Inv-loop μ-loop
-hex-at-requires c κs = search codes
+hex-requires : tie.Need-hex-requires Inv-loop μ-loop
+hex-requires c κs = search codes
+
+enum-told : tie.Need-enum-told Inv-loop μ-loop
+enum-told c = search codes
 
 ended-requires : tie.Need-ended-requires Inv-loop μ-loop
 ended-requires c κs = search codes
@@ -26,14 +29,14 @@ ended-requires c κs = search codes
 returns : tie.Need-returns Inv-loop μ-loop
 returns c = search codes
 
+enum-known-d : tie.Need-enum-known-d Inv-loop μ-loop
+enum-known-d c = search codes
+
 mul-v : tie.Need-mul-v Inv-loop μ-loop
 mul-v c = search codes
 
 add-v : tie.Need-add-v Inv-loop μ-loop
 add-v c = search codes
-
-add-e : tie.Need-add-e Inv-loop μ-loop
-add-e c = search codes
 
 loop-less : tie.Need-loop-less Inv-loop μ-loop
 loop-less c = search codes
@@ -54,13 +57,14 @@ code-spec =
     Inv-loop
     μ-loop
     loop-holds
-    add-loop
-    hex-at-requires
+    add-if1
+    hex-requires
+    enum-told
     ended-requires
     returns
+    enum-known-d
     mul-v
     add-v
-    add-e
     loop-less
     loop-again
     sixth-requires

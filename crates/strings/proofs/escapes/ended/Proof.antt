@@ -1,6 +1,5 @@
--- `ended` meets its contract.
+-- `ended` answers as the reader of the digits of `\u{..}` does, where no further one is read.
 use Rattle.strings.proofs.CodeLaws.{codes}
-use borrow.Author.Needs.{needs}
 use Rattle.strings.proofs.escapes.ended.Statement.{statement}
 use Rattle.strings.proofs.escapes.ended.Tie as tie
 
@@ -8,7 +7,7 @@ returns : tie.Need-returns
 returns c = search codes
 
 is-scalar-requires : tie.Need-is-scalar-requires
-is-scalar-requires c κs = search needs
+is-scalar-requires c κs = search codes
 
 returns-2 : tie.Need-returns-2
 returns-2 c = search codes

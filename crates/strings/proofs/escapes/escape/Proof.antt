@@ -1,41 +1,25 @@
--- `escape` meets its contract.
+-- `escape` answers as the reader of an escape in double quotes does.
 use Rattle.strings.proofs.EscapeLaws.{escapes}
-use borrow.Author.Needs.{needs}
 use Rattle.strings.proofs.escapes.escape.Statement.{statement}
 use Rattle.strings.proofs.escapes.escape.Tie as tie
 
-add-t6 : tie.Need-add-t6
-add-t6 c = search needs
+take-requires : tie.Need-take-requires
+take-requires c κs = search escapes
 
-look-requires : tie.Need-look-requires
-look-requires c κs = search needs
+enum-known-p : tie.Need-enum-known-p
+enum-known-p c = search escapes
 
-stands-for-requires : tie.Need-stands-for-requires
-stands-for-requires c κs = search needs
+enum-known-n : tie.Need-enum-known-n
+enum-known-n c = search escapes
 
-scalar-escape-requires : tie.Need-scalar-escape-requires
-scalar-escape-requires c κs = search escapes
-
-same-length : tie.Need-same-length
-same-length c = search needs
+behind-requires : tie.Need-behind-requires
+behind-requires c κs = search escapes
 
 returns : tie.Need-returns
-returns c = search needs
+returns c = search escapes
 
-cast-put-byte : tie.Need-cast-put-byte
-cast-put-byte c = search needs
-
-put-byte-requires : tie.Need-put-byte-requires
-put-byte-requires c κs = search needs
-
-add-t6-2 : tie.Need-add-t6-2
-add-t6-2 c = search needs
-
-add-t19 : tie.Need-add-t19
-add-t19 c = search needs
-
-same-length-2 : tie.Need-same-length-2
-same-length-2 c = search needs
+same-length : tie.Need-same-length
+same-length c = search escapes
 
 returns-2 : tie.Need-returns-2
 returns-2 c = search escapes
@@ -44,15 +28,10 @@ pub escape-spec : {M : Type 1} → statement M
 escape-spec =
     tie.close
     (tie.spec
-    add-t6
-    look-requires
-    stands-for-requires
-    scalar-escape-requires
-    same-length
+    take-requires
+    enum-known-p
+    enum-known-n
+    behind-requires
     returns
-    cast-put-byte
-    put-byte-requires
-    add-t6-2
-    add-t19
-    same-length-2
+    same-length
     returns-2)

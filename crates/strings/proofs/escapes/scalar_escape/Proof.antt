@@ -1,78 +1,53 @@
--- `scalar_escape` meets its contract.
-use Rattle.strings.proofs.EscapeLaws.{escapes}
-use borrow.Author.Needs.{needs}
+-- `scalar_escape` answers as the reader of `u{..}` does.
+use Rattle.strings.proofs.EscapeLaws.{bracings}
 use Rattle.strings.proofs.escapes.scalar_escape.Statement.{statement}
 use Rattle.strings.proofs.escapes.scalar_escape.Tie as tie
 
-add-same : tie.Need-add-same
-add-same c = search needs
-
-slice-aggregate-same : tie.Need-slice-aggregate-same
-slice-aggregate-same c = search needs
-
-same-requires : tie.Need-same-requires
-same-requires c κs = search escapes
-
-add-t18 : tie.Need-add-t18
-add-t18 c = search needs
-
-add-t19 : tie.Need-add-t19
-add-t19 c = search needs
-
-returns : tie.Need-returns
-returns c = search escapes
-
-add-code : tie.Need-add-code
-add-code c = search needs
-
-code-requires : tie.Need-code-requires
-code-requires c κs = search needs
+take-requires : tie.Need-take-requires
+take-requires c κs = search bracings
 
 enum-known-p : tie.Need-enum-known-p
-enum-known-p c = search needs
+enum-known-p c = search bracings
 
-enum-known-v : tie.Need-enum-known-v
-enum-known-v c = search needs
+enum-known-u : tie.Need-enum-known-u
+enum-known-u c = search bracings
 
-look-requires : tie.Need-look-requires
-look-requires c κs = search needs
+take-requires-2 : tie.Need-take-requires-2
+take-requires-2 c κs = search bracings
+
+enum-known-p-2 : tie.Need-enum-known-p-2
+enum-known-p-2 c = search bracings
+
+enum-known-n : tie.Need-enum-known-n
+enum-known-n c = search bracings
+
+braced-requires : tie.Need-braced-requires
+braced-requires c κs = search bracings
+
+returns : tie.Need-returns
+returns c = search bracings
 
 returns-2 : tie.Need-returns-2
-returns-2 c = search escapes
-
-put-scalar-requires : tie.Need-put-scalar-requires
-put-scalar-requires c κs = search escapes
-
-add-t30 : tie.Need-add-t30
-add-t30 c = search escapes
-
-returns-3 : tie.Need-returns-3
-returns-3 c = search escapes
+returns-2 c = search bracings
 
 same-length : tie.Need-same-length
-same-length c = search needs
+same-length c = search bracings
 
-returns-4 : tie.Need-returns-4
-returns-4 c = search escapes
+returns-3 : tie.Need-returns-3
+returns-3 c = search bracings
 
 pub scalar-escape-spec : {M : Type 1} → statement M
 scalar-escape-spec =
     tie.close
     (tie.spec
-    add-same
-    slice-aggregate-same
-    same-requires
-    add-t18
-    add-t19
-    returns
-    add-code
-    code-requires
+    take-requires
     enum-known-p
-    enum-known-v
-    look-requires
+    enum-known-u
+    take-requires-2
+    enum-known-p-2
+    enum-known-n
+    braced-requires
+    returns
     returns-2
-    put-scalar-requires
-    add-t30
-    returns-3
     same-length
-    returns-4)
+    returns-3)

@@ -1,14 +1,16 @@
--- `close` meets its contract.
+-- `close` says whether `>` stands here.
 use Rattle.strings.proofs.AngledLaws.{closing}
-use borrow.Author.Needs.{needs}
 use Rattle.strings.proofs.hex.close.Statement.{statement}
 use Rattle.strings.proofs.hex.close.Tie as tie
 
-look-requires : tie.Need-look-requires
-look-requires c κs = search needs
+take-requires : tie.Need-take-requires
+take-requires c κs = search closing
 
-add-t8 : tie.Need-add-t8
-add-t8 c = search needs
+enum-told : tie.Need-enum-told
+enum-told c = search closing
+
+enum-known-m : tie.Need-enum-known-m
+enum-known-m c = search closing
 
 returns : tie.Need-returns
 returns c = search closing
@@ -17,4 +19,4 @@ returns-2 : tie.Need-returns-2
 returns-2 c = search closing
 
 pub close-spec : {M : Type 1} → statement M
-close-spec = tie.close (tie.spec look-requires add-t8 returns returns-2)
+close-spec = tie.close (tie.spec take-requires enum-told enum-known-m returns returns-2)

@@ -1,17 +1,16 @@
--- `quoted` meets its contract.
+-- `quoted` answers as the reader of a string in either quotes does.
 use Rattle.strings.proofs.LeafLaws.{quotes}
-use borrow.Author.Needs.{needs}
 use Rattle.strings.proofs.quotes.quoted.Statement.{statement}
 use Rattle.strings.proofs.quotes.quoted.Tie as tie
 
 look-requires : tie.Need-look-requires
-look-requires c κs = search needs
+look-requires c κs = search quotes
 
 between-requires : tie.Need-between-requires
 between-requires c κs = search quotes
 
 same-length : tie.Need-same-length
-same-length c = search needs
+same-length c = search quotes
 
 returns : tie.Need-returns
 returns c = search quotes
@@ -20,13 +19,10 @@ between-requires-2 : tie.Need-between-requires-2
 between-requires-2 c κs = search quotes
 
 same-length-2 : tie.Need-same-length-2
-same-length-2 c = search needs
+same-length-2 c = search quotes
 
 returns-2 : tie.Need-returns-2
 returns-2 c = search quotes
-
-returns-3 : tie.Need-returns-3
-returns-3 c = search quotes
 
 pub quoted-spec : {M : Type 1} → statement M
 quoted-spec =
@@ -38,5 +34,4 @@ quoted-spec =
     returns
     between-requires-2
     same-length-2
-    returns-2
-    returns-3)
+    returns-2)

@@ -1,0 +1,103 @@
+-- Laws of the C interface: its promises from those of `read`, of the questions and of comparing. Assumes nothing.
+use mathlib.Core.Path.{_≡_, refl, sym, ap, subst, _∙_}
+use mathlib.Core.List.{List}
+use mathlib.Core.Bool.{Bool, true, false, _&&_}
+use Prim.Native.Nat.{ℕ, _+_, _*_, _<_}
+use native.Mathlib.Omega.{arith}
+use lib.ListN.{length, getD}
+use lib.Dec.{ltb, leb}
+use borrow.Author.Tests.{leb-true}
+use Rattle.language.specs.Kind.{pick, hasText}
+use Rattle.questions.specs.Table.{word, kind, start, end, good, readable}
+use Rattle.questions.specs.Text.{textNumber}
+use Rattle.language.specs.declared.Answer.{Answer}
+use Rattle.language.specs.Answered.{Answered, number, value, second}
+use Rattle.questions.specs.Walk.{Reply, Finds, foundReply}
+use Rattle.questions.specs.declared.Found.{Found}
+use Rattle.questions.specs.declared.Found.the-variants.{At, Missing, BadRow}
+use Rattle.language.specs.declared.Row.{Row}
+use Rattle.language.specs.Tree.{width}
+use lib.IntN.{ℤ, pos, negsuc}
+use Rattle.integers.specs.declared.Compared.{Compared}
+use Rattle.integers.specs.declared.Compared.the-variants.{Less, Equal, Greater, NotInt}
+use Rattle.integers.specs.Order.{Verdict, compared, comparedVerdict}
+use Rattle.exports.specs.Exports.{FoundAt, ComparedTo, TextAt}
+
+-- ---- `yay_read`
+
+pub read-as : (doc table text table' text' : List ℕ) (a : Answer) (n v s : ℕ) → Answered doc table text (number a) (value a) (second a) table' text' → n ≡ number a → v ≡ value a
+    → s ≡ second a → Answered doc table text n v s table' text'
+read-as doc table text table' text' a n v s x e f g = rw (e, f, g) x
+
+-- ---- `yay_find`
+
+module _ (table room key : List ℕ) (R r : ℕ) (f : Found) (x : Finds table R room key r (foundReply f)) where
+  pub found-at : (row : Row) → f ≡ At row → FoundAt table R room r key 0 (row .0)
+  found-at row e = subst (λ (g : Found). Finds table R room key r (foundReply g)) e x
+
+  pub found-missing : f ≡ Missing → FoundAt table R room r key 10 0
+  found-missing e = subst (λ (g : Found). Finds table R room key r (foundReply g)) e x
+
+  pub found-bad : f ≡ BadRow → FoundAt table R room r key 9 0
+  found-bad e = subst (λ (g : Found). Finds table R room key r (foundReply g)) e x
+
+-- ---- `yay_compare`
+
+module _ (left right : List ℕ) (a : Compared) (x : comparedVerdict a ≡ compared left right) where
+  pub compared-less : a ≡ Less → ComparedTo left right 0 (negsuc 0)
+  compared-less e = sym x ∙ ap comparedVerdict e
+
+  pub compared-equal : a ≡ Equal → ComparedTo left right 0 (pos 0)
+  compared-equal e = sym x ∙ ap comparedVerdict e
+
+  pub compared-greater : a ≡ Greater → ComparedTo left right 0 (pos 1)
+  compared-greater e = sym x ∙ ap comparedVerdict e
+
+  pub compared-none : a ≡ NotInt → ComparedTo left right 11 (pos 0)
+  compared-none e = sym x ∙ ap comparedVerdict e
+
+-- ---- `yay_text`
+
+module _ (table : List ℕ) (R : ℕ) (room : List ℕ) (r n : ℕ) (x : n ≡ textNumber table R room r) where
+  is-readable : n ≡ 0 → readable table R room r ≡ true
+  unfolding textNumber
+  is-readable e = go (readable table R room r) (sym x ∙ e)
+    where
+      go : (b : Bool) → _≡_ {A = ℕ} (pick b 0 9) 0 → b ≡ true
+      go true h = refl
+      go false h = absurd (omega arith)
+
+  not-readable : (n ≡ 0 → ⊥) → readable table R room r ≡ false
+  unfolding textNumber
+  not-readable e = go (readable table R room r) refl
+    where
+      go : (b : Bool) → readable table R room r ≡ b → b ≡ false
+      go true h = absurd (e (x ∙ ap (λ (c : Bool). pick c 0 9) h))
+      go false h = refl
+
+  pub text-inside : (j : ℕ) → j < width → n ≡ 0 → width * r + j < length table
+  unfolding readable good
+  text-inside j l e = go (ltb r R) refl (is-readable e)
+    where
+      size : (b : Bool) → leb (width * (r + 1)) (length table) ≡ b → b ≡ true → width * r + j < length table
+      size true h k = let z = leb-true (width * (r + 1)) (length table) h in omega arith
+      size false h k = let z : _≡_ {A = ℕ} 0 1 = cc in absurd (omega arith)
+
+      rest : (b c : Bool) → (b && c) ≡ true → b ≡ true
+      rest true c h = refl
+      rest false c h = h
+
+      go : (b : Bool) → ltb r R ≡ b → ((b && leb (width * (r + 1)) (length table)) && (hasText (kind table r) && (leb (start table r) (end table r) && leb (end table r) (length room)))) ≡ true
+          → width * r + j < length table
+      go true h k = size (leb (width * (r + 1)) (length table)) refl (rest (leb (width * (r + 1)) (length table)) _ k)
+      go false h k = let z : _≡_ {A = ℕ} 0 1 = cc in absurd (omega arith)
+
+  pub text-at : (a b : ℕ) → n ≡ 0 → a ≡ getD table (width * r + 3) 0 → b ≡ getD table (width * r + 4) 0 → TextAt table R room r 0 a b
+  unfolding word
+  text-at a b e p q = record { number-is = sym e ∙ x; from-is = p ∙ sym (ap (λ (c : Bool). pick c (start table r) 0) (is-readable e)); to-is = q ∙ sym (ap (λ (c : Bool). pick c (end table r) 0) (is-readable e)) }
+
+  pub text-bad : (n ≡ 0 → ⊥) → TextAt table R room r 9 0 0
+  unfolding textNumber
+  text-bad e =
+      let h = not-readable e in
+      record { number-is = sym (ap (λ (c : Bool). pick c 0 9) h); from-is = sym (ap (λ (c : Bool). pick c (start table r) 0) h); to-is = sym (ap (λ (c : Bool). pick c (end table r) 0) h) }
