@@ -5,7 +5,7 @@ C_FLAGS := -std=c11 -Wall -Wextra -Wpedantic -Werror -Iinclude
 PROFILES := $(wildcard examples/*.yay)
 PREFIX ?= /usr/local
 
-.PHONY: yay install c-example sanitize people-test
+.PHONY: yay install c-example sanitize stack people-test
 
 $(LIBRARY): crates.txt tools/library.sh $(shell find crates -name '*.rt' -o -name '*.antt')
 	@tools/proving.sh build/library.log tools/library.sh
@@ -27,7 +27,12 @@ sanitize: $(LIBRARY)
 	@mkdir -p build
 	tools/sanitize.sh $(LIBRARY) build '$(C_FLAGS)' $(PROFILES)
 
-people-test: yay c-example sanitize
+stack: $(LIBRARY)
+	@mkdir -p build
+	cc $(C_FLAGS) -O2 c/stack.c $(LIBRARY) -lpthread -o build/stack
+	build/stack
+
+people-test: yay c-example sanitize stack
 	YAY_VECTORS=$(CURDIR)/evidence/vectors/base.tsv cargo test --release --quiet $(MANIFEST) -p yay -p yay-command
 	tools/try-command.sh build/yay
 	tools/try-manual.sh man/yay.1 build/yay

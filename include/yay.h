@@ -6,7 +6,7 @@
  * What is trusted of a caller is that each pointer is not NULL and valid for its length, a word pointer aligned;
  * where a length is 0 the pointer is never followed. Any document, table and text may be handed over: for every
  * one of them the answer is the one that the documents of the project fix.
- * yay_read has rooms of its own on the stack: give its thread 2 MB of it.
+ * yay_read has rooms of its own on the stack: see YAY_STACK.
  *
  * A place is counted in bytes from 0, a row from 0; they are never taken for one another. yay_help.h has names and
  * sentences for the numbers, line and column of a place, and a way through the children of a row; it is not proved. */
@@ -24,6 +24,12 @@ extern "C" {
 #define YAY_LONGEST 32768
 #define YAY_NESTING 32
 #define YAY_WORDS 7
+
+/* The stack that a call of yay_read touches at most, in bytes, as c/stack.c measures it: for a document of at most
+ * 1,024 bytes, of at most 8,192, and for any. */
+#define YAY_STACK_FEW (48 * 1024)
+#define YAY_STACK_SOME (176 * 1024)
+#define YAY_STACK (704 * 1024)
 
 /* Words and text bytes that are enough for any document of so many bytes: rows and text are each fewer. */
 #define YAY_TABLE_ROOM(doc_len) ((doc_len) * YAY_WORDS)

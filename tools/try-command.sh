@@ -16,6 +16,10 @@ expect 'an answer before the next document' 'ok 1 1 4,0,1,0,1,0,1 31' "$(
     echo "$line"
 )"
 
+# 1 MB of stack is enough for any document.
+for ((i = 0; i < 2900; i++)); do echo "k$i: $i"; done > build/long.yay
+expect 'a long document in a stack of 1 MB' 0 "$(ulimit -s 1024; "$yay" check -q build/long.yay; echo $?)"
+
 # Closed and full outputs. What was refused before or behind them is not lost.
 expect 'a reader that stops early' 'object of 7 pairs' "$("$yay" show examples/tablet.yay 2>&1 | head -1)"
 expect 'a full disk is an error' 2 "$("$yay" show examples/tablet.yay > /dev/full 2> /dev/null; echo $?)"

@@ -1,5 +1,5 @@
 -- HOW THE ANSWER OF `read` FOLLOWS from what its parts promise. Assumes nothing.
-use mathlib.Core.Path.{_≡_, sym, subst}
+use mathlib.Core.Path.{_≡_, refl, sym, subst}
 use mathlib.Core.List.{List}
 use Prim.Native.Nat.{ℕ, _+_, _*_, _≤_, _<_}
 use native.Mathlib.Omega.{arith}
@@ -9,6 +9,8 @@ use Rattle.rooms.specs.declared.Cursor.{Cursor}
 use Rattle.rooms.specs.declared.Ans.{Ans}
 use Rattle.rooms.specs.declared.Ans.the-variants.{Ok, No}
 use Rattle.rooms.specs.Forest.{length-rows}
+use Rattle.reader.specs.declared.Tried.{Tried}
+use Rattle.reader.specs.declared.Tried.the-variants.{Settled, TooFew}
 use Rattle.language.specs.declared.Answer.{Answer}
 use Rattle.language.specs.Tree.{Tree, width, size, textOf, rowsOf}
 use Rattle.language.specs.Document.{Document}
@@ -96,20 +98,48 @@ pub record Texted (doc R T : List ℕ) : Type 0 where
   pub text-fits : length doc ≤ length T
 
 -- n rows and m text bytes were read into rooms of our own, which hold them if there are rows enough
-pub record Tried (doc R T : List ℕ) (n m : ℕ) : Type 0 where
-  pub short : length doc ≤ limit
+pub record Read (doc R T : List ℕ) (n m : ℕ) : Type 0 where
   pub few : n ≤ limit
   pub held : width * n ≤ length R → Held doc R T n m
 
-pub tries : (doc R R' T T' : List ℕ) (a : Ans) (c : Cursor) → Texted doc R T → Checked deepest doc a → a ≡ Ok c → Filled deepest doc R R' T T'
-    → length R' ≡ length R → length T' ≡ length T → Tried doc R' T' (c .row) (c .text)
+-- AN ATTEMPT: the answer; or the rows of our own are too few, and nothing lent is changed
+unfoldable pub Attempted : List ℕ → List ℕ → List ℕ → Tried → List ℕ → List ℕ → Type 0
+Attempted doc table text (Settled a) table′ text′ = Answered doc table text (number a) (value a) (second a) table′ text′
+Attempted doc table text TooFew table′ text′ = (table′ ≡ table) × (text′ ≡ text)
+
+pub reads : (doc R R' T T' : List ℕ) (a : Ans) (c : Cursor) → Texted doc R T → Checked deepest doc a → a ≡ Ok c → Filled deepest doc R R' T T'
+    → length R' ≡ length R → length T' ≡ length T → Read doc R' T' (c .row) (c .text)
 unfolding Checked
-tries doc R R' T T' a c f x e w u v =
+reads doc R R' T T' a c f x e w u v =
     let l = f .short in
     let j = f .text-fits in
     let g : Known deepest doc c = rw e at x in
     let h = few-rows deepest doc (g .tree) (accepts deepest doc (g .tree) (g .is)) in
-    record { short = l; few = omega (arith, g .row); held = λ i. holds-few doc R R' T T' a c l j i x e w u v }
+    record { few = omega (arith, g .row); held = λ i. holds-few doc R R' T T' a c l j i x e w u v }
 
-pub tried-holds : (doc R T : List ℕ) (n m : ℕ) → Tried doc R T n m → width * n ≤ length R → Held doc R T n m
-tried-holds doc R T n m f i = f .held i
+pub read-holds : (doc R T : List ℕ) (n m : ℕ) → Read doc R T n m → width * n ≤ length R → Held doc R T n m
+read-holds doc R T n m f i = f .held i
+
+module _ (doc table text : List ℕ) where
+  pub attempt-stop : (a : Answer) → length doc ≤ limit → Blamed doc a → Attempted doc table text (Settled a) table text
+  unfolding Attempted
+  attempt-stop a l x = answer-stop doc table text a l x
+
+  pub attempt-few : Attempted doc table text TooFew table text
+  unfolding Attempted
+  attempt-few = (refl, refl)
+
+  pub attempt-done : (a : Answer) (table′ text′ : List ℕ) → Answered doc table text (number a) (value a) (second a) table′ text′ → Attempted doc table text (Settled a) table′ text′
+  unfolding Attempted
+  attempt-done a table′ text′ x = x
+
+  module _ (r : Tried) (table′ text′ : List ℕ) (x : Attempted doc table text r table′ text′) where
+    pub tried-answer : (a : Answer) → r ≡ Settled a → Answered doc table text (number a) (value a) (second a) table′ text′
+    unfolding Attempted
+    tried-answer a e = rw e at x
+
+    -- the rooms lent are as they came, for the next class
+    pub tried-again : (a : Answer) (table″ text″ : List ℕ) → r ≡ TooFew → Answered doc table′ text′ (number a) (value a) (second a) table″ text″
+        → Answered doc table text (number a) (value a) (second a) table″ text″
+    unfolding Attempted
+    tried-again a table″ text″ e y = let z : (table′ ≡ table) × (text′ ≡ text) = rw e at x in rw (z .0, z .1) at y

@@ -13,6 +13,11 @@ use language::Kind;
 use language::LIMIT;
 use language::WIDTH;
 
+// Links are cleared first, so few rows and some have fewer of them.
+const FEW: usize = 512;
+
+const SOME: usize = 4096;
+
 // Where the first key stands that is the same as an earlier one of its object, if there is one.
 pub enum Repeat {
     At(usize),
@@ -182,7 +187,17 @@ fn among_few(rows: &[u32], text: &[u8], n: usize) -> Repeat
     ensures { λ r. ⌜ Names (Later (now (rows .entry)) (now (text .entry)) n) r ⌝ }
 {
     let mut heads = [0u32; 4096];
-    let mut links = [0u32; 512];
+    let mut links = [0u32; FEW];
+    repeated(&*rows, &*text, &mut heads, &mut links, n)
+}
+
+// The same over links for 4,096 rows.
+fn among_some(rows: &[u32], text: &[u8], n: usize) -> Repeat
+    requires { ⌜ Table (now rows) (now text) n × (n ≤ 4096) ⌝ }
+    ensures { λ r. ⌜ Names (Later (now (rows .entry)) (now (text .entry)) n) r ⌝ }
+{
+    let mut heads = [0u32; 4096];
+    let mut links = [0u32; SOME];
     repeated(&*rows, &*text, &mut heads, &mut links, n)
 }
 
@@ -196,13 +211,32 @@ fn among_all(rows: &[u32], text: &[u8], n: usize) -> Repeat
     repeated(&*rows, &*text, &mut heads, &mut links, n)
 }
 
+// The same by the class of links, from the smallest on. It calls itself for the next one, so that no frame holds the links of two.
+fn by_class(rows: &[u32], text: &[u8], n: usize, class: usize) -> Repeat
+    requires { ⌜ Table (now rows) (now text) n ⌝ }
+    ensures { λ r. ⌜ Names (Later (now (rows .entry)) (now (text .entry)) n) r ⌝ }
+{
+    match class {
+        0 => {
+            if n <= FEW {
+                return among_few(&*rows, &*text, n);
+            }
+            by_class(&*rows, &*text, n, 1)
+        }
+        1 => {
+            if n <= SOME {
+                return among_some(&*rows, &*text, n);
+            }
+            by_class(&*rows, &*text, n, 2)
+        }
+        _ => among_all(&*rows, &*text, n),
+    }
+}
+
 // The least start of a key of n rows that is the same as an earlier one of its object.
 pub fn first_repeat(rows: &[u32], text: &[u8], n: usize) -> Repeat
     requires { ⌜ Table (now rows) (now text) n ⌝ }
     ensures { λ r. ⌜ FirstRepeat (now (rows .entry)) (now (text .entry)) n r ⌝ }
 {
-    if n <= 512 {
-        return among_few(&*rows, &*text, n);
-    }
-    among_all(&*rows, &*text, n)
+    by_class(&*rows, &*text, n, 0)
 }

@@ -48,6 +48,25 @@ fn empty_rooms_may_be_lent() {
 }
 
 #[test]
+fn a_small_thread_reads_a_profile() {
+    for (bytes, stack) in [(1_024, 64), (8_192, 192), (32_768, 768)] {
+        let mut profile = String::new();
+        let mut line = String::from("aisle-0: {door: 0, name: \"of the cold store\"}\n");
+        for i in 1.. {
+            if profile.len() + line.len() > bytes {
+                break;
+            }
+            profile += &line;
+            line = format!("aisle-{i}: {{door: {i}, name: \"of the cold store\"}}\n");
+        }
+        let reads = move || Document::read(profile.as_bytes()).map(|d| d.tree().rows());
+        let thread = std::thread::Builder::new().stack_size(stack * 1024).spawn(reads).unwrap();
+        let rows = thread.join().unwrap().unwrap();
+        assert!(rows > bytes / 12, "{rows} rows");
+    }
+}
+
+#[test]
 fn errors_are_errors() {
     fn fails() -> Result<(), Box<dyn Error>> {
         Document::read(b"a: 1\na: 2\n")?;

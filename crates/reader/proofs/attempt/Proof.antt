@@ -1,0 +1,62 @@
+-- `attempt` answers as the pass over the document says, if the rows have room.
+use borrow.Author.Needs.{needs}
+use Rattle.reader.specs.Filling.{attempt-stop, stopped-at, reads}
+use Rattle.reader.proofs.attempt.Statement.{statement}
+use Rattle.reader.proofs.attempt.Tie as tie
+
+pass-requires : tie.Need-pass-requires
+pass-requires c κs = search (attempt-stop, stopped-at, reads, needs)
+
+enum-known-p : tie.Need-enum-known-p
+enum-known-p c = search (attempt-stop, stopped-at, reads, needs)
+
+blame-requires : tie.Need-blame-requires
+blame-requires c κs = (search needs, search (stopped-at, needs))
+
+enum-known-c : tie.Need-enum-known-c
+enum-known-c c = search (attempt-stop, stopped-at, reads, needs)
+
+settled-requires : tie.Need-settled-requires
+settled-requires c κs = search (reads, needs)
+
+same-length : tie.Need-same-length
+same-length c = search (attempt-stop, stopped-at, reads, needs)
+
+same-length-2 : tie.Need-same-length-2
+same-length-2 c = search (attempt-stop, stopped-at, reads, needs)
+
+returns : tie.Need-returns
+returns c = search (attempt-stop, needs)
+
+same-length-3 : tie.Need-same-length-3
+same-length-3 c = search (attempt-stop, stopped-at, reads, needs)
+
+same-length-4 : tie.Need-same-length-4
+same-length-4 c = search (attempt-stop, stopped-at, reads, needs)
+
+same-length-5 : tie.Need-same-length-5
+same-length-5 c = search (attempt-stop, stopped-at, reads, needs)
+
+same-length-6 : tie.Need-same-length-6
+same-length-6 c = search (attempt-stop, stopped-at, reads, needs)
+
+returns-2 : tie.Need-returns-2
+returns-2 c = search (attempt-stop, stopped-at, reads, needs)
+
+pub attempt-spec : {M : Type 1} → statement M
+attempt-spec =
+    tie.close
+    (tie.spec
+    pass-requires
+    enum-known-p
+    blame-requires
+    enum-known-c
+    settled-requires
+    same-length
+    same-length-2
+    returns
+    same-length-3
+    same-length-4
+    same-length-5
+    same-length-6
+    returns-2)

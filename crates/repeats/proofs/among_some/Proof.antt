@@ -1,0 +1,25 @@
+-- `among_some` starts with chains that have no key in them. Assumes nothing.
+use mathlib.Core.Path.{refl}
+use borrow.Author.Needs.{needs}
+use Rattle.repeats.specs.Later
+use Rattle.repeats.proofs.among_some.Statement.{statement}
+use Rattle.repeats.proofs.among_some.Tie as tie
+
+slice-aggregate-repeated : tie.Need-slice-aggregate-repeated
+slice-aggregate-repeated c = search needs
+
+slice-aggregate-repeated-2 : tie.Need-slice-aggregate-repeated-2
+slice-aggregate-repeated-2 c = search needs
+
+repeated-requires : tie.Need-repeated-requires
+repeated-requires c κs =
+    let s = c .before .before .before .before in
+    Later.starting (s .args .rows .now) (s .args .text .now) 4096 4096 (s .args .n) refl (s .pre .1) (s .pre .0)
+
+returns : tie.Need-returns
+returns c = search needs
+
+pub among-some-spec : {M : Type 1} → statement M
+among-some-spec =
+    tie.close
+    (tie.spec slice-aggregate-repeated slice-aggregate-repeated-2 repeated-requires returns)
