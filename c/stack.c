@@ -1,5 +1,6 @@
-/* Measures the stack that yay_read touches: documents of every class of size, good, refused, repeating and hostile,
- * each read in a thread whose stack is painted first. Fails where a class takes more than yay.h says. */
+/* Measures the stack that yay_read touches: documents of every class of size, good, refused, repeating and hostile, with
+ * many rows and with few, each read into large rooms and into none, in a thread whose stack is painted first. Fails where
+ * a class takes more than yay.h says. */
 #define _DEFAULT_SOURCE
 #include <pthread.h>
 #include <stdio.h>
@@ -8,16 +9,16 @@
 #include <sys/mman.h>
 #include "yay.h"
 
-#define STACK ((size_t)4 << 20)
+#define STACK ((size_t)2 << 20)
 #define PAINT 0xa5
 
 static uint8_t doc[YAY_LONGEST + 1], text[YAY_TEXT_ROOM(YAY_LONGEST)];
 static uint32_t table[YAY_TABLE_ROOM(YAY_LONGEST)];
-static size_t len, rows, bytes;
+static size_t len, words, room, rows, bytes;
 static uint32_t number;
 
 static void *reads(void *nothing) {
-    number = yay_read(doc, len, table, sizeof table / sizeof *table, text, sizeof text, &rows, &bytes);
+    number = yay_read(doc, len, table, words, text, room, &rows, &bytes);
     return nothing;
 }
 
@@ -45,17 +46,25 @@ struct class {
 
 static struct class classes[] = {
     {"at most 1,024 bytes", 1024, YAY_STACK_FEW, 0},
-    {"at most 8,192 bytes", 8192, YAY_STACK_SOME, 0},
+    {"at most 16,384 bytes", 16384, YAY_STACK, 0},
     {"any length", YAY_LONGEST + 1, YAY_STACK, 0},
 };
 
-static int documents;
+static int documents, answers[YAY_TEXT + 1];
 
+/* The document in large rooms, in no table, and in no text room. */
 static void measure(void) {
-    size_t took = touched(reads) - touched(rests);
+    static size_t rest;
     struct class *c = classes;
+    if (!rest) rest = touched(rests);
     while (len > c->bytes) c++;
-    if (took > c->seen) c->seen = took;
+    for (int i = 0; i < 3; i++) {
+        words = i == 1 ? 0 : sizeof table / sizeof *table;
+        room = i == 2 ? 0 : sizeof text;
+        size_t took = touched(reads) - rest;
+        if (took > c->seen) c->seen = took;
+        answers[number]++;
+    }
     documents++;
 }
 
@@ -66,7 +75,7 @@ static void lines(const char *begin, const char *line, const char *end, size_t n
     for (size_t i = 0; len + spare < n; i++) len += (size_t)sprintf((char *)doc + len, line, i);
 }
 
-/* The same whole, with its first line again, cut, and with a byte that is no character. */
+/* The same whole, with its first line again, cut, with a byte that is no character, and with one that is wrong there. */
 static void shape(const char *begin, const char *line, const char *end, size_t n) {
     lines(begin, line, end, n);
     len += (size_t)sprintf((char *)doc + len, "%s", end);
@@ -79,31 +88,81 @@ static void shape(const char *begin, const char *line, const char *end, size_t n
     measure();
     doc[len++] = 0xff;
     measure();
+    doc[len - 1] = '}';
+    doc[len++] = '\n';
+    measure();
+}
+
+/* A document of n bytes: a beginning, one byte again and again, and an end. */
+static void run(const char *begin, int byte, const char *end, size_t n) {
+    size_t from = strlen(begin), to = n - strlen(end);
+    memcpy(doc, begin, from);
+    memset(doc + from, byte, to - from);
+    memcpy(doc + to, end, n - to);
+    len = n;
+    measure();
+}
+
+/* Many rows first and few behind them, or few first: a key with a long text, and a list. */
+static void halves(size_t n, int many_first) {
+    size_t half = n / 2;
+    len = (size_t)sprintf((char *)doc, many_first ? "a: [" : "b: \"");
+    if (many_first) {
+        while (len + 16 < half) len += (size_t)sprintf((char *)doc + len, "1, ");
+        len += (size_t)sprintf((char *)doc + len, "1]\nb: \"");
+    }
+    while (len + 16 < (many_first ? n : half)) doc[len++] = 'x';
+    len += (size_t)sprintf((char *)doc + len, many_first ? "\"\n" : "\"\na: [");
+    if (!many_first) {
+        while (len + 16 < n) len += (size_t)sprintf((char *)doc + len, "1, ");
+        len += (size_t)sprintf((char *)doc + len, "1]\n");
+    }
+    measure();
+}
+
+/* Two keys of nearly half the bytes each, which are equal. */
+static void long_keys(size_t n) {
+    size_t half = n / 2 - 8;
+    memset(doc, 'k', half);
+    len = half + (size_t)sprintf((char *)doc + half, ": 1\n");
+    memset(doc + len, 'k', half);
+    len += half;
+    len += (size_t)sprintf((char *)doc + len, ": 2\n");
+    measure();
 }
 
 static void of_size(size_t n) {
     static const char *const shapes[][3] = {
         {"", "key%zu: \"a value of the key\"\n", ""},
         {"", "k%zu: 1\n", ""},
+        {"", "k%zu:\n  b:\n    c: {d: 1, \"e\": 2}\n", ""},
         {"", "- name: %zu\n  door: [1, 2, {a: 3}]\n", ""},
+        {"", "- a: %zu\n", ""},
         {"[", "%zu, ", "1]\n"},
+        {"[", "{}, [], ", "1]\n"},
         {"{", "a%zu: \"\\u{1F600}\", ", "z: 1}\n"},
+        {"{", "\"\\u{1F600}%zu\": 1, ", "z: 1}\n"},
         {"", "- - - - - - - - - - - - - - - - - - - - - - - - - - - - - - - a%zu: 1\n", ""},
+        {"", "- - - - - - - - - - - - - - - - - - - - - - - - - - - - - - - - - %zu\n", ""},
         {"", "- [[[[[[[[[[[[[[[[[[[[[[[[[[[[[[[%zu]]]]]]]]]]]]]]]]]]]]]]]]]]]]]]]\n", ""},
         {"", "- [[[[[[[[[[[[[[[[[[[[[[[[[[[[[[[[%zu]]]]]]]]]]]]]]]]]]]]]]]]]]]]]]]]\n", ""},
         {"a: `\n", "   line %zu\n", ""},
         {"a: >\n", "  00 ff  # %zu\n", ""},
     };
     for (size_t i = 0; i < sizeof shapes / sizeof *shapes; i++) shape(shapes[i][0], shapes[i][1], shapes[i][2], n);
-    for (size_t i = 0; i < n; i++) doc[i] = '[';
-    len = n;
-    measure();
+    halves(n, 0);
+    halves(n, 1);
+    long_keys(n);
+    run("\"", 'x', "\"\n", n);
+    run("# ", 'x', "\n1\n", n);
+    run("1\n", '\n', "", n);
+    run("", '[', "", n);
     for (size_t i = 0; i < n; i++) doc[i] = i % 2 ? ' ' : '-';
     measure();
 }
 
 int main(void) {
-    static const size_t sizes[] = {200, 1000, 1024, 1025, 4000, 8192, 8193, 16384, 24000, 32768, 32769};
+    static const size_t sizes[] = {200, 1000, 1024, 1025, 4000, 8192, 16384, 16385, 24000, 32768, 32769};
     int wrong = 0;
     for (size_t i = 0; i < sizeof sizes / sizeof *sizes; i++) of_size(sizes[i]);
     for (size_t i = 0; i < sizeof classes / sizeof *classes; i++) {
@@ -112,6 +171,9 @@ int main(void) {
         wrong += more;
         printf("stack: documents of %s touch %zu KB%s\n", c->name, (c->seen + 1023) / 1024, more ? ": TOO MUCH" : "");
     }
-    printf("stack: %d documents, %d classes above what yay.h says\n", documents, wrong);
+    for (int i = 0; i <= YAY_TEXT; i++) {
+        if (!answers[i]) wrong++, printf("stack: no document was answered with %d\n", i);
+    }
+    printf("stack: %d documents, %d faults\n", documents, wrong);
     return wrong != 0;
 }

@@ -26,10 +26,9 @@ extern "C" {
 #define YAY_WORDS 7
 
 /* The stack that a call of yay_read touches at most, in bytes, as c/stack.c measures it: for a document of at most
- * 1,024 bytes, of at most 8,192, and for any. */
+ * 1,024 bytes, and for any. So a thread of 128 KB reads every document. */
 #define YAY_STACK_FEW (48 * 1024)
-#define YAY_STACK_SOME (176 * 1024)
-#define YAY_STACK (704 * 1024)
+#define YAY_STACK (112 * 1024)
 
 /* Words and text bytes that are enough for any document of so many bytes: rows and text are each fewer. */
 #define YAY_TABLE_ROOM(doc_len) ((doc_len) * YAY_WORDS)

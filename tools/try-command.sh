@@ -16,9 +16,16 @@ expect 'an answer before the next document' 'ok 1 1 4,0,1,0,1,0,1 31' "$(
     echo "$line"
 )"
 
-# 1 MB of stack is enough for any document.
-for ((i = 0; i < 2900; i++)); do echo "k$i: $i"; done > build/long.yay
-expect 'a long document in a stack of 1 MB' 0 "$(ulimit -s 1024; "$yay" check -q build/long.yay; echo $?)"
+# 128 KB of stack is enough for any document, with all that the command itself takes of it; the reader's part is YAY_STACK.
+keys() { for ((i = 0; i < $1; i++)); do echo "k$i: $i"; done; }
+keys 90 > build/few.yay
+keys 1400 > build/some.yay
+keys 2900 > build/long.yay
+(keys 2900; echo k0: 0) > build/again.yay
+(printf '['; for ((i = 0; i < 10000; i++)); do printf '1, '; done; echo '1]') > build/list.yay
+in_small_stack() { (ulimit -s 128; "$yay" check -q "build/$1.yay" 2> /dev/null; echo $?); }
+for name in few some long list; do expect "the document $name in a stack of 128 KB" 0 "$(in_small_stack $name)"; done
+expect 'a repeated key in a stack of 128 KB' 1 "$(in_small_stack again)"
 
 # Closed and full outputs. What was refused before or behind them is not lost.
 expect 'a reader that stops early' 'object of 7 pairs' "$("$yay" show examples/tablet.yay 2>&1 | head -1)"

@@ -12,5 +12,5 @@ pub mod shapes;
 pub mod shrink;
 pub mod small;
 
-pub use grow::{grow, Grown};
+pub use grow::{grow, grow_wide, Grown};
 pub use rng::Rng;

@@ -1,28 +1,23 @@
 -- HOW THE ANSWER FOLLOWS, where the rows and the text of the document's tree stand in rooms of our own. Assumes nothing.
 use mathlib.Core.Path.{_≡_, refl, sym, ap, subst, _∙_}
-use mathlib.Core.List.{List, _++_}
+use mathlib.Core.List.{List}
 use Prim.Native.Nat.{ℕ, _+_, _*_, _≤_, _<_}
-use native.Mathlib.Nat.{zero-add}
 use native.Mathlib.Numerals.{add-one}
 use native.Mathlib.Omega.{arith}
-use lib.ListN.{length, take, drop, getD, set}
-use lib.Seq.{sets, slice, slice-cons, slice-empty, sets-eq, take-at}
+use lib.ListN.{length, take, getD, set}
+use lib.Seq.{sets, slice, slice-cons, slice-empty, take-at}
 use Rattle.rooms.specs.Forest.{length-rows}
-use Rattle.language.specs.Tree.{Tree, width, size, textOf, rowsOf, Repeats}
+use Rattle.language.specs.Tree.{Tree, width, size, textOf, rowsOf}
 use Rattle.language.specs.Document.{Document}
-use Rattle.language.specs.Answered.{limit, deepest, REPEAT, ROWS, TEXT, Reads, Answered, accepted, repeated, rows, bytes}
+use Rattle.language.specs.Answered.{limit, deepest, REPEAT, ROWS, TEXT, Answered}
 use Rattle.spans.specs.Document.{few-rows, document-sound}
 use Rattle.repeats.specs.declared.Repeat.{Repeat}
 use Rattle.repeats.specs.declared.Repeat.the-variants.{At, Nowhere}
 use Rattle.repeats.specs.Listed.{Stands}
-use Rattle.repeats.specs.Chains.{Table}
+use Rattle.repeats.specs.Chains.{Table, most-rows}
 use Rattle.repeats.specs.Twice.{FirstRepeat}
-use Rattle.repeats.specs.Later.{Names, LeastOf}
 use Rattle.repeats.specs.Told.{tree-table, told}
-
--- a run stored at the start of a room
-stored : (l vs : List ℕ) → length vs ≤ length l → sets l 0 vs ≡ vs ++ drop (length vs) l
-stored l vs h = sets-eq vs l 0 (omega arith) ∙ ap (λ (k : ℕ). vs ++ drop k l) (zero-add (length vs))
+use Rattle.answers.specs.Counted.{Counted, counted-repeat, counted-rows, counted-bytes, counted-all}
 
 -- a turn of the loop that copies words, and its end
 module _ (goal l w : List ℕ) (i n : ℕ) (inv : goal ≡ sets l i (slice i n w)) where
@@ -40,6 +35,7 @@ pub record Held (doc R T : List ℕ) (n m : ℕ) : Type 0 where
   pub row : n ≡ size tree
   pub text-count : m ≡ length (textOf tree)
   pub few : width * n ≤ length R
+  pub linked : n ≤ most-rows
   pub fits : m ≤ length T
   pub small : n + m ≤ 2 * limit
   pub table-is : Stands R 0 (rowsOf 0 0 0 tree)
@@ -64,32 +60,27 @@ held-table doc R T n m f =
     subst (Table R T) (sym (f .row)) (tree-table R T (f .tree) (document-sound deepest doc (f .tree) (f .word)) (f .table-is) (f .text-is) (few-held f))
 
 module _ (doc R T : List ℕ) (n m : ℕ) (f : Held doc R T n m) (a : Repeat) (h : FirstRepeat R T n a) (table text : List ℕ) where
-  names : Names (λ p. Repeats p (f .tree)) a
-  names =
-      told R T (f .tree) (document-sound deepest doc (f .tree) (f .word)) (f .table-is) (f .text-is) a (subst (λ (i : ℕ). FirstRepeat R T i a) (f .row) h)
+  counted : Counted doc n m a
+  counted =
+      record {
+        tree = f .tree;
+        short = f .short;
+        word = f .word;
+        row = f .row;
+        text-count = f .text-count;
+        names = told R T (f .tree) (document-sound deepest doc (f .tree) (f .word)) (f .table-is) (f .text-is) a (subst (λ (i : ℕ). FirstRepeat R T i a) (f .row) h);
+      }
 
   pub answer-repeat : (p : ℕ) → a ≡ At p → Answered doc table text REPEAT p 0 table text
-  answer-repeat p e =
-      let x : LeastOf (λ q. Repeats q (f .tree)) p = subst (Names (λ q. Repeats q (f .tree))) e names in
-      repeated (f .tree) p (f .short) (f .word) (x .is) (x .least)
-
-  reads : a ≡ Nowhere → Reads doc (f .tree)
-  reads e = record { short = f .short; word = f .word; once = subst (Names (λ q. Repeats q (f .tree))) e names }
+  answer-repeat = counted-repeat counted table text
 
   pub answer-rows : a ≡ Nowhere → length table < width * n → Answered doc table text ROWS n 0 table text
-  answer-rows e l = subst (λ (i : ℕ). Answered doc table text ROWS i 0 table text) (sym (f .row)) (rows (f .tree) (reads e) (omega (arith, f .row)))
+  answer-rows = counted-rows counted table text
 
   pub answer-bytes : a ≡ Nowhere → width * n ≤ length table → length text < m → Answered doc table text TEXT m 0 table text
-  answer-bytes e l k =
-      subst (λ (i : ℕ). Answered doc table text TEXT i 0 table text) (sym (f .text-count))
-      (bytes (f .tree) (reads e) (omega (arith, f .row)) (omega (arith, f .text-count)))
+  answer-bytes = counted-bytes counted table text
 
   pub answer-all : a ≡ Nowhere → width * n ≤ length table → m ≤ length text → (table' text' : List ℕ) → table' ≡ sets table 0 (slice 0 (width * n) R)
       → text' ≡ sets text 0 (slice 0 m T) → Answered doc table text 0 n m table' text'
-  answer-all e l k table' text' x y =
-      let t = f .tree in
-      let j = length-rows 0 0 0 t in
-      let p : table' ≡ rowsOf 0 0 0 t ++ drop (width * size t) table =
-      x ∙ (ap (sets table 0) (table-held f) ∙ (stored table (rowsOf 0 0 0 t) (omega (arith, f .row)) ∙ ap (λ (i : ℕ). rowsOf 0 0 0 t ++ drop i table) j)) in
-      let q : text' ≡ textOf t ++ drop (length (textOf t)) text = y ∙ (ap (sets text 0) (text-held f) ∙ stored text (textOf t) (omega (arith, f .text-count))) in
-      rw (p, q, f .row, f .text-count) (accepted t (reads e) (omega (arith, f .row)) (omega (arith, f .text-count)))
+  unfolding counted
+  answer-all e l k table' text' x y = counted-all counted table text e l k table' text' (x ∙ ap (sets table 0) (table-held f)) (y ∙ ap (sets text 0) (text-held f))

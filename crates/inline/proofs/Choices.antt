@@ -1,5 +1,5 @@
 -- Which reader the first byte chooses: of a scalar, of a value inside brackets, and of a value on a line.
-use mathlib.Core.Path.{_≡_, refl, sym, ap, _∙_}
+use mathlib.Core.Path.{_≡_, refl, sym, ap, subst, _∙_}
 use mathlib.Core.List.{List, [], _∷_, _++_}
 use mathlib.Core.Logic.{_⊎_, inl, inr, ⊎-elim}
 use mathlib.Core.Bool.{Bool, true, false}
@@ -80,61 +80,61 @@ first-reads doc at c d r q n x y e = alt-peek doc at c n r q ∙ go (is c (peek 
 second-reads : {X : Type 0} (doc : List ℕ) (at : ℕ) (c : Class) (r q : Reader X) → is c 256 ≡ false → is c (peek doc at) ≡ false → altR (is c) r q at (drop at doc) ≡ q at (drop at doc)
 second-reads doc at c r q n e = alt-peek doc at c n r q ∙ rw e refl
 
--- ---- THE CHOICES, as `search` takes them, by the byte b at the cursor
+-- ---- THE CHOICES by the byte b at a place: what is shown of an answer of the reader chosen holds of the answer of the choice
 
-module _ (doc : List ℕ) (c : Cursor) (p : ℕ) (a : Ans) (R R' T T' : List ℕ) (b : ℕ) (h : b ≡ peek doc (c .at)) where
-  abbrev Via : Reader Tree → Type 0
-  Via r = Answers doc c p (r (c .at) (drop (c .at) doc)) a R R' T T'
+module _ (P : Out Tree → Type 0) (doc : List ℕ) (at b : ℕ) (h : b ≡ peek doc at) where
+  abbrev pub Via : Reader Tree → Type 0
+  Via r = P (r at (drop at doc))
 
   -- one reader in place of another
-  via : {o o′ : Out Tree} → o ≡ o′ → Answers doc c p o′ a R R' T T' → Answers doc c p o a R R' T T'
-  via e x = rw e x
+  via : {o o′ : Out Tree} → o ≡ o′ → P o′ → P o
+  via e x = subst P (sym e) x
 
-  seen : (x : ℕ) (d : Class) → b ≡ x → is d (peek doc (c .at)) ≡ is d x
+  seen : (x : ℕ) (d : Class) → b ≡ x → is d (peek doc at) ≡ is d x
   seen x d e = ap (is d) (sym h ∙ e)
 
-  string-reads : is plainFirst (peek doc (c .at)) ≡ false → is (stringS .first) (peek doc (c .at)) ≡ true → Via stringR → Via (scalarR false)
+  string-reads : is plainFirst (peek doc at) ≡ false → is (stringS .first) (peek doc at) ≡ true → Via stringR → Via (scalarR false)
   unfolding scalarR quotesR
   string-reads e f x =
-      via (second-reads doc (c .at) plainFirst (plainR false) _ refl e ∙ (alt-peek doc (c .at) (stringS .first) refl stringR inlineBytesR ∙ rw f refl)) x
+      via (second-reads doc at plainFirst (plainR false) _ refl e ∙ (alt-peek doc at (stringS .first) refl stringR inlineBytesR ∙ rw f refl)) x
 
-  pub via-string : (b ≡ 34) ⊎ (b ≡ 39) → Via stringR → Via (scalarR false)
-  via-string (inl e) x = string-reads (seen 34 plainFirst e) (seen 34 (stringS .first) e) x
-  via-string (inr e) x = string-reads (seen 39 plainFirst e) (seen 39 (stringS .first) e) x
+  pub chosen-string : (b ≡ 34) ⊎ (b ≡ 39) → Via stringR → Via (scalarR false)
+  chosen-string (inl e) x = string-reads (seen 34 plainFirst e) (seen 34 (stringS .first) e) x
+  chosen-string (inr e) x = string-reads (seen 39 plainFirst e) (seen 39 (stringS .first) e) x
 
-  pub via-bytes : b ≡ 60 → Via inlineBytesR → Via (scalarR false)
+  pub chosen-bytes : b ≡ 60 → Via inlineBytesR → Via (scalarR false)
   unfolding scalarR quotesR
-  via-bytes e x =
-      via (second-reads doc (c .at) plainFirst (plainR false) _ refl (seen 60 plainFirst e) ∙ second-reads doc (c .at) (stringS .first) stringR inlineBytesR refl (seen 60 (stringS .first) e)) x
+  chosen-bytes e x =
+      via (second-reads doc at plainFirst (plainR false) _ refl (seen 60 plainFirst e) ∙ second-reads doc at (stringS .first) stringR inlineBytesR refl (seen 60 (stringS .first) e)) x
 
-  pub via-plain : ((b ≡ 34) ⊎ (b ≡ 39) → ⊥) → (b ≡ 60 → ⊥) → Via (plainR false) → Via (scalarR false)
+  pub chosen-plain : ((b ≡ 34) ⊎ (b ≡ 39) → ⊥) → (b ≡ 60 → ⊥) → Via (plainR false) → Via (scalarR false)
   unfolding scalarR
-  via-plain k m x =
+  chosen-plain k m x =
       via
-      (first-reads doc (c .at) plainFirst (quotesS .first) (plainR false) quotesR refl (plain-shuts false) (ll-shuts refl quotes-ll)
-      (none-of-three 34 39 60 (peek doc (c .at)) (λ e. k (inl (h ∙ e))) (λ e. k (inr (h ∙ e))) (λ e. m (h ∙ e))))
+      (first-reads doc at plainFirst (quotesS .first) (plainR false) quotesR refl (plain-shuts false) (ll-shuts refl quotes-ll)
+      (none-of-three 34 39 60 (peek doc at) (λ e. k (inl (h ∙ e))) (λ e. k (inr (h ∙ e))) (λ e. m (h ∙ e))))
       x
 
   -- a value
   module _ (k : ℕ) where
-    pub via-scalar : (b ≡ 91 → ⊥) → (b ≡ 123 → ⊥) → Via (scalarR false) → Via (valueR false k)
+    pub chosen-scalar : (b ≡ 91 → ⊥) → (b ≡ 123 → ⊥) → Via (scalarR false) → Via (valueR false k)
     unfolding valueR
-    via-scalar l m x = go k
+    chosen-scalar l m x = go k
       where
         go : (k : ℕ) → Via (valueR false k)
         go zero = x
         go (suc k) =
             via
-            (first-reads doc (c .at) scalarFirst openings (scalarR false) (containerR (valueR false k)) refl (scalar-shuts false) (ll-shuts refl (container-ll (value-ll k)))
-            (none-of-two 91 123 (peek doc (c .at)) (λ e. l (h ∙ e)) (λ e. m (h ∙ e))))
+            (first-reads doc at scalarFirst openings (scalarR false) (containerR (valueR false k)) refl (scalar-shuts false) (ll-shuts refl (container-ll (value-ll k)))
+            (none-of-two 91 123 (peek doc at) (λ e. l (h ∙ e)) (λ e. m (h ∙ e))))
             x
 
-    pub via-digits : 48 ≤ b → b < 58 → Via (plainR false) → Via (valueR false k)
-    via-digits l m x =
-        via-scalar (λ e. omega arith) (λ e. omega arith) (via-plain (λ e. ⊎-elim (λ z. omega arith) (λ z. omega arith) e) (λ e. omega arith) x)
+    pub chosen-digits : 48 ≤ b → b < 58 → Via (plainR false) → Via (valueR false k)
+    chosen-digits l m x =
+        chosen-scalar (λ e. omega arith) (λ e. omega arith) (chosen-plain (λ e. ⊎-elim (λ z. omega arith) (λ z. omega arith) e) (λ e. omega arith) x)
 
-    container-reads : (o : Bool) → (k ≡ 0 → ⊥) → is scalarFirst (peek doc (c .at)) ≡ false
-        → ((r : Reader Tree) → containerR r (c .at) (drop (c .at) doc) ≡ bracketR o r (c .at) (drop (c .at) doc)) → Via (bracketR o (valueR false (k - 1))) → Via (valueR false k)
+    container-reads : (o : Bool) → (k ≡ 0 → ⊥) → is scalarFirst (peek doc at) ≡ false
+        → ((r : Reader Tree) → containerR r at (drop at doc) ≡ bracketR o r at (drop at doc)) → Via (bracketR o (valueR false (k - 1))) → Via (valueR false k)
     unfolding valueR
     container-reads o z e f x = go k z x
       where
@@ -142,27 +142,60 @@ module _ (doc : List ℕ) (c : Cursor) (p : ℕ) (a : Ans) (R R' T T' : List ℕ
         go zero z x = absurd (z refl)
         go (suc k) z x =
             let j : suc k - 1 ≡ k = omega arith in
-            via (second-reads doc (c .at) scalarFirst (scalarR false) (containerR (valueR false k)) refl e ∙ f (valueR false k)) (rw j at x)
+            via (second-reads doc at scalarFirst (scalarR false) (containerR (valueR false k)) refl e ∙ f (valueR false k)) (rw j at x)
 
-    pub via-array : b ≡ 91 → (k ≡ 0 → ⊥) → Via (bracketR false (valueR false (k - 1))) → Via (valueR false k)
+    pub chosen-array : b ≡ 91 → (k ≡ 0 → ⊥) → Via (bracketR false (valueR false (k - 1))) → Via (valueR false k)
     unfolding containerR
-    via-array e z x = container-reads false z (seen 91 scalarFirst e) reads x
+    chosen-array e z x = container-reads false z (seen 91 scalarFirst e) reads x
       where
-        reads : (r : Reader Tree) → containerR r (c .at) (drop (c .at) doc) ≡ bracketR false r (c .at) (drop (c .at) doc)
-        reads r = alt-peek doc (c .at) (only 91) refl (inlineArrayR r) (inlineObjectR r) ∙ rw (seen 91 (only 91) e, array-bracket r) refl
+        reads : (r : Reader Tree) → containerR r at (drop at doc) ≡ bracketR false r at (drop at doc)
+        reads r = alt-peek doc at (only 91) refl (inlineArrayR r) (inlineObjectR r) ∙ rw (seen 91 (only 91) e, array-bracket r) refl
 
-    pub via-object : b ≡ 123 → (k ≡ 0 → ⊥) → Via (bracketR true (valueR false (k - 1))) → Via (valueR false k)
+    pub chosen-object : b ≡ 123 → (k ≡ 0 → ⊥) → Via (bracketR true (valueR false (k - 1))) → Via (valueR false k)
     unfolding containerR
-    via-object e z x = container-reads true z (seen 123 scalarFirst e) reads x
+    chosen-object e z x = container-reads true z (seen 123 scalarFirst e) reads x
       where
-        reads : (r : Reader Tree) → containerR r (c .at) (drop (c .at) doc) ≡ bracketR true r (c .at) (drop (c .at) doc)
-        reads r = alt-peek doc (c .at) (only 91) refl (inlineArrayR r) (inlineObjectR r) ∙ rw (seen 123 (only 91) e, object-bracket r) refl
+        reads : (r : Reader Tree) → containerR r at (drop at doc) ≡ bracketR true r at (drop at doc)
+        reads r = alt-peek doc at (only 91) refl (inlineArrayR r) (inlineObjectR r) ∙ rw (seen 123 (only 91) e, object-bracket r) refl
 
 -- no container is allowed
-pub via-deep : (doc : List ℕ) (c : Cursor) (p : ℕ) (a : Ans) (R R' T T' : List ℕ) (k : ℕ) → k ≡ 0 → Answers doc c p (scalarR false (c .at) (drop (c .at) doc)) a R R' T T'
-    → Answers doc c p (valueR false k (c .at) (drop (c .at) doc)) a R R' T T'
+pub chosen-deep : (P : Out Tree → Type 0) (doc : List ℕ) (at k : ℕ) → k ≡ 0 → P (scalarR false at (drop at doc)) → P (valueR false k at (drop at doc))
 unfolding valueR
-via-deep doc c p a R R' T T' k z x = rw z x
+chosen-deep P doc at k z x = rw z x
+
+-- ---- .. as `search` takes them
+
+module _ (doc : List ℕ) (c : Cursor) (p : ℕ) (a : Ans) (R R' T T' : List ℕ) where
+  abbrev Answered : Out Tree → Type 0
+  Answered o = Answers doc c p o a R R' T T'
+
+  abbrev By : Reader Tree → Type 0
+  By r = Answered (r (c .at) (drop (c .at) doc))
+
+  pub via-deep : (k : ℕ) → k ≡ 0 → By (scalarR false) → By (valueR false k)
+  via-deep = chosen-deep Answered doc (c .at)
+
+  module _ (b : ℕ) (h : b ≡ peek doc (c .at)) where
+    pub via-string : (b ≡ 34) ⊎ (b ≡ 39) → By stringR → By (scalarR false)
+    via-string = chosen-string Answered doc (c .at) b h
+
+    pub via-bytes : b ≡ 60 → By inlineBytesR → By (scalarR false)
+    via-bytes = chosen-bytes Answered doc (c .at) b h
+
+    pub via-plain : ((b ≡ 34) ⊎ (b ≡ 39) → ⊥) → (b ≡ 60 → ⊥) → By (plainR false) → By (scalarR false)
+    via-plain = chosen-plain Answered doc (c .at) b h
+
+    pub via-scalar : (k : ℕ) → (b ≡ 91 → ⊥) → (b ≡ 123 → ⊥) → By (scalarR false) → By (valueR false k)
+    via-scalar = chosen-scalar Answered doc (c .at) b h
+
+    pub via-digits : (k : ℕ) → 48 ≤ b → b < 58 → By (plainR false) → By (valueR false k)
+    via-digits = chosen-digits Answered doc (c .at) b h
+
+    pub via-array : (k : ℕ) → b ≡ 91 → (k ≡ 0 → ⊥) → By (bracketR false (valueR false (k - 1))) → By (valueR false k)
+    via-array = chosen-array Answered doc (c .at) b h
+
+    pub via-object : (k : ℕ) → b ≡ 123 → (k ≡ 0 → ⊥) → By (bracketR true (valueR false (k - 1))) → By (valueR false k)
+    via-object = chosen-object Answered doc (c .at) b h
 
 -- ---- on a line: only keywords and numbers are read otherwise
 
@@ -173,7 +206,7 @@ is-left c d b e = go (is c b) refl
     go true z = absurd (clash (left c d b z) e)
     go false z = refl
 
-not-plain : (b : ℕ) → is marks b ≡ true → is plainFirst b ≡ false
+pub not-plain : (b : ℕ) → is marks b ≡ true → is plainFirst b ≡ false
 not-plain b e = go (is plainFirst b) refl
   where
     go : (y : Bool) → is plainFirst b ≡ y → y ≡ false
@@ -185,7 +218,7 @@ module _ (doc : List ℕ) (at : ℕ) where
   unfolding scalarR
   scalar-alike e = second-reads doc at plainFirst (plainR true) quotesR refl e ∙ sym (second-reads doc at plainFirst (plainR false) quotesR refl e)
 
-  value-alike : (k : ℕ) → is plainFirst (peek doc at) ≡ false → valueR true k at (drop at doc) ≡ valueR false k at (drop at doc)
+  pub value-alike : (k : ℕ) → is plainFirst (peek doc at) ≡ false → valueR true k at (drop at doc) ≡ valueR false k at (drop at doc)
   unfolding valueR
   value-alike zero e = scalar-alike e
   value-alike (suc k) e =
@@ -197,7 +230,7 @@ module _ (doc : List ℕ) (at : ℕ) where
   unfolding scalarR
   plain-reads e = first-reads doc at plainFirst (quotesS .first) (plainR true) quotesR refl (plain-shuts true) (ll-shuts refl quotes-ll) e
 
-  line-reads : (k : ℕ) → is marks (peek doc at) ≡ false → valueR true k at (drop at doc) ≡ plainR true at (drop at doc)
+  pub line-reads : (k : ℕ) → is marks (peek doc at) ≡ false → valueR true k at (drop at doc) ≡ plainR true at (drop at doc)
   unfolding valueR
   line-reads zero e = plain-reads (is-left (quotesS .first) openings (peek doc at) e)
   line-reads (suc k) e =

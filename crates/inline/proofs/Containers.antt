@@ -23,7 +23,8 @@ use Rattle.rooms.specs.Laws
 use Rattle.inline.specs.declared.Sep.{Sep}
 use Rattle.inline.specs.declared.Sep.the-variants.{More, Last, Bad}
 use Rattle.inline.specs.Lists.{listedR}
-use Rattle.inline.specs.Brackets.{opens, closes, kindOf, Member, children, memberR, enclosed, bracketR, closes-small, opens-small, children-none, count-then}
+use Rattle.notes.specs.Notes.{Notes}
+use Rattle.inline.specs.Brackets.{opens, closes, kindOf, Member, children, members, memberR, enclosed, bracketR, closes-small, opens-small, children-none, count-then}
 use Rattle.inline.specs.Written.{Written, written-none, node-span, node-filled}
 use Rattle.inline.specs.Contract.{Enclosed, Closed, within, Opened, Goes, Ends, Stops, Turned}
 use Rattle.inline.proofs.Listing.{Loop, loop-start, written-more, loop-more, loop-last, loop-stops}
@@ -57,11 +58,11 @@ module _ (o : Bool) (r : Reader Tree) (doc : List ℕ) (at y : ℕ) (h : peek do
 -- ---- behind the bracket
 
 module _ (doc : List ℕ) (c d : Cursor) (x : ℕ) (b : Ans) (op : Opened doc c x b) (e : b ≡ Ok d) where
-  inner-is : d ≡ within c
+  pub inner-is : d ≡ within c
   unfolding Opened
   inner-is = (rw e at op) .0
 
-  opened-at : x ≡ peek doc (c .at)
+  pub opened-at : x ≡ peek doc (c .at)
   unfolding Opened
   opened-at = (rw e at op) .1
 
@@ -115,19 +116,19 @@ module _ (o : Bool) (r : Reader Tree) (doc : List ℕ) (c : Cursor) (p : ℕ) (R
             filled = node-filled doc c (within c) n p (kindOf o) 0 (children o []) R R R' T T (omega arith) refl refl w (x .table);
           }))
 
-    pub loop-first : (q : ℕ) → Ready doc c → k ≡ No q → Loop o r doc c R T R T d 0
-    loop-first q f z =
-        rw inner (loop-start o r doc c R T f bracketed (λ y. Laws.take-other doc d (closes o) k t q z (ap (λ (m : Cursor). peek doc (m .at)) inner ∙ y)))
+    pub loop-first : (S : List ℕ) (q : ℕ) → Ready doc c → k ≡ No q → Loop o r doc c R T S R T S d 0
+    loop-first S q f z =
+        rw inner (loop-start o r doc c R T S f bracketed (λ y. Laws.take-other doc d (closes o) k t q z (ap (λ (m : Cursor). peek doc (m .at)) inner ∙ y)))
 
 -- ---- the loop
 
-module _ (o : Bool) (r : Reader Tree) (doc : List ℕ) (c : Cursor) (R0 T0 R T R' T' : List ℕ) (cur : Cursor) (cnt : ℕ) where
-  module _ (l : Loop o r doc c R0 T0 R T cur cnt) (a : Sep) (e : Turned o (closes o) doc cur (c .row) (memberR o r) a R R' T T') where
+module _ (o : Bool) (r : Reader Tree) (doc : List ℕ) (c : Cursor) (R0 T0 S0 R T S R' T' : List ℕ) (cur : Cursor) (cnt : ℕ) where
+  module _ (l : Loop o r doc c R0 T0 S0 R T S cur cnt) (a : Sep) (e : Turned o (closes o) doc cur (c .row) (memberR o r) a R R' T T') where
     goes-of : (n : Cursor) → a ≡ More n → Goes o doc cur (c .row) (memberR o r) n R R' T T'
     unfolding Turned
     goes-of n h = rw h at e
 
-    ends-of : (n : Cursor) → a ≡ Last n → Ends o (closes o) doc cur (c .row) (memberR o r) n R R' T T'
+    pub ends-of : (n : Cursor) → a ≡ Last n → Ends o (closes o) doc cur (c .row) (memberR o r) n R R' T T'
     unfolding Turned
     ends-of n h = rw h at e
 
@@ -135,8 +136,9 @@ module _ (o : Bool) (r : Reader Tree) (doc : List ℕ) (c : Cursor) (R0 T0 R T R
     unfolding Turned
     stops-of q h = rw h at e
 
-    pub loop-again : (n : Cursor) → a ≡ More n → Loop o r doc c R0 T0 R' T' n (cnt + 1)
-    loop-again n h = loop-more o r doc c R0 T0 R T R' T' cur n cnt l (goes-of n h)
+    pub loop-again : (S' : List ℕ) (n : Cursor) → a ≡ More n → Notes (members o) doc (cur .at) (cur .row) (c .row) (memberR o r (cur .at) (drop (cur .at) doc)) S S'
+        → Loop o r doc c R0 T0 S0 R' T' S' n (cnt + 1)
+    loop-again S' n h x = loop-more o r doc c R0 T0 S0 R T S R' T' cur n cnt l S' (goes-of n h) x
 
     pub loop-falls : (n : Cursor) → a ≡ More n → length doc - n .at < length doc - cur .at
     loop-falls n h = let q = goes-of n h in omega (arith, q .read .ahead, q .to, q .read .written .inside)
@@ -144,7 +146,7 @@ module _ (o : Bool) (r : Reader Tree) (doc : List ℕ) (c : Cursor) (R0 T0 R T R
     pub last-fits : (n : Cursor) → a ≡ Last n → Enclosed c n (cnt + 1)
     last-fits n h =
         let d = l .from in
-        let w = written-more o r doc c R0 T0 R T R' T' cur n cnt l (ends-of n h .read) in
+        let w = written-more o r doc c R0 T0 S0 R T S R' T' cur n cnt l (ends-of n h .read) in
         record {
           first-fits = omega (arith, d .small, d .inside);
           after-fits = omega (arith, d .small, w .inside);
@@ -153,26 +155,34 @@ module _ (o : Bool) (r : Reader Tree) (doc : List ℕ) (c : Cursor) (R0 T0 R T R
           next-fits = omega (arith, d .small, d .fewRows, w .row, w .fewRows, w .inside);
         }
 
-    module _ (p : ℕ) where
-      listed : bracketR o r (c .at) (drop (c .at) doc) ≡ bind (listR (closes o) (memberR o r) (c .at + 1) (drop (c .at + 1) doc)) (λ ms e. retR (enclosed o (c .at) e ms) e)
-      listed = bracket-list o r doc (c .at) (peek doc (c .at + 1)) (l .opened) refl (l .listed)
+    listed : bracketR o r (c .at) (drop (c .at) doc) ≡ bind (listR (closes o) (memberR o r) (c .at + 1) (drop (c .at + 1) doc)) (λ ms e. retR (enclosed o (c .at) e ms) e)
+    listed = bracket-list o r doc (c .at) (peek doc (c .at + 1)) (l .opened) refl (l .listed)
 
+    pub bad-is : (q : ℕ) → a ≡ Bad q → bracketR o r (c .at) (drop (c .at) doc) ≡ bad q
+    bad-is q k =
+        listed ∙ ap (λ (u : Out (List (Member o))). bind u (λ ms e. retR (enclosed o (c .at) e ms) e)) (loop-stops o r doc c R0 T0 S0 R T S R' T' cur cur cnt l q (stops-of q k))
+
+    pub last-is : (n : Cursor) (k : a ≡ Last n)
+        → bracketR o r (c .at) (drop (c .at) doc) ≡ ok (enclosed o (c .at) (n .at) (l .done ++ ends-of n k .read .member ∷ [])) (n .at) (drop (n .at) doc)
+    last-is n k =
+        listed
+        ∙ ap (λ (u : Out (List (Member o))). bind u (λ ms e. retR (enclosed o (c .at) e ms) e)) (loop-last o r doc c R0 T0 S0 R T S R' T' cur n cnt l (ends-of n k))
+
+    module _ (p : ℕ) where
       pub container-bad : (q : ℕ) → a ≡ Bad q → Answers doc c p (bracketR o r (c .at) (drop (c .at) doc)) (No q) R0 R' T0 T'
-      container-bad q k =
-          Laws.refused doc c p _ R0 R' T0 T' q
-          (listed ∙ ap (λ (u : Out (List (Member o))). bind u (λ ms e. retR (enclosed o (c .at) e ms) e)) (loop-stops o r doc c R0 T0 R T R' T' cur cur cnt l q (stops-of q k)))
+      container-bad q k = Laws.refused doc c p _ R0 R' T0 T' q (bad-is q k)
 
       pub container-last : (n : Cursor) (s : Ans) (R'' : List ℕ) → a ≡ Last n → Closed c n p (cnt + 1) (kindOf o) s R' R'' → Answers doc c p (bracketR o r (c .at) (drop (c .at) doc)) s R0 R'' T0 T'
       container-last n s R'' k x =
           let z = ends-of n k in
           let ms = l .done ++ z .read .member ∷ [] in
-          let w = written-more o r doc c R0 T0 R T R' T' cur n cnt l (z .read) in
+          let w = written-more o r doc c R0 T0 S0 R T S R' T' cur n cnt l (z .read) in
           let t : cnt + 1 ≡ count ms = omega (arith, count-then (l .done) (z .read .member), l .counted) in
           rw (x .answer)
           (Laws.took doc c p _ R0 R'' T0 T' n
           (record {
             tree = enclosed o (c .at) (n .at) ms;
-            is = listed ∙ ap (λ (u : Out (List (Member o))). bind u (λ ms e. retR (enclosed o (c .at) e ms) e)) (loop-last o r doc c R0 T0 R T R' T' cur n cnt l z);
+            is = last-is n k;
             span = node-span doc c (within c) n p (kindOf o) (count ms) (children o ms) R0 R' R'' T0 T' (omega arith) refl refl w;
             filled = node-filled doc c (within c) n p (kindOf o) (count ms) (children o ms) R0 R' R'' T0 T' (omega arith) refl refl w (rw (← t) (x .table));
           }))

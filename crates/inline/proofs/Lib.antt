@@ -4,3 +4,5 @@ pub mod Members
 pub mod Listing
 pub mod Containers
 pub mod Choices
+pub mod Bared
+pub mod Noting

@@ -1,11 +1,11 @@
--- The loop over the members of a container: its invariant, its start, a turn, and its ways out.
+-- The loop over the members of a container: its invariant, its start, a turn with the keys that it notes, and its ways out.
 use mathlib.Core.Path.{_≡_, refl, sym, ap, _∙_}
 use mathlib.Core.List.{List, [], _∷_, _++_}
 use mathlib.Core.Bool.{Bool}
 use Prim.Native.Nat.{ℕ, _+_, _≤_, _<_}
 use native.Mathlib.Omega.{arith}
 use lib.ListN.{length, drop}
-use Rattle.language.specs.Tree.{Tree, count}
+use Rattle.language.specs.Tree.{Tree, forest, count}
 use Rattle.exact.specs.Class.{is}
 use Rattle.exact.specs.Out.{Reader, fmap, ok, bad}
 use Rattle.exact.specs.Answers.{fmap-none, fmap-join}
@@ -13,12 +13,14 @@ use Rattle.exact.specs.Place.{peek, peek-in, listR, listN, bounded, list-more, 
 use Rattle.rooms.specs.declared.Cursor.{Cursor}
 use Rattle.rooms.specs.Contract.{Ready}
 use Rattle.rooms.specs.Laws
-use Rattle.inline.specs.Brackets.{opens, closes, Member, children, memberR, closes-small, closes-other, opens-small, children-none, children-append, count-then}
+use Rattle.notes.specs.Flat.{flats}
+use Rattle.notes.specs.Notes.{Kept, Notes, kept-none, kept-wide, kept-trees, kept-known}
+use Rattle.inline.specs.Brackets.{opens, closes, Member, children, members, memberR, closes-small, closes-other, opens-small, children-none, children-append, count-then}
 use Rattle.inline.specs.Written.{Written, written-none, written-append}
 use Rattle.inline.specs.Contract.{within, Fails, no-first, no-second, Read, Goes, Ends, Stops, no-member, no-part}
 
--- At the loop's head: `done` has been read and written, and what is left is read from the cursor, with a bound that is enough for it.
-pub record Loop (o : Bool) (r : Reader Tree) (doc : List ℕ) (c : Cursor) (R₀ T₀ R T : List ℕ) (cur : Cursor) (cnt : ℕ) : Type 0 where
+-- At the loop's head: `done` has been read and written, its keys are noted, and what is left is read from the cursor, with a bound that is enough for it.
+pub record Loop (o : Bool) (r : Reader Tree) (doc : List ℕ) (c : Cursor) (R₀ T₀ S₀ R T S : List ℕ) (cur : Cursor) (cnt : ℕ) : Type 0 where
   pub from : Ready doc c
   pub opened : peek doc (c .at) ≡ opens o
   pub listed : peek doc (c .at + 1) ≡ closes o → ⊥
@@ -29,11 +31,16 @@ pub record Loop (o : Bool) (r : Reader Tree) (doc : List ℕ) (c : Cursor) (R₀
   pub enough : (m : Member o) (a : ℕ) → memberR o r (cur .at) (drop (cur .at) doc) ≡ ok m a (drop a doc) → cur .at ≤ a → length doc ≤ bound + a
   pub counted : cnt ≡ count done
   pub written : Written doc (within c) cur (c .row) (children o done) R₀ R T₀ T
+  pub kept : Kept doc (c .at + 1) (flats (c .row + 1) (c .row) (forest (children o done))) (cur .at) S₀ S
   pub ready : Ready doc cur
   pub few : cnt ≤ cur .at
 
-module _ (o : Bool) (r : Reader Tree) (doc : List ℕ) (c : Cursor) (R₀ T₀ : List ℕ) where
-  pub loop-start : Ready doc c → peek doc (c .at) ≡ opens o → (peek doc (c .at + 1) ≡ closes o → ⊥) → Loop o r doc c R₀ T₀ R₀ T₀ (within c) 0
+pub none-kept : (o : Bool) (doc : List ℕ) (at a row parent : ℕ) (S : List ℕ) → at ≤ a → Kept doc at (flats row parent (forest (children o []))) a S S
+unfolding flats
+none-kept o doc at a row parent S h = rw (children-none o) (kept-none doc at a S h)
+
+module _ (o : Bool) (r : Reader Tree) (doc : List ℕ) (c : Cursor) (R₀ T₀ S₀ : List ℕ) where
+  pub loop-start : Ready doc c → peek doc (c .at) ≡ opens o → (peek doc (c .at + 1) ≡ closes o → ⊥) → Loop o r doc c R₀ T₀ S₀ R₀ T₀ S₀ (within c) 0
   loop-start d h z =
       let b = bounded (closes o) (memberR o r) doc (c .at + 1) in
       let i = peek-in doc (c .at) (opens o) (sym h) (opens-small o) in
@@ -47,22 +54,33 @@ module _ (o : Bool) (r : Reader Tree) (doc : List ℕ) (c : Cursor) (R₀ T₀ :
         enough = λ m a e l. b .enough m a e;
         counted = refl;
         written = rw (children-none o) (written-none doc (within c) (within c) (c .row) R₀ T₀ (omega arith) (omega arith) refl refl);
+        kept = none-kept o doc (c .at + 1) (c .at + 1) (c .row + 1) (c .row) S₀ (omega arith);
         ready = record { small = d .small; inside = omega arith; fewRows = omega (arith, d .fewRows); fewText = omega (arith, d .fewText) };
         few = omega arith;
       }
 
-  enough-for : {R T : List ℕ} {cur : Cursor} {cnt : ℕ} (l : Loop o r doc c R₀ T₀ R T cur cnt) (m : Member o) (a : ℕ) → memberR o r (cur .at) (drop (cur .at) doc) ≡ ok m a (drop a doc)
+  enough-for : {R T S : List ℕ} {cur : Cursor} {cnt : ℕ} (l : Loop o r doc c R₀ T₀ S₀ R T S cur cnt) (m : Member o) (a : ℕ) → memberR o r (cur .at) (drop (cur .at) doc) ≡ ok m a (drop a doc)
       → cur .at < a → length doc ≤ l .bound + a
   enough-for l m a e h = l .enough m a e (omega arith)
 
-  module _ (R T R' T' : List ℕ) (cur n : Cursor) (cnt : ℕ) (l : Loop o r doc c R₀ T₀ R T cur cnt) where
+  module _ (R T S R' T' : List ℕ) (cur n : Cursor) (cnt : ℕ) (l : Loop o r doc c R₀ T₀ S₀ R T S cur cnt) where
     pub written-more : (g : Read o doc cur (c .row) (memberR o r) n R R' T T') → Written doc (within c) n (c .row) (children o (l .done ++ g .member ∷ [])) R₀ R' T₀ T'
     written-more g =
         rw (children-append o)
         (written-append doc (within c) cur n (c .row) (children o (l .done)) (children o (g .member ∷ [])) R₀ R R' T₀ T T' (l .written) (g .written))
 
-    pub loop-more : Goes o doc cur (c .row) (memberR o r) n R R' T T' → Loop o r doc c R₀ T₀ R' T' n (cnt + 1)
-    loop-more q =
+    -- the keys of one member more
+    pub kept-more : (S' : List ℕ) (g : Read o doc cur (c .row) (memberR o r) n R R' T T') → g .after ≤ n .at
+        → Notes (members o) doc (cur .at) (cur .row) (c .row) (memberR o r (cur .at) (drop (cur .at) doc)) S S'
+        → Kept doc (c .at + 1) (flats (c .row + 1) (c .row) (forest (children o (l .done ++ g .member ∷ [])))) (n .at) S₀ S'
+    kept-more S' g h x =
+        let z : cur .at ≤ cur .at = omega arith in
+        let k = kept-wide z h (kept-known x 0 (g .member) (g .after) (drop (g .after) doc) (g .is)) in
+        rw (children-append o) (kept-trees (c .row + 1) (c .row) (children o (l .done)) (children o (g .member ∷ [])) (l .kept) (rw (l .written .row) at k))
+
+    pub loop-more : (S' : List ℕ) → Goes o doc cur (c .row) (memberR o r) n R R' T T'
+        → Notes (members o) doc (cur .at) (cur .row) (c .row) (memberR o r (cur .at) (drop (cur .at) doc)) S S' → Loop o r doc c R₀ T₀ S₀ R' T' S' n (cnt + 1)
+    loop-more S' q x =
         let g = q .read in
         let w = g .written in
         let m = list-more (closes o) (closes-small o) (closes-other o) (memberR o r) doc (cur .at) (g .after) (g .member) (g .is) (l .bound) (enough-for l (g .member) (g .after) (g .is) (g .ahead)) (q .comma) (q .space) in
@@ -77,6 +95,7 @@ module _ (o : Bool) (r : Reader Tree) (doc : List ℕ) (c : Cursor) (R₀ T₀ :
           enough = λ v a e h. omega (arith, m .2, q .to);
           counted = omega (arith, l .counted);
           written = written-more g;
+          kept = kept-more S' g (omega (arith, q .to)) x;
           ready =
               record {
                 small = l .ready .small;

@@ -36,6 +36,10 @@ abbrev pub children : (o : Bool) → List (Member o) → List Tree
 children false vs = vs
 children true fs = fields fs
 
+-- the trees of one member
+abbrev pub members : (o : Bool) → Member o → List Tree
+members o m = children o (m ∷ [])
+
 abbrev pub memberR : (o : Bool) → Reader Tree → Reader (Member o)
 memberR false r = r
 memberR true r = inlinePairR r

@@ -6,9 +6,11 @@ ghost use Rattle.rooms.specs.Contract.{Ready, Answers, Reaches};
 ghost use Rattle.exact.specs.Class.{is};
 ghost use Rattle.inline.specs.Values.{marks, scalarR, valueR};
 ghost use Rattle.inline.specs.Lists.{inlinePairR};
-ghost use Rattle.inline.specs.Brackets.{labelR, bracketR};
+ghost use Rattle.inline.specs.Brackets.{members, labelR, bracketR};
+ghost use Rattle.notes.specs.Notes.{Notes, one};
 ghost use Rattle.inline.specs.Contract.{Enclosed, Closed, Opened, Passed, Parted, Turned};
 use language::Kind;
+use notes::note;
 use numbers::plain;
 use numbers::plain_inside;
 use rooms::Ans;
@@ -103,28 +105,39 @@ pub fn value(
     doc: &[u8],
     rows: &mut [u32],
     text: &mut [u8],
+    keys: &mut [u32],
     c: Cursor,
     parent: u32,
     allow: usize,
 ) -> Ans
     requires { ⌜ Ready (now doc) c ⌝ }
     ensures { λ r. ⌜ Answers (now (doc .entry)) c parent (valueR false allow (c .at) (drop (c .at) (now (doc .entry)))) r (now (rows .entry)) (now (rows .exit)) (now (text .entry)) (now (text .exit)) ⌝ }
+    ensures { λ r. ⌜ Notes one (now (doc .entry)) (c .at) (c .row) parent (valueR false allow (c .at) (drop (c .at) (now (doc .entry)))) (now (keys .entry)) (now (keys .exit)) ⌝ }
 {
     if allow == 0 {
         return scalar(&*doc, rows, text, c, parent).anew();
     }
     match c.look(&*doc) {
-        91 => array(&*doc, rows, text, c, parent, allow - 1).anew(),
-        123 => object(&*doc, rows, text, c, parent, allow - 1).anew(),
+        91 => array(&*doc, rows, text, keys, c, parent, allow - 1).anew(),
+        123 => object(&*doc, rows, text, keys, c, parent, allow - 1).anew(),
         48..=57 => plain_inside(&*doc, rows, text, c, parent).anew(),
         _ => scalar(&*doc, rows, text, c, parent).anew(),
     }
 }
 
 // An array: its elements are values with one container less allowed.
-fn array(doc: &[u8], rows: &mut [u32], text: &mut [u8], c: Cursor, parent: u32, allow: usize) -> Ans
+fn array(
+    doc: &[u8],
+    rows: &mut [u32],
+    text: &mut [u8],
+    keys: &mut [u32],
+    c: Cursor,
+    parent: u32,
+    allow: usize,
+) -> Ans
     requires { ⌜ Ready (now doc) c ⌝ }
     ensures { λ r. ⌜ Answers (now (doc .entry)) c parent (bracketR false (valueR false allow) (c .at) (drop (c .at) (now (doc .entry)))) r (now (rows .entry)) (now (rows .exit)) (now (text .entry)) (now (text .exit)) ⌝ }
+    ensures { λ r. ⌜ Notes one (now (doc .entry)) (c .at) (c .row) parent (bracketR false (valueR false allow) (c .at) (drop (c .at) (now (doc .entry)))) (now (keys .entry)) (now (keys .exit)) ⌝ }
 {
     let row = c.row;
     let mut count: usize = 0;
@@ -136,7 +149,7 @@ fn array(doc: &[u8], rows: &mut [u32], text: &mut [u8], c: Cursor, parent: u32, 
     }
     let mut cur = first;
     loop {
-        match element(&*doc, rows, text, cur, row as u32, allow, 93) {
+        match element(&*doc, rows, text, keys, cur, row as u32, allow, 93) {
             Sep::Bad(p) => return Ans::No(p),
             Sep::Last(n) => return enclose(rows, c, n, parent, count + 1, Kind::ARRAY),
             Sep::More(n) => cur = n,
@@ -150,12 +163,14 @@ fn object(
     doc: &[u8],
     rows: &mut [u32],
     text: &mut [u8],
+    keys: &mut [u32],
     c: Cursor,
     parent: u32,
     allow: usize,
 ) -> Ans
     requires { ⌜ Ready (now doc) c ⌝ }
     ensures { λ r. ⌜ Answers (now (doc .entry)) c parent (bracketR true (valueR false allow) (c .at) (drop (c .at) (now (doc .entry)))) r (now (rows .entry)) (now (rows .exit)) (now (text .entry)) (now (text .exit)) ⌝ }
+    ensures { λ r. ⌜ Notes one (now (doc .entry)) (c .at) (c .row) parent (bracketR true (valueR false allow) (c .at) (drop (c .at) (now (doc .entry)))) (now (keys .entry)) (now (keys .exit)) ⌝ }
 {
     let row = c.row;
     let mut count: usize = 0;
@@ -167,7 +182,7 @@ fn object(
     }
     let mut cur = first;
     loop {
-        match pair(&*doc, rows, text, cur, row as u32, allow) {
+        match pair(&*doc, rows, text, keys, cur, row as u32, allow) {
             Sep::Bad(p) => return Ans::No(p),
             Sep::Last(n) => return enclose(rows, c, n, parent, count + 1, Kind::OBJECT),
             Sep::More(n) => cur = n,
@@ -181,6 +196,7 @@ fn element(
     doc: &[u8],
     rows: &mut [u32],
     text: &mut [u8],
+    keys: &mut [u32],
     c: Cursor,
     parent: u32,
     allow: usize,
@@ -188,21 +204,34 @@ fn element(
 ) -> Sep
     requires { ⌜ Ready (now doc) c ⌝ }
     ensures { λ r. ⌜ Turned false close (now (doc .entry)) c parent (valueR false allow) r (now (rows .entry)) (now (rows .exit)) (now (text .entry)) (now (text .exit)) ⌝ }
+    ensures { λ r. ⌜ Notes (members false) (now (doc .entry)) (c .at) (c .row) parent (valueR false allow (c .at) (drop (c .at) (now (doc .entry)))) (now (keys .entry)) (now (keys .exit)) ⌝ }
 {
-    match value(&*doc, rows, text, c, parent, allow) {
+    match value(&*doc, rows, text, keys, c, parent, allow) {
         Ans::No(p) => Sep::Bad(p),
         Ans::Ok(n) => after(&*doc, n, close),
     }
 }
 
 // A key with its colon, its value, and what follows them.
-fn pair(doc: &[u8], rows: &mut [u32], text: &mut [u8], c: Cursor, parent: u32, allow: usize) -> Sep
+fn pair(
+    doc: &[u8],
+    rows: &mut [u32],
+    text: &mut [u8],
+    keys: &mut [u32],
+    c: Cursor,
+    parent: u32,
+    allow: usize,
+) -> Sep
     requires { ⌜ Ready (now doc) c ⌝ }
     ensures { λ r. ⌜ Turned true 125 (now (doc .entry)) c parent (inlinePairR (valueR false allow)) r (now (rows .entry)) (now (rows .exit)) (now (text .entry)) (now (text .exit)) ⌝ }
+    ensures { λ r. ⌜ Notes (members true) (now (doc .entry)) (c .at) (c .row) parent (inlinePairR (valueR false allow) (c .at) (drop (c .at) (now (doc .entry)))) (now (keys .entry)) (now (keys .exit)) ⌝ }
 {
     match label(&*doc, rows, text, c, parent) {
         Ans::No(p) => Sep::Bad(p),
-        Ans::Ok(n) => element(&*doc, rows, text, n, parent, allow, 125),
+        Ans::Ok(n) => {
+            note(keys, parent, c.at);
+            element(&*doc, rows, text, keys, n, parent, allow, 125)
+        }
     }
 }
 
@@ -221,16 +250,18 @@ pub fn line_value(
     doc: &[u8],
     rows: &mut [u32],
     text: &mut [u8],
+    keys: &mut [u32],
     c: Cursor,
     parent: u32,
     allow: usize,
 ) -> Far
     requires { ⌜ Ready (now doc) c ⌝ }
     ensures { λ r. ⌜ Reaches (now (doc .entry)) c parent (valueR true allow (c .at) (drop (c .at) (now (doc .entry)))) r (now (rows .entry)) (now (rows .exit)) (now (text .entry)) (now (text .exit)) ⌝ }
+    ensures { λ r. ⌜ Notes one (now (doc .entry)) (c .at) (c .row) parent (valueR true allow (c .at) (drop (c .at) (now (doc .entry)))) (now (keys .entry)) (now (keys .exit)) ⌝ }
 {
     let b = c.look(&*doc);
     if marked(b) {
-        return match value(&*doc, rows, text, c, parent, allow) {
+        return match value(&*doc, rows, text, keys, c, parent, allow) {
             Ans::Ok(n) => Far::Upto(n, 0),
             Ans::No(p) => Far::Not(p),
         };

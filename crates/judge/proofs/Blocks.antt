@@ -59,11 +59,11 @@ module _ (doc : List ℕ) (c n : Cursor) (p kind e cnt : ℕ) (ts : List Tree) (
       }
 
 -- where the first member begins
-abbrev start : (o : Bool) → List (Member o) → ℕ
+abbrev pub start : (o : Bool) → List (Member o) → ℕ
 start o [] = 0
 start o (m ∷ ms) = begin o m
 
-start-then : (o : Bool) (ms : List (Member o)) (m u : Member o) → start o ((ms ++ m ∷ []) ++ u ∷ []) ≡ start o (ms ++ m ∷ [])
+pub start-then : (o : Bool) (ms : List (Member o)) (m u : Member o) → start o ((ms ++ m ∷ []) ++ u ∷ []) ≡ start o (ms ++ m ∷ [])
 start-then o [] m u = refl
 start-then o (x ∷ ms) m u = refl
 
@@ -95,7 +95,7 @@ pub record Loop (o : Bool) (k n : ℕ) (doc : List ℕ) (c : Cursor) (R₀ T₀ 
   pub few : cnt ≤ cur .at
 
 module _ (o : Bool) (k n : ℕ) (doc : List ℕ) (c : Cursor) (R₀ T₀ : List ℕ) where
-  pub loop-start : Ready doc c → Loop o k n doc c R₀ T₀ R₀ T₀ (within c) 0 0
+  unfoldable pub loop-start : Ready doc c → Loop o k n doc c R₀ T₀ R₀ T₀ (within c) 0 0
   loop-start d =
       let b = enough-lines (firsts o) n (memberR o k n) doc (c .at) in
       record {
@@ -113,21 +113,21 @@ module _ (o : Bool) (k n : ℕ) (doc : List ℕ) (c : Cursor) (R₀ T₀ : List 
 
   module _ (R T R' T' : List ℕ) (cur m : Cursor) (far cnt f e : ℕ) (l : Loop o k n doc c R₀ T₀ R T cur far cnt)
       (g : Read o doc cur (c .row) (memberR o k n (cur .at) (drop (cur .at) doc)) m f e R R' T T') where
-    written-all : Written doc (within c) m (c .row) (children o (l .done ++ g .member ∷ [])) R₀ R' T₀ T'
+    pub written-all : Written doc (within c) m (c .row) (children o (l .done ++ g .member ∷ [])) R₀ R' T₀ T'
     written-all =
         rw (children-append o (l .done) (g .member ∷ []))
         (written-append doc (within c) cur m (c .row) (children o (l .done)) (children o (g .member ∷ [])) R₀ R R' T₀ T T' (l .written) (g .written))
 
-    turned : (out : Out (List (Member o)))
+    pub turned : (out : Out (List (Member o)))
         → raised far (fmap (l .done ++_) (raised f (fmap (g .member ∷_) out))) ≡ raised (max far f) (fmap ((l .done ++ g .member ∷ []) ++_) out)
     turned out =
         ap (raised far) (sym (raised-fmap (l .done ++_) f (fmap (g .member ∷_) out)) ∙ ap (raised f) (fmap-join (l .done) (g .member ∷ []) out))
         ∙ raised-raised far f (fmap ((l .done ++ g .member ∷ []) ++_) out)
 
-    again-inside : {a : ℕ} → Again o doc (m .at) n a → a ≤ length doc
+    pub again-inside : {a : ℕ} → Again o doc (m .at) n a → a ≤ length doc
     again-inside q = let h = ind-fits (is (firsts o)) n (drop (m .at) doc) (q .begins) in let d = length-drop (m .at) doc in omega (arith, q .there)
 
-    pub loop-more : (a : ℕ) → Again o doc (m .at) n a
+    unfoldable pub loop-more : (a : ℕ) → Again o doc (m .at) n a
         → Loop o k n doc c R₀ T₀ R' T' (record { at = a; row = m .row; text = m .text }) (max far f) (cnt + 1)
     loop-more a q =
         let w = written-all in
@@ -194,23 +194,28 @@ module _ (o : Bool) (k n : ℕ) (doc : List ℕ) (c : Cursor) (R₀ T₀ : List 
         let w = l .written .fewRows in
         rw (children-append o (l .done) (g .member ∷ [])) (omega arith)
 
+    -- the block's tree
+    pub block-tree : (p : ℕ) → Ended o doc (m .at) n p
+        → blockR o k n (c .at) (drop (c .at) doc) ≡ reached (max (max far f) p) (node (kindOf o) (c .at) e (cnt + 1) (forest (children o (l .done ++ g .member ∷ [])))) (m .at) (drop (m .at) doc)
+    unfolding blockR
+    block-tree p q =
+        let r = g .spare in
+        map-fmap (blockOf o) (linesR (firsts o) n (memberR o k n) (c .at) (drop (c .at) doc))
+        ∙ (ap (fmap (blockOf o)) (last-is p q)
+        ∙ (ap (λ (t : Tree). soft (max (max far f) p) t (m .at) (drop (m .at) doc)) tree-is
+        ∙ (soft-reached (max (max far f) p) (node (kindOf o) (c .at) e (cnt + 1) (forest (children o (l .done ++ g .member ∷ [])))) (m .at) (drop (m .at) doc) (omega (arith, q .upto)))))
+
     pub block-last : (parent p : ℕ) (R'' : List ℕ) → Ended o doc (m .at) n p
         → R'' ≡ sets R' (width * c .row) (rowList (kindOf o) (c .at) e 0 (cnt + 1) parent (m .row))
         → Blocks doc c parent (blockR o k n (c .at) (drop (c .at) doc)) (Done m (max (max far f) p) e) R₀ R'' T₀ T'
-    unfolding blockR
     block-last parent p R'' q h =
-        let r = g .spare in
         let ts = children o (l .done ++ g .member ∷ []) in
         Laws.a-block doc c parent _ R₀ R'' T₀ T' m (max (max far f) p) e
         (record {
           taken =
               record {
                 tree = node (kindOf o) (c .at) e (cnt + 1) (forest ts);
-                is =
-                    map-fmap (blockOf o) (linesR (firsts o) n (memberR o k n) (c .at) (drop (c .at) doc))
-                    ∙ (ap (fmap (blockOf o)) (last-is p q)
-                    ∙ (ap (λ (t : Tree). soft (max (max far f) p) t (m .at) (drop (m .at) doc)) tree-is
-                    ∙ (soft-reached (max (max far f) p) (node (kindOf o) (c .at) e (cnt + 1) (forest ts)) (m .at) (drop (m .at) doc) (omega (arith, q .upto)))));
+                is = block-tree p q;
                 span = whole-span doc c m parent (kindOf o) e (cnt + 1) ts R₀ R' R'' T₀ T' spare-all written-all;
                 filled = whole-filled doc c m parent (kindOf o) e (cnt + 1) ts R₀ R' R'' T₀ T' spare-all written-all h;
               };
@@ -232,7 +237,7 @@ module _ (o : Bool) (k n : ℕ) (doc : List ℕ) (c : Cursor) (R₀ T₀ : List 
 -- ---- a block of one item
 
 module _ (k n : ℕ) (doc : List ℕ) (c : Cursor) (parent : ℕ) (R₀ T₀ R' T' : List ℕ) where
-  bullet-is : bulletR (itemR k (suc (suc n))) (c .at) (drop (c .at) doc) ≡ fmap (λ i. blockOf false (i ∷ [])) (memberR false k n (c .at) (drop (c .at) doc))
+  pub bullet-is : bulletR (itemR k (suc (suc n))) (c .at) (drop (c .at) doc) ≡ fmap (λ i. blockOf false (i ∷ [])) (memberR false k n (c .at) (drop (c .at) doc))
   unfolding bulletR memberR
   bullet-is = map-fmap (λ i. blockOf false (i ∷ [])) (dashedR (itemR k (suc (suc n))) (c .at) (drop (c .at) doc))
 

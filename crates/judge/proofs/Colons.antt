@@ -38,7 +38,7 @@ use Rattle.judge.proofs.Spans.{key-begins}
 -- ---- the readers, by the spaces behind the colon
 
 module _ (v n : Reader Tree) (doc : List ℕ) (at : ℕ) where
-  rest-on : 32 ≡ peek doc at → (peek doc (at + 1) ≡ 32 → ⊥) → restR v n at (drop at doc) ≡ v (at + 1) (drop (at + 1) doc)
+  pub rest-on : 32 ≡ peek doc at → (peek doc (at + 1) ≡ 32 → ⊥) → restR v n at (drop at doc) ≡ v (at + 1) (drop (at + 1) doc)
   unfolding restR
   rest-on e f =
       alt-is doc at 32 32 (omega arith) e _ _ refl
@@ -105,13 +105,13 @@ block-from doc c d p a o o′ (Done n far z) R R' T T' h l e w =
 
 -- ---- what stands behind a colon
 
-record OneSpace (doc : List ℕ) (c d : Cursor) : Type 0 where
-  next : d ≡ onward c 1
-  space : 32 ≡ peek doc (c .at)
-  single : peek doc (c .at + 1) ≡ 32 → ⊥
+pub record OneSpace (doc : List ℕ) (c d : Cursor) : Type 0 where
+  pub next : d ≡ onward c 1
+  pub space : 32 ≡ peek doc (c .at)
+  pub single : peek doc (c .at + 1) ≡ 32 → ⊥
 
 module _ (doc : List ℕ) (c : Cursor) (x : Ans) (g : Gap doc c x) where
-  gap-one : (d : Cursor) → x ≡ Ok d → OneSpace doc c d
+  pub gap-one : (d : Cursor) → x ≡ Ok d → OneSpace doc c d
   gap-one d e = go d (rw e at g)
     where
       go : (d : Cursor) → Gap doc c (Ok d) → OneSpace doc c d
@@ -133,7 +133,7 @@ module _ (doc : List ℕ) (c : Cursor) (x : Ans) (g : Gap doc c x) where
         let z : d .at ≡ c .at + 1 = ap (λ (m : Cursor). m .at) (u .next) in
         block-from doc c d p (c .at + 1) _ _ b R R' T T' (rest-on (onR k n) (nestedR k (suc (suc n))) doc (c .at) (u .space) (u .single) ∙ ap (λ (i : ℕ). onR k n i (drop i doc)) (sym z)) (omega arith) (u .next) w
 
-    below-is : (q : ℕ) → x ≡ No q → restR (onR k n) (nestedR k (suc (suc n))) (c .at) (drop (c .at) doc) ≡ bind (endsR false (c .at) (drop (c .at) doc)) (λ _. nestedR k (suc (suc n)))
+    pub below-is : (q : ℕ) → x ≡ No q → restR (onR k n) (nestedR k (suc (suc n))) (c .at) (drop (c .at) doc) ≡ bind (endsR false (c .at) (drop (c .at) doc)) (λ _. nestedR k (suc (suc n)))
     below-is q e = rest-below (onR k n) (nestedR k (suc (suc n))) doc c q (rw e at g)
 
     module _ (s : Skip) (y : ℕ) (e : x ≡ No y) (h : Skips doc (c .at) (endsR false (c .at) (drop (c .at) doc)) s) where
@@ -173,7 +173,7 @@ module _ (doc : List ℕ) (c : Cursor) (p : ℕ) (a : Ans) (R R' T T' : List ℕ
     property-none q e = ap (λ (o : Out Tree). bind o (λ ky. seqR (byteR (is (only 58))) λ _. mapR (field ky) (restR (onR k n) (nestedR k (suc (suc n)))))) (Laws.refusal doc c p _ R R' T T' a q e w)
 
   module _ (m : Cursor) (t : Ans) (e : a ≡ Ok m) (h : Takes doc m 58 t) where
-    got : Taken doc c p (keyR (c .at) (drop (c .at) doc)) m 0 R R' T T'
+    pub got : Taken doc c p (keyR (c .at) (drop (c .at) doc)) m 0 R R' T T'
     got = Laws.taken doc c p _ R R' T T' a m e w
 
     module _ (k n : ℕ) where
@@ -201,7 +201,7 @@ module _ (doc : List ℕ) (c : Cursor) (p : ℕ) (a : Ans) (R R' T T' : List ℕ
           (record { small = r .small; inside = colon-in; fewRows = omega (arith, r .fewRows, s .row, s .fewRows); fewText = omega (arith, r .fewText, s .text, s .fewText) })
 
       module _ (k n : ℕ) (R'' T'' : List ℕ) where
-        property-is : memberR true k n (c .at) (drop (c .at) doc) ≡ fmap (field (got .tree)) (restR (onR k n) (nestedR k (suc (suc n))) (d .at) (drop (d .at) doc))
+        pub property-is : memberR true k n (c .at) (drop (c .at) doc) ≡ fmap (field (got .tree)) (restR (onR k n) (nestedR k (suc (suc n))) (d .at) (drop (d .at) doc))
         unfolding memberR propertyR
         property-is =
             let u : d .at ≡ m .at + 1 = ap (λ (x : Cursor). x .at) y in

@@ -77,7 +77,7 @@ module _ (doc : List ℕ) (c : Cursor) (p k n : ℕ) (o : Bool) (R R' T T' : Lis
       pub member-ready : Stands doc c → Ready doc m
       member-ready r = rw f (record { small = r .small; inside = went .1; fewRows = omega (arith, r .fewRows); fewText = omega (arith, r .fewText) })
 
-      member-is : memberR false k n (c .at) (drop (c .at) doc) ≡ fmap (entry (c .at)) (itemR k (suc (suc n)) (m .at) (drop (m .at) doc))
+      pub member-is : memberR false k n (c .at) (drop (c .at) doc) ≡ fmap (entry (c .at)) (itemR k (suc (suc n)) (m .at) (drop (m .at) doc))
       unfolding memberR dashedR
       member-is =
           let u : m .at ≡ c .at + 2 = ap (λ (x : Cursor). x .at) f in
@@ -224,39 +224,50 @@ looked-line doc at s q h e = rw e at h
 
 -- ---- an item
 
+-- which reader an item's is, by the look
+module _ (n k at : ℕ) (r : List ℕ) where
+  pub item-none-is : k ≡ 0 → itemR k n at r ≡ openerR (endR false) k n at r
+  unfolding itemR
+  item-none-is e = rw e refl
+
+  module _ (z : k ≡ 0 → ⊥) where
+    pub item-dash-is : dashed r ≡ true → itemR k n at r ≡ bulletR (itemR (k - 1) (suc (suc n))) at r
+    item-dash-is h = go k z
+      where
+        go : (k : ℕ) → (k ≡ 0 → ⊥) → itemR k n at r ≡ bulletR (itemR (k - 1) (suc (suc n))) at r
+        go zero z = absurd (z refl)
+        go (suc k) z = let y : suc k - 1 ≡ k = omega arith in rw y (item-array k n at r h)
+
+    pub item-key-is : keyed (keyR at r) ≡ true → itemR k n at r ≡ blockR true (k - 1) n at r
+    item-key-is h = go k z
+      where
+        go : (k : ℕ) → (k ≡ 0 → ⊥) → itemR k n at r ≡ blockR true (k - 1) n at r
+        go zero z = absurd (z refl)
+        go (suc k) z = let y : suc k - 1 ≡ k = omega arith in rw y (item-object k n at r h ∙ ap (λ (q : Reader Tree). q at r) (object-block k n))
+
+    pub item-line-is : (q : ℕ) → Neither at r q → itemR k n at r ≡ merge (openerR (endR false) k n at r) (bad q)
+    item-line-is q g = go k z
+      where
+        go : (k : ℕ) → (k ≡ 0 → ⊥) → itemR k n at r ≡ merge (openerR (endR false) k n at r) (bad q)
+        go zero z = absurd (z refl)
+        go (suc k) z = rw (g .stops) (item-line k n at r (g .no-dash) (g .no-key))
+
 module _ (doc : List ℕ) (c : Cursor) (p n : ℕ) (b : Block) (R R' T T' : List ℕ) where
   abbrev At : Reader Tree → Type 0
   At r = Blocks doc c p (r (c .at) (drop (c .at) doc)) b R R' T T'
 
   pub item-none : (k : ℕ) → k ≡ 0 → At (openerR (endR false) k n) → At (itemR k n)
-  unfolding itemR
-  item-none k e w = rw e (rw e at w)
+  item-none k e w = rw (item-none-is n k (c .at) (drop (c .at) doc) e) w
 
   module _ (k : ℕ) (z : k ≡ 0 → ⊥) (s : Start) (h : Looked doc (c .at) s) where
     pub item-dash : s ≡ Dash → At (bulletR (itemR (k - 1) (suc (suc n)))) → At (itemR k n)
-    item-dash e w = go k z w
-      where
-        go : (k : ℕ) → (k ≡ 0 → ⊥) → At (bulletR (itemR (k - 1) (suc (suc n)))) → At (itemR k n)
-        go zero z w = absurd (z refl)
-        go (suc k) z w = let y : suc k - 1 ≡ k = omega arith in rw (item-array k n (c .at) (drop (c .at) doc) (looked-dash doc (c .at) s h e)) (rw y at w)
+    item-dash e w = rw (item-dash-is n k (c .at) (drop (c .at) doc) z (looked-dash doc (c .at) s h e)) w
 
     pub item-key : s ≡ Key → At (blockR true (k - 1) n) → At (itemR k n)
-    item-key e w = go k z w
-      where
-        go : (k : ℕ) → (k ≡ 0 → ⊥) → At (blockR true (k - 1) n) → At (itemR k n)
-        go zero z w = absurd (z refl)
-        go (suc k) z w =
-            let y : suc k - 1 ≡ k = omega arith in
-            rw (item-object k n (c .at) (drop (c .at) doc) (looked-key doc (c .at) s h e), object-block k n) (rw y at w)
+    item-key e w = rw (item-key-is n k (c .at) (drop (c .at) doc) z (looked-key doc (c .at) s h e)) w
 
     pub item-other : (q : ℕ) (l : Block) → s ≡ Line q → b ≡ later l q → Blocks doc c p (openerR (endR false) k n (c .at) (drop (c .at) doc)) l R R' T T' → At (itemR k n)
-    item-other q l e f w = go k z w
-      where
-        go : (k : ℕ) → (k ≡ 0 → ⊥) → Blocks doc c p (openerR (endR false) k n (c .at) (drop (c .at) doc)) l R R' T T' → At (itemR k n)
-        go zero z w = absurd (z refl)
-        go (suc k) z w =
-            let g = looked-line doc (c .at) s q h e in
-            rw (f, item-line k n (c .at) (drop (c .at) doc) (g .no-dash) (g .no-key), ← g .stops) (later-block doc c p _ l q R R' T T' w)
+    item-other q l e f w = rw (f, item-line-is n k (c .at) (drop (c .at) doc) z q (looked-line doc (c .at) s q h e)) (later-block doc c p _ l q R R' T T' w)
 
 -- ---- nested content
 
@@ -271,7 +282,7 @@ module _ (doc : List ℕ) (c : Cursor) (p n i : ℕ) (R R' T T' : List ℕ) (h :
     pub nested-ready : Ready doc c → c .at + i ≤ length doc → Ready doc m
     nested-ready r k = ready-at doc c m (c .at + i) r (omega arith) k f
 
-    nested-at : (k : ℕ) → nestedR k n (c .at) (drop (c .at) doc) ≡ nestedHereR k n (m .at) (drop (m .at) doc)
+    pub nested-at : (k : ℕ) → nestedR k n (c .at) (drop (c .at) doc) ≡ nestedHereR k n (m .at) (drop (m .at) doc)
     nested-at k =
         let e : i ≡ n = omega arith in
         let s : spaces n (drop (c .at) doc) ≡ n = spaces-lead n (drop (c .at) doc) ∙ (sym h ∙ e) in
@@ -290,7 +301,7 @@ module _ (doc : List ℕ) (c : Cursor) (p n i : ℕ) (R R' T T' : List ℕ) (h :
       nested-none e w = from _ (rw e refl) w
 
       module _ (z : k ≡ 0 → ⊥) (s : Start) (g : Looked doc (m .at) s) where
-        dash-is : s ≡ Dash → nestedHereR k n (m .at) (drop (m .at) doc) ≡ blockR false (k - 1) n (m .at) (drop (m .at) doc)
+        pub dash-is : s ≡ Dash → nestedHereR k n (m .at) (drop (m .at) doc) ≡ blockR false (k - 1) n (m .at) (drop (m .at) doc)
         dash-is e = go k z
           where
             go : (k : ℕ) → (k ≡ 0 → ⊥) → nestedHereR k n (m .at) (drop (m .at) doc) ≡ blockR false (k - 1) n (m .at) (drop (m .at) doc)
@@ -300,7 +311,7 @@ module _ (doc : List ℕ) (c : Cursor) (p n i : ℕ) (R R' T T' : List ℕ) (h :
                 nested-array k n (m .at) (drop (m .at) doc) (looked-dash doc (m .at) s g e)
                 ∙ (ap (λ (r : Reader Tree). r (m .at) (drop (m .at) doc)) (array-block k n) ∙ ap (λ (j : ℕ). blockR false j n (m .at) (drop (m .at) doc)) y)
 
-        key-is : s ≡ Key → nestedHereR k n (m .at) (drop (m .at) doc) ≡ blockR true (k - 1) n (m .at) (drop (m .at) doc)
+        pub key-is : s ≡ Key → nestedHereR k n (m .at) (drop (m .at) doc) ≡ blockR true (k - 1) n (m .at) (drop (m .at) doc)
         key-is e = go k z
           where
             go : (k : ℕ) → (k ≡ 0 → ⊥) → nestedHereR k n (m .at) (drop (m .at) doc) ≡ blockR true (k - 1) n (m .at) (drop (m .at) doc)
@@ -310,7 +321,7 @@ module _ (doc : List ℕ) (c : Cursor) (p n i : ℕ) (R R' T T' : List ℕ) (h :
                 nested-object k n (m .at) (drop (m .at) doc) (looked-key doc (m .at) s g e)
                 ∙ (ap (λ (r : Reader Tree). r (m .at) (drop (m .at) doc)) (object-block k n) ∙ ap (λ (j : ℕ). blockR true j n (m .at) (drop (m .at) doc)) y)
 
-        line-is : (q : ℕ) → s ≡ Line q → nestedHereR k n (m .at) (drop (m .at) doc) ≡ merge (nestedLineR n (m .at) (drop (m .at) doc)) (bad q)
+        pub line-is : (q : ℕ) → s ≡ Line q → nestedHereR k n (m .at) (drop (m .at) doc) ≡ merge (nestedLineR n (m .at) (drop (m .at) doc)) (bad q)
         line-is q e = go k z
           where
             go : (k : ℕ) → (k ≡ 0 → ⊥) → nestedHereR k n (m .at) (drop (m .at) doc) ≡ merge (nestedLineR n (m .at) (drop (m .at) doc)) (bad q)

@@ -34,6 +34,9 @@ use Rattle.characters.specs.Reads.{Ends, Skips}
 use Rattle.utf8.specs.Allowed.{bad-char}
 use Rattle.utf8.specs.Told.{Answer, refused-char, refused-syntax, refused-deep, refused-end}
 use Rattle.characters.specs.Comments.{commentR, comment-ll}
+use Rattle.strings.specs.Keys.{keyR}
+use Rattle.blocks.specs.Or.{merge}
+use Rattle.blocks.specs.KeyLook.{keyed, dashed}
 use Rattle.blocks.specs.Openers.{openerR}
 use Rattle.blocks.specs.Straight.{root-array, root-object, root-line}
 use Rattle.blocks.specs.Root.{rootR}
@@ -43,7 +46,7 @@ use Rattle.judge.specs.declared.Start.{Start}
 use Rattle.judge.specs.declared.Start.the-variants.{Dash, Key, Line}
 use Rattle.judge.specs.Members.{blockR, array-block, object-block}
 use Rattle.judge.specs.Blamed.{Blamed}
-use Rattle.judge.specs.Contract.{feedR, endR as lineEnd, Looked, later, commentLineR, Finished, Known, Checked, Filled}
+use Rattle.judge.specs.Contract.{feedR, endR as lineEnd, Neither, Looked, later, commentLineR, Finished, Known, Checked, Filled}
 use Rattle.judge.proofs.Lining.{later-block}
 use Rattle.judge.proofs.Containers.{looked-dash, looked-key, looked-line}
 
@@ -161,37 +164,50 @@ module _ (doc : List ℕ) (at b : ℕ) (l : Headed doc at) (h : b ≡ peek doc a
 
 -- ---- the root
 
+-- which reader the root's is, by the look
+module _ (k at : ℕ) (r : List ℕ) where
+  pub root-none-is : k ≡ 0 → rootR k at r ≡ openerR (lineEnd true) k 0 at r
+  unfolding rootR
+  root-none-is e = rw e refl
+
+  module _ (z : k ≡ 0 → ⊥) where
+    pub root-dash-is : dashed r ≡ true → rootR k at r ≡ blockR false (k - 1) 0 at r
+    root-dash-is h = go k z
+      where
+        go : (k : ℕ) → (k ≡ 0 → ⊥) → rootR k at r ≡ blockR false (k - 1) 0 at r
+        go zero z = absurd (z refl)
+        go (suc k) z = let y : suc k - 1 ≡ k = omega arith in rw y (root-array k at r h ∙ ap (λ (q : Reader Tree). q at r) (array-block k 0))
+
+    pub root-key-is : keyed (keyR at r) ≡ true → rootR k at r ≡ blockR true (k - 1) 0 at r
+    root-key-is h = go k z
+      where
+        go : (k : ℕ) → (k ≡ 0 → ⊥) → rootR k at r ≡ blockR true (k - 1) 0 at r
+        go zero z = absurd (z refl)
+        go (suc k) z = let y : suc k - 1 ≡ k = omega arith in rw y (root-object k at r h ∙ ap (λ (q : Reader Tree). q at r) (object-block k 0))
+
+    pub root-line-is : (q : ℕ) → Neither at r q → rootR k at r ≡ merge (openerR (lineEnd true) k 0 at r) (bad q)
+    root-line-is q g = go k z
+      where
+        go : (k : ℕ) → (k ≡ 0 → ⊥) → rootR k at r ≡ merge (openerR (lineEnd true) k 0 at r) (bad q)
+        go zero z = absurd (z refl)
+        go (suc k) z = rw (g .stops) (root-line k at r (g .no-dash) (g .no-key))
+
 module _ (doc : List ℕ) (c : Cursor) (b : Block) (R R' T T' : List ℕ) where
   abbrev At : Reader Tree → Type 0
   At r = Blocks doc c 0 (r (c .at) (drop (c .at) doc)) b R R' T T'
 
   pub root-none : (k : ℕ) → k ≡ 0 → At (openerR (lineEnd true) k 0) → At (rootR k)
-  unfolding rootR
-  root-none k e w = rw e (rw e at w)
+  root-none k e w = rw (root-none-is k (c .at) (drop (c .at) doc) e) w
 
   module _ (k : ℕ) (z : k ≡ 0 → ⊥) (s : Start) (h : Looked doc (c .at) s) where
     pub root-dash : s ≡ Dash → At (blockR false (k - 1) 0) → At (rootR k)
-    root-dash e w = go k z w
-      where
-        go : (k : ℕ) → (k ≡ 0 → ⊥) → At (blockR false (k - 1) 0) → At (rootR k)
-        go zero z w = absurd (z refl)
-        go (suc k) z w = let y : suc k - 1 ≡ k = omega arith in rw (root-array k (c .at) (drop (c .at) doc) (looked-dash doc (c .at) s h e), array-block k 0) (rw y at w)
+    root-dash e w = rw (root-dash-is k (c .at) (drop (c .at) doc) z (looked-dash doc (c .at) s h e)) w
 
     pub root-key : s ≡ Key → At (blockR true (k - 1) 0) → At (rootR k)
-    root-key e w = go k z w
-      where
-        go : (k : ℕ) → (k ≡ 0 → ⊥) → At (blockR true (k - 1) 0) → At (rootR k)
-        go zero z w = absurd (z refl)
-        go (suc k) z w = let y : suc k - 1 ≡ k = omega arith in rw (root-object k (c .at) (drop (c .at) doc) (looked-key doc (c .at) s h e), object-block k 0) (rw y at w)
+    root-key e w = rw (root-key-is k (c .at) (drop (c .at) doc) z (looked-key doc (c .at) s h e)) w
 
     pub root-other : (q : ℕ) (l : Block) → s ≡ Line q → b ≡ later l q → Blocks doc c 0 (openerR (lineEnd true) k 0 (c .at) (drop (c .at) doc)) l R R' T T' → At (rootR k)
-    root-other q l e f w = go k z w
-      where
-        go : (k : ℕ) → (k ≡ 0 → ⊥) → Blocks doc c 0 (openerR (lineEnd true) k 0 (c .at) (drop (c .at) doc)) l R R' T T' → At (rootR k)
-        go zero z w = absurd (z refl)
-        go (suc k) z w =
-            let g = looked-line doc (c .at) s q h e in
-            rw (f, root-line k (c .at) (drop (c .at) doc) (g .no-dash) (g .no-key), ← g .stops) (later-block doc c 0 _ l q R R' T T' w)
+    root-other q l e f w = rw (f, root-line-is k (c .at) (drop (c .at) doc) z q (looked-line doc (c .at) s q h e)) (later-block doc c 0 _ l q R R' T T' w)
 
 -- ---- what follows the root
 
@@ -206,7 +222,7 @@ module _ (doc : List ℕ) (n : Cursor) (far e : ℕ) (h : e ≡ runEnd (only 10)
 
 -- ---- a whole pass
 
-never : {A : Type 0} {t : Tree} {p : ℕ} → acc t ≡ stop p → A
+pub never : {A : Type 0} {t : Tree} {p : ℕ} → acc t ≡ stop p → A
 never e = let z : _≡_ {A = ℕ} 0 1 = cc in absurd (omega arith)
 
 module _ (k : ℕ) (doc : List ℕ) where
@@ -214,7 +230,7 @@ module _ (k : ℕ) (doc : List ℕ) where
   stopped R R' T T' p h = record { filled = λ t e. never (sym e ∙ h) }
 
   module _ (r : Skip) (hd : Skips doc 0 (headR 0 doc) r) where
-    head-no : (p : ℕ) → r ≡ the-variants.Bad p → verdict k doc ≡ stop p
+    pub head-no : (p : ℕ) → r ≡ the-variants.Bad p → verdict k doc ≡ stop p
     unfolding Skips verdict wholeR
     head-no p e = let z : headR 0 doc ≡ bad p = rw e at hd in ap (λ (o : Out (List ℕ)). finish (bind o (λ _. seqR (rootR k) blanksR)) endR) z
 
@@ -235,7 +251,7 @@ module _ (k : ℕ) (doc : List ℕ) where
       unfolding Skips verdict wholeR
       behind = let z : Ends doc 0 (headR 0 doc) at = rw e at hd in ap (λ (o : Out (List ℕ)). finish (bind o (λ _. seqR (rootR k) blanksR)) endR) (z .is)
 
-      root-no : (p : ℕ) → b ≡ Bad p → verdict k doc ≡ stop p
+      pub root-no : (p : ℕ) → b ≡ Bad p → verdict k doc ≡ stop p
       root-no p z = behind ∙ ap (λ (o : Out Tree). finish (bind o blanksR) endR) (Laws.block-refusal doc _ 0 _ R R' T T' b p z w)
 
       pub passed-not : (p : ℕ) → b ≡ Bad p → Checked k doc (No p)
@@ -246,7 +262,7 @@ module _ (k : ℕ) (doc : List ℕ) where
       passed-unfilled p z = stopped R R' T T' p (root-no p z)
 
       module _ (n : Cursor) (far f : ℕ) (z : b ≡ Done n far f) where
-        got-root : Taken doc (record { at = at; row = 0; text = 0 }) 0 (rootR k at (drop at doc)) n far R R' T T'
+        pub got-root : Taken doc (record { at = at; row = 0; text = 0 }) 0 (rootR k at (drop at doc)) n far R R' T T'
         got-root = Laws.block-taken doc _ 0 _ R R' T T' b n far f z w .taken
 
         tree : Tree
@@ -262,14 +278,14 @@ module _ (k : ℕ) (doc : List ℕ) where
             ∙ ap (λ (o : Out Tree). finish o endR)
             (bind-reached far (got-root .tree) (n .at) (drop (n .at) doc) blanksR ∙ (ap (raised far) blank-read ∙ raised-ok far (got-root .tree) (runEnd (only 10) doc (n .at)) _)))
 
-        whole-yes : length doc ≤ runEnd (only 10) doc (n .at) → verdict k doc ≡ acc (got-root .tree)
+        pub whole-yes : length doc ≤ runEnd (only 10) doc (n .at) → verdict k doc ≡ acc (got-root .tree)
         whole-yes l = whole-is ∙ (ap (λ (s : List ℕ). finish (reached far (got-root .tree) (runEnd (only 10) doc (n .at)) s) endR) (drop-of-length-le doc l) ∙ go far)
           where
             go : (far : ℕ) → finish (reached far (got-root .tree) (runEnd (only 10) doc (n .at)) []) endR ≡ acc (got-root .tree)
             go zero = refl
             go (suc far) = refl
 
-        whole-no : runEnd (only 10) doc (n .at) < length doc → verdict k doc ≡ stop (max far (runEnd (only 10) doc (n .at)))
+        pub whole-no : runEnd (only 10) doc (n .at) < length doc → verdict k doc ≡ stop (max far (runEnd (only 10) doc (n .at)))
         whole-no l = whole-is ∙ (ap (λ (s : List ℕ). finish (reached far (got-root .tree) (runEnd (only 10) doc (n .at)) s) endR) (drop-cons doc (runEnd (only 10) doc (n .at)) 0 l) ∙ go far _ _)
           where
             go : (far c : ℕ) (s : List ℕ) → finish (reached far (got-root .tree) (runEnd (only 10) doc (n .at)) (c ∷ s)) endR ≡ stop (max far (runEnd (only 10) doc (n .at)))

@@ -8,3 +8,6 @@ pub mod Lining
 pub mod Colons
 pub mod Containers
 pub mod Documents
+pub mod Noting
+pub mod NotingBlocks
+pub mod NotingWhole

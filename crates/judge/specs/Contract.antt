@@ -23,6 +23,8 @@ use Rattle.rooms.specs.declared.Block.the-variants.{Done, Bad}
 use Rattle.rooms.specs.Contract.{ample, onward}
 use Rattle.characters.specs.Comments.{commentR, optionalCommentR}
 use Rattle.strings.specs.Keys.{keyR}
+use Rattle.notes.specs.Flat.{flat}
+use Rattle.notes.specs.Notes.{Kept}
 use Rattle.inline.specs.Written.{Written}
 use Rattle.blocks.specs.KeyLook.{keyed, keyStop, dashed}
 use Rattle.blocks.specs.Document.{verdict}
@@ -134,3 +136,7 @@ Checked k doc (No p) = verdict k doc ≡ stop p
 -- .. and what it has written
 pub record Filled (k : ℕ) (doc rows rows' text text' : List ℕ) : Type 0 where
   pub filled : (t : Tree) → verdict k doc ≡ acc t → (rows' ≡ sets rows 0 (rowsOf 0 0 0 t)) × (text' ≡ sets text 0 (textOf t))
+
+-- .. and the keys that it has noted
+pub record Logged (k : ℕ) (doc S S' : List ℕ) : Type 0 where
+  pub logged : (t : Tree) → verdict k doc ≡ acc t → Kept doc 0 (flat 0 0 t) (length doc) S S'

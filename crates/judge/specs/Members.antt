@@ -33,6 +33,10 @@ abbrev pub children : (o : Bool) → List (Member o) → List Tree
 children false es = entries es
 children true fs = fields fs
 
+-- the trees of one member
+abbrev pub members : (o : Bool) → Member o → List Tree
+members o m = children o (m ∷ [])
+
 abbrev pub blockOf : (o : Bool) → List (Member o) → Tree
 blockOf false es = blockArray es
 blockOf true fs = blockObject fs

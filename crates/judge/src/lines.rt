@@ -9,6 +9,7 @@ ghost use Rattle.strings.specs.Keys.{keyR};
 ghost use Rattle.blocks.specs.ValueLine.{lineR};
 ghost use Rattle.blocks.specs.Property.{onR};
 ghost use Rattle.blocks.specs.Openers.{openerR, nestedLineR};
+ghost use Rattle.notes.specs.Notes.{Notes, one};
 ghost use Rattle.judge.specs.Members.{kindOf};
 ghost use Rattle.judge.specs.Contract.{Stands, endR, later, Enclosed};
 use super::look::line_end;
@@ -36,6 +37,7 @@ pub fn value_line(
     doc: &[u8],
     rows: &mut [u32],
     text: &mut [u8],
+    keys: &mut [u32],
     c: Cursor,
     parent: u32,
     allow: usize,
@@ -43,8 +45,9 @@ pub fn value_line(
 ) -> Block
     requires { ⌜ Ready (now doc) c ⌝ }
     ensures { λ r. ⌜ Blocks (now (doc .entry)) c parent (lineR (endR root) allow (c .at) (drop (c .at) (now (doc .entry)))) r (now (rows .entry)) (now (rows .exit)) (now (text .entry)) (now (text .exit)) ⌝ }
+    ensures { λ r. ⌜ Notes one (now (doc .entry)) (c .at) (c .row) parent (lineR (endR root) allow (c .at) (drop (c .at) (now (doc .entry)))) (now (keys .entry)) (now (keys .exit)) ⌝ }
 {
-    match line_value(&*doc, rows, text, c, parent, allow) {
+    match line_value(&*doc, rows, text, keys, c, parent, allow) {
         Far::Not(p) => Block::Bad(p),
         Far::Upto(n, far) => {
             let e = n.at;
@@ -61,6 +64,7 @@ pub fn on_line(
     doc: &[u8],
     rows: &mut [u32],
     text: &mut [u8],
+    keys: &mut [u32],
     c: Cursor,
     parent: u32,
     col: usize,
@@ -69,11 +73,12 @@ pub fn on_line(
     requires { ⌜ Ready (now doc) c ⌝ }
     requires { ⌜ col ≤ columns ⌝ }
     ensures { λ r. ⌜ Blocks (now (doc .entry)) c parent (onR allow col (c .at) (drop (c .at) (now (doc .entry)))) r (now (rows .entry)) (now (rows .exit)) (now (text .entry)) (now (text .exit)) ⌝ }
+    ensures { λ r. ⌜ Notes one (now (doc .entry)) (c .at) (c .row) parent (onR allow col (c .at) (drop (c .at) (now (doc .entry)))) (now (keys .entry)) (now (keys .exit)) ⌝ }
 {
     match c.look(&*doc) {
         96 => property_string(&*doc, rows, text, c, parent, col),
         62 => property_bytes(&*doc, rows, text, c, parent, col),
-        _ => value_line(&*doc, rows, text, c, parent, allow, false),
+        _ => value_line(&*doc, rows, text, keys, c, parent, allow, false),
     }
 }
 
@@ -82,6 +87,7 @@ pub fn opener(
     doc: &[u8],
     rows: &mut [u32],
     text: &mut [u8],
+    keys: &mut [u32],
     c: Cursor,
     parent: u32,
     col: usize,
@@ -91,11 +97,12 @@ pub fn opener(
     requires { ⌜ Ready (now doc) c ⌝ }
     requires { ⌜ col ≤ columns ⌝ }
     ensures { λ r. ⌜ Blocks (now (doc .entry)) c parent (openerR (endR root) allow col (c .at) (drop (c .at) (now (doc .entry)))) r (now (rows .entry)) (now (rows .exit)) (now (text .entry)) (now (text .exit)) ⌝ }
+    ensures { λ r. ⌜ Notes one (now (doc .entry)) (c .at) (c .row) parent (openerR (endR root) allow col (c .at) (drop (c .at) (now (doc .entry)))) (now (keys .entry)) (now (keys .exit)) ⌝ }
 {
     match c.look(&*doc) {
         96 => open_string(&*doc, rows, text, c, parent, col),
         62 => open_bytes(&*doc, rows, text, c, parent, col),
-        _ => value_line(&*doc, rows, text, c, parent, allow, root),
+        _ => value_line(&*doc, rows, text, keys, c, parent, allow, root),
     }
 }
 

@@ -7,7 +7,8 @@ ghost use Rattle.blocks.specs.Property.{onR};
 ghost use Rattle.blocks.specs.Rest.{restR};
 ghost use Rattle.blocks.specs.Array.{bulletR};
 ghost use Rattle.blocks.specs.Nested.{nestedR, itemR};
-ghost use Rattle.judge.specs.Members.{memberR, blockR};
+ghost use Rattle.notes.specs.Notes.{Notes, one};
+ghost use Rattle.judge.specs.Members.{members, memberR, blockR};
 ghost use Rattle.judge.specs.Contract.{Stands, Members};
 use super::Next;
 use super::Start;
@@ -24,6 +25,7 @@ use super::look::one_space;
 use super::look::starts;
 use characters::Skip;
 use inline::pass;
+use notes::note;
 use rooms::Ans;
 use rooms::Block;
 use rooms::Cursor;
@@ -34,6 +36,7 @@ fn behind(
     doc: &[u8],
     rows: &mut [u32],
     text: &mut [u8],
+    keys: &mut [u32],
     c: Cursor,
     parent: u32,
     col: usize,
@@ -42,13 +45,14 @@ fn behind(
     requires { ⌜ Ready (now doc) c ⌝ }
     requires { ⌜ col + 2 * (allow + 1) ≤ columns ⌝ }
     ensures { λ r. ⌜ Blocks (now (doc .entry)) c parent (restR (onR allow col) (nestedR allow (suc (suc col))) (c .at) (drop (c .at) (now (doc .entry)))) r (now (rows .entry)) (now (rows .exit)) (now (text .entry)) (now (text .exit)) ⌝ }
+    ensures { λ r. ⌜ Notes one (now (doc .entry)) (c .at) (c .row) parent (restR (onR allow col) (nestedR allow (suc (suc col))) (c .at) (drop (c .at) (now (doc .entry)))) (now (keys .entry)) (now (keys .exit)) ⌝ }
 {
     if let Ans::Ok(n) = one_space(&*doc, c) {
-        return on_line(&*doc, rows, text, n, parent, col, allow).anew();
+        return on_line(&*doc, rows, text, keys, n, parent, col, allow).anew();
     }
     match line_end(&*doc, c.at, false) {
         Skip::Bad(p) => Block::Bad(p),
-        Skip::End(a) => nested(&*doc, rows, text, moved(c, a), parent, col + 2, allow).anew(),
+        Skip::End(a) => nested(&*doc, rows, text, keys, moved(c, a), parent, col + 2, allow).anew(),
     }
 }
 
@@ -57,6 +61,7 @@ fn property(
     doc: &[u8],
     rows: &mut [u32],
     text: &mut [u8],
+    keys: &mut [u32],
     c: Cursor,
     parent: u32,
     col: usize,
@@ -65,12 +70,16 @@ fn property(
     requires { ⌜ Stands (now doc) c ⌝ }
     requires { ⌜ col + 2 * (allow + 1) ≤ columns ⌝ }
     ensures { λ r. ⌜ Members true (now (doc .entry)) c parent (memberR true allow col (c .at) (drop (c .at) (now (doc .entry)))) r (now (rows .entry)) (now (rows .exit)) (now (text .entry)) (now (text .exit)) ⌝ }
+    ensures { λ r. ⌜ Notes (members true) (now (doc .entry)) (c .at) (c .row) parent (memberR true allow col (c .at) (drop (c .at) (now (doc .entry)))) (now (keys .entry)) (now (keys .exit)) ⌝ }
 {
     match key_row(&*doc, rows, text, c, parent) {
         Ans::No(p) => Block::Bad(p),
         Ans::Ok(n) => match n.take(&*doc, 58) {
             Ans::No(p) => Block::Bad(p),
-            Ans::Ok(m) => behind(&*doc, rows, text, m, parent, col, allow),
+            Ans::Ok(m) => {
+                note(keys, parent, c.at);
+                behind(&*doc, rows, text, keys, m, parent, col, allow)
+            }
         },
     }
 }
@@ -80,6 +89,7 @@ fn member(
     doc: &[u8],
     rows: &mut [u32],
     text: &mut [u8],
+    keys: &mut [u32],
     c: Cursor,
     parent: u32,
     col: usize,
@@ -89,13 +99,14 @@ fn member(
     requires { ⌜ Stands (now doc) c ⌝ }
     requires { ⌜ col + 2 * (allow + 1) ≤ columns ⌝ }
     ensures { λ r. ⌜ Members object (now (doc .entry)) c parent (memberR object allow col (c .at) (drop (c .at) (now (doc .entry)))) r (now (rows .entry)) (now (rows .exit)) (now (text .entry)) (now (text .exit)) ⌝ }
+    ensures { λ r. ⌜ Notes (members object) (now (doc .entry)) (c .at) (c .row) parent (memberR object allow col (c .at) (drop (c .at) (now (doc .entry)))) (now (keys .entry)) (now (keys .exit)) ⌝ }
 {
     if object {
-        return property(&*doc, rows, text, c, parent, col, allow);
+        return property(&*doc, rows, text, keys, c, parent, col, allow);
     }
     match pass(&*doc, c, 45, 32) {
         Ans::No(p) => Block::Bad(p),
-        Ans::Ok(n) => item(&*doc, rows, text, n, parent, col + 2, allow),
+        Ans::Ok(n) => item(&*doc, rows, text, keys, n, parent, col + 2, allow),
     }
 }
 
@@ -104,6 +115,7 @@ pub fn block(
     doc: &[u8],
     rows: &mut [u32],
     text: &mut [u8],
+    keys: &mut [u32],
     c: Cursor,
     parent: u32,
     col: usize,
@@ -113,6 +125,7 @@ pub fn block(
     requires { ⌜ Ready (now doc) c ⌝ }
     requires { ⌜ col + 2 * (allow + 1) ≤ columns ⌝ }
     ensures { λ r. ⌜ Blocks (now (doc .entry)) c parent (blockR object allow col (c .at) (drop (c .at) (now (doc .entry)))) r (now (rows .entry)) (now (rows .exit)) (now (text .entry)) (now (text .exit)) ⌝ }
+    ensures { λ r. ⌜ Notes one (now (doc .entry)) (c .at) (c .row) parent (blockR object allow col (c .at) (drop (c .at) (now (doc .entry)))) (now (keys .entry)) (now (keys .exit)) ⌝ }
 {
     let row = c.row;
     let mut cur = Cursor {
@@ -123,7 +136,7 @@ pub fn block(
     let mut far: usize = 0;
     let mut count: usize = 0;
     loop {
-        match member(&*doc, rows, text, cur, row as u32, col, allow, object) {
+        match member(&*doc, rows, text, keys, cur, row as u32, col, allow, object) {
             Block::Bad(p) => return Block::Bad(greater(far, p)),
             Block::Done(n, f, e) => {
                 far = greater(far, f);
@@ -145,6 +158,7 @@ fn bullet(
     doc: &[u8],
     rows: &mut [u32],
     text: &mut [u8],
+    keys: &mut [u32],
     c: Cursor,
     parent: u32,
     col: usize,
@@ -153,6 +167,7 @@ fn bullet(
     requires { ⌜ Ready (now doc) c ⌝ }
     requires { ⌜ col + 2 * (allow + 1) ≤ columns ⌝ }
     ensures { λ r. ⌜ Blocks (now (doc .entry)) c parent (bulletR (itemR allow (suc (suc col))) (c .at) (drop (c .at) (now (doc .entry)))) r (now (rows .entry)) (now (rows .exit)) (now (text .entry)) (now (text .exit)) ⌝ }
+    ensures { λ r. ⌜ Notes one (now (doc .entry)) (c .at) (c .row) parent (bulletR (itemR allow (suc (suc col))) (c .at) (drop (c .at) (now (doc .entry)))) (now (keys .entry)) (now (keys .exit)) ⌝ }
 {
     let row = c.row;
     let cur = Cursor {
@@ -160,7 +175,7 @@ fn bullet(
         row: row + 1,
         text: c.text,
     };
-    match member(&*doc, rows, text, cur, row as u32, col, allow, false) {
+    match member(&*doc, rows, text, keys, cur, row as u32, col, allow, false) {
         Block::Bad(p) => Block::Bad(p),
         Block::Done(n, f, e) => {
             enclose(rows, c, e, parent, 1, n.row, false);
@@ -174,6 +189,7 @@ fn item(
     doc: &[u8],
     rows: &mut [u32],
     text: &mut [u8],
+    keys: &mut [u32],
     c: Cursor,
     parent: u32,
     col: usize,
@@ -182,15 +198,16 @@ fn item(
     requires { ⌜ Ready (now doc) c ⌝ }
     requires { ⌜ col + 2 * allow ≤ columns ⌝ }
     ensures { λ r. ⌜ Blocks (now (doc .entry)) c parent (itemR allow col (c .at) (drop (c .at) (now (doc .entry)))) r (now (rows .entry)) (now (rows .exit)) (now (text .entry)) (now (text .exit)) ⌝ }
+    ensures { λ r. ⌜ Notes one (now (doc .entry)) (c .at) (c .row) parent (itemR allow col (c .at) (drop (c .at) (now (doc .entry)))) (now (keys .entry)) (now (keys .exit)) ⌝ }
 {
     if allow == 0 {
-        return opener(&*doc, rows, text, c, parent, col, allow, false).anew();
+        return opener(&*doc, rows, text, keys, c, parent, col, allow, false).anew();
     }
     match starts(&*doc, c) {
-        Start::Dash => bullet(&*doc, rows, text, c, parent, col, allow - 1),
-        Start::Key => block(&*doc, rows, text, c, parent, col, allow - 1, true).anew(),
+        Start::Dash => bullet(&*doc, rows, text, keys, c, parent, col, allow - 1),
+        Start::Key => block(&*doc, rows, text, keys, c, parent, col, allow - 1, true).anew(),
         Start::Line(p) => {
-            let line = opener(&*doc, rows, text, c, parent, col, allow, false);
+            let line = opener(&*doc, rows, text, keys, c, parent, col, allow, false);
             kept(line, p)
         }
     }
@@ -201,6 +218,7 @@ fn nested(
     doc: &[u8],
     rows: &mut [u32],
     text: &mut [u8],
+    keys: &mut [u32],
     c: Cursor,
     parent: u32,
     col: usize,
@@ -209,6 +227,7 @@ fn nested(
     requires { ⌜ Ready (now doc) c ⌝ }
     requires { ⌜ col + 2 * allow ≤ columns ⌝ }
     ensures { λ r. ⌜ Blocks (now (doc .entry)) c parent (nestedR allow col (c .at) (drop (c .at) (now (doc .entry)))) r (now (rows .entry)) (now (rows .exit)) (now (text .entry)) (now (text .exit)) ⌝ }
+    ensures { λ r. ⌜ Notes one (now (doc .entry)) (c .at) (c .row) parent (nestedR allow col (c .at) (drop (c .at) (now (doc .entry)))) (now (keys .entry)) (now (keys .exit)) ⌝ }
 {
     let i = c.indent(&*doc, col);
     let n = moved(c, c.at + i);
@@ -219,8 +238,8 @@ fn nested(
         return nested_line(&*doc, rows, text, n, parent, col);
     }
     match starts(&*doc, n) {
-        Start::Dash => block(&*doc, rows, text, n, parent, col, allow - 1, false),
-        Start::Key => block(&*doc, rows, text, n, parent, col, allow - 1, true).anew(),
+        Start::Dash => block(&*doc, rows, text, keys, n, parent, col, allow - 1, false),
+        Start::Key => block(&*doc, rows, text, keys, n, parent, col, allow - 1, true).anew(),
         Start::Line(p) => {
             let line = nested_line(&*doc, rows, text, n, parent, col);
             kept(line, p)

@@ -9,7 +9,8 @@ ghost use Rattle.characters.specs.Reads.{Skips};
 ghost use Rattle.blocks.specs.Root.{rootR};
 ghost use Rattle.blocks.specs.Document.{headR, verdict};
 ghost use Rattle.judge.specs.Blamed.{Blamed};
-ghost use Rattle.judge.specs.Contract.{commentLineR, Finished, Checked, Filled};
+ghost use Rattle.notes.specs.Notes.{Notes, one};
+ghost use Rattle.judge.specs.Contract.{commentLineR, Finished, Checked, Filled, Logged};
 use super::Start;
 use super::lines::kept;
 use super::lines::opener;
@@ -58,19 +59,27 @@ fn comments(doc: &[u8]) -> Skip
 }
 
 // The root.
-fn root(doc: &[u8], rows: &mut [u32], text: &mut [u8], c: Cursor, allow: usize) -> Block
+fn root(
+    doc: &[u8],
+    rows: &mut [u32],
+    text: &mut [u8],
+    keys: &mut [u32],
+    c: Cursor,
+    allow: usize,
+) -> Block
     requires { ⌜ Ready (now doc) c ⌝ }
     requires { ⌜ 2 * allow ≤ columns ⌝ }
     ensures { λ r. ⌜ Blocks (now (doc .entry)) c 0 (rootR allow (c .at) (drop (c .at) (now (doc .entry)))) r (now (rows .entry)) (now (rows .exit)) (now (text .entry)) (now (text .exit)) ⌝ }
+    ensures { λ r. ⌜ Notes one (now (doc .entry)) (c .at) (c .row) 0 (rootR allow (c .at) (drop (c .at) (now (doc .entry)))) (now (keys .entry)) (now (keys .exit)) ⌝ }
 {
     if allow == 0 {
-        return opener(&*doc, rows, text, c, 0, 0, allow, true);
+        return opener(&*doc, rows, text, keys, c, 0, 0, allow, true);
     }
     match starts(&*doc, c) {
-        Start::Dash => block(&*doc, rows, text, c, 0, 0, allow - 1, false),
-        Start::Key => block(&*doc, rows, text, c, 0, 0, allow - 1, true),
+        Start::Dash => block(&*doc, rows, text, keys, c, 0, 0, allow - 1, false),
+        Start::Key => block(&*doc, rows, text, keys, c, 0, 0, allow - 1, true),
         Start::Line(p) => {
-            let line = opener(&*doc, rows, text, c, 0, 0, allow, true);
+            let line = opener(&*doc, rows, text, keys, c, 0, 0, allow, true);
             kept(line, p)
         }
     }
@@ -89,11 +98,12 @@ fn finish(doc: &[u8], n: Cursor, far: usize) -> Ans
 }
 
 // The whole document, written into the rooms as far as they reach.
-pub fn pass(doc: &[u8], rows: &mut [u32], text: &mut [u8], allow: usize) -> Ans
+pub fn pass(doc: &[u8], rows: &mut [u32], text: &mut [u8], keys: &mut [u32], allow: usize) -> Ans
     requires { ⌜ length (now doc) ≤ limit ⌝ }
     requires { ⌜ 2 * allow ≤ columns ⌝ }
     ensures { λ r. ⌜ Checked allow (now (doc .entry)) r ⌝ }
     ensures { λ r. ⌜ Filled allow (now (doc .entry)) (now (rows .entry)) (now (rows .exit)) (now (text .entry)) (now (text .exit)) ⌝ }
+    ensures { λ r. ⌜ Logged allow (now (doc .entry)) (now (keys .entry)) (now (keys .exit)) ⌝ }
 {
     match comments(&*doc) {
         Skip::Bad(p) => Ans::No(p),
@@ -103,7 +113,7 @@ pub fn pass(doc: &[u8], rows: &mut [u32], text: &mut [u8], allow: usize) -> Ans
                 row: 0,
                 text: 0,
             };
-            match root(&*doc, rows, text, c, allow) {
+            match root(&*doc, rows, text, keys, c, allow) {
                 Block::Bad(p) => Ans::No(p),
                 Block::Done(n, far, _) => finish(&*doc, n, far),
             }
@@ -112,13 +122,14 @@ pub fn pass(doc: &[u8], rows: &mut [u32], text: &mut [u8], allow: usize) -> Ans
 }
 
 // The document read into empty rooms, so that nothing is written.
-pub fn check(doc: &[u8], rows: &mut [u32], text: &mut [u8], allow: usize) -> Ans
+pub fn check(doc: &[u8], rows: &mut [u32], text: &mut [u8], keys: &mut [u32], allow: usize) -> Ans
     requires { ⌜ length (now doc) ≤ limit ⌝ }
     requires { ⌜ 2 * allow ≤ columns ⌝ }
     ensures { λ r. ⌜ Checked allow (now (doc .entry)) r ⌝ }
     ensures { λ r. ⌜ (now (rows .exit) ≡ now (rows .entry)) × (now (text .exit) ≡ now (text .entry)) ⌝ }
+    ensures { λ r. ⌜ Logged allow (now (doc .entry)) (now (keys .entry)) (now (keys .exit)) ⌝ }
 {
-    pass(&*doc, &mut rows[..0], &mut text[..0], allow)
+    pass(&*doc, &mut rows[..0], &mut text[..0], keys, allow)
 }
 
 // The refusal at p: END at the document's end, DEEP where one container more goes on, elsewhere CHAR or SYNTAX.
@@ -131,7 +142,8 @@ pub fn blame(doc: &[u8], rows: &mut [u32], text: &mut [u8], p: usize) -> Answer
     if doc.len() <= p {
         return Answer::End(Place(p));
     }
-    match check(&*doc, rows, text, DEEPEST + 1) {
+    let mut none = [0u32; 1];
+    match check(&*doc, rows, text, &mut none, DEEPEST + 1) {
         Ans::Ok(_) => Answer::Deep(Place(p)),
         Ans::No(q) => {
             if p < q {

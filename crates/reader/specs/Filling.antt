@@ -1,100 +1,38 @@
--- HOW THE ANSWER OF `read` FOLLOWS from what its parts promise. Assumes nothing.
+-- HOW THE ANSWER FOLLOWS where a document was read into rooms of our own, whose rows may be too few. Assumes nothing.
 use mathlib.Core.Path.{_≡_, refl, sym, subst}
 use mathlib.Core.List.{List}
 use Prim.Native.Nat.{ℕ, _+_, _*_, _≤_, _<_}
 use native.Mathlib.Omega.{arith}
 use lib.ListN.{length}
-use Rattle.exact.specs.Verdict.{Res, Verdict, acc, stop, takes, stops}
 use Rattle.rooms.specs.declared.Cursor.{Cursor}
 use Rattle.rooms.specs.declared.Ans.{Ans}
-use Rattle.rooms.specs.declared.Ans.the-variants.{Ok, No}
+use Rattle.rooms.specs.declared.Ans.the-variants.{Ok}
 use Rattle.rooms.specs.Forest.{length-rows}
 use Rattle.reader.specs.declared.Tried.{Tried}
 use Rattle.reader.specs.declared.Tried.the-variants.{Settled, TooFew}
 use Rattle.language.specs.declared.Answer.{Answer}
-use Rattle.language.specs.Tree.{Tree, width, size, textOf, rowsOf}
-use Rattle.language.specs.Document.{Document}
-use Rattle.language.specs.Answered.{limit, deepest, LONG, number, value, second, Answered, long, stopped}
-use Rattle.blocks.specs.Document.{verdict, exact}
+use Rattle.language.specs.Tree.{width, textOf, rowsOf}
+use Rattle.language.specs.Answered.{limit, deepest, number, value, second, Answered}
 use Rattle.spans.specs.Document.{few-rows, few-text}
+use Rattle.repeats.specs.Chains.{most-rows}
 use Rattle.repeats.specs.Listed.{Stands}
 use Rattle.repeats.specs.Told.{stands-sets}
 use Rattle.answers.specs.Held.{Held}
 use Rattle.judge.specs.Blamed.{Blamed}
 use Rattle.judge.specs.Contract.{Known, Checked, Filled}
-
--- what the verdict accepts is a document
-accepts : (k : ℕ) (doc : List ℕ) (t : Tree) → verdict k doc ≡ acc t → Document k doc t
-accepts k doc t e = go (verdict k doc) e (exact k doc)
-  where
-    go : (f : Res Tree) → f ≡ acc t → Verdict (Document k) 0 doc f → Document k doc t
-    go _ h (takes w x u) = let z : w ≡ t = cc in subst (Document k doc) z x
-    go _ h (stops p v z) = let y : _≡_ {A = ℕ} 0 1 = cc in absurd (omega arith)
-
--- ---- what `read` shows
-
-pub answer-long : (doc table text : List ℕ) → limit < length doc → Answered doc table text LONG 0 0 table text
-answer-long doc table text l = long l
-
-pub answer-stop : (doc table text : List ℕ) (a : Answer) → length doc ≤ limit → Blamed doc a → Answered doc table text (number a) (value a) (second a) table text
-answer-stop doc table text a l x = rw (x .alone) (stopped (number a) (value a) l (x .stops))
-
-pub stopped-at : (doc : List ℕ) (a : Ans) (p : ℕ) → Checked deepest doc a → a ≡ No p → verdict deepest doc ≡ stop p
-unfolding Checked
-stopped-at doc a p x e = rw e at x
+use Rattle.reader.specs.Judged.{accepts, answer-stop}
 
 -- few bytes, and some
 abbrev pub few-bytes : ℕ
 few-bytes = 1024
 
 abbrev pub some-bytes : ℕ
-some-bytes = 8192
+some-bytes = 16384
 
--- the document is within the limit, and the rooms of our own are large enough for any of so many bytes
-pub record Enough (doc R T : List ℕ) : Type 0 where
-  pub short : length doc ≤ limit
-  pub rows-fit : width * length doc ≤ length R
-  pub text-fits : length doc ≤ length T
-
--- the rooms of our own are filled, where there are rows enough
-holds-few : (doc R R' T T' : List ℕ) (a : Ans) (c : Cursor) → length doc ≤ limit → length doc ≤ length T → width * c .row ≤ length R'
-    → Checked deepest doc a → a ≡ Ok c → Filled deepest doc R R' T T' → length R' ≡ length R → length T' ≡ length T → Held doc R' T' (c .row) (c .text)
-unfolding Checked
-holds-few doc R R' T T' a c l j i x e w u v =
-    let g : Known deepest doc c = rw e at x in
-    let t = g .tree in
-    let d = accepts deepest doc t (g .is) in
-    let z = w .filled t (g .is) in
-    let n = length-rows 0 0 0 t in
-    let h = few-rows deepest doc t d in
-    let k = few-text deepest doc t d in
-    record {
-      tree = t;
-      short = l;
-      word = d;
-      row = g .row;
-      text-count = g .text;
-      few = i;
-      fits = omega (arith, g .text);
-      small = omega (arith, g .row, g .text);
-      table-is = subst (λ (s : List ℕ). Stands s 0 (rowsOf 0 0 0 t)) (sym (z .0)) (stands-sets R 0 (rowsOf 0 0 0 t) (omega (arith, g .row)));
-      text-is = subst (λ (s : List ℕ). Stands s 0 (textOf t)) (sym (z .1)) (stands-sets T 0 (textOf t) (omega arith));
-    }
-
--- there are, where the rooms have a row for each byte
-pub holds : (doc R R' T T' : List ℕ) (a : Ans) (c : Cursor) → Enough doc R T → Checked deepest doc a → a ≡ Ok c → Filled deepest doc R R' T T'
-    → length R' ≡ length R → length T' ≡ length T → Held doc R' T' (c .row) (c .text)
-unfolding Checked
-holds doc R R' T T' a c f x e w u v =
-    let g : Known deepest doc c = rw e at x in
-    let h = few-rows deepest doc (g .tree) (accepts deepest doc (g .tree) (g .is)) in
-    let i = f .rows-fit in
-    holds-few doc R R' T T' a c (f .short) (f .text-fits) (omega (arith, g .row)) x e w u v
-
--- the document is within the limit, and the text room of our own is large enough for any of so many bytes, the table for one row
+-- the document is within the limit; the text room of our own is large enough for any of so many bytes, and the table has no more rows than are asked for repeated keys
 pub record Texted (doc R T : List ℕ) : Type 0 where
   pub short : length doc ≤ limit
-  pub row-fits : width ≤ length R
+  pub rows-few : length R ≤ width * most-rows
   pub text-fits : length doc ≤ length T
 
 -- n rows and m text bytes were read into rooms of our own, which hold them if there are rows enough
@@ -111,11 +49,33 @@ pub reads : (doc R R' T T' : List ℕ) (a : Ans) (c : Cursor) → Texted doc R T
     → length R' ≡ length R → length T' ≡ length T → Read doc R' T' (c .row) (c .text)
 unfolding Checked
 reads doc R R' T T' a c f x e w u v =
+    let g : Known deepest doc c = rw e at x in
+    let t = g .tree in
+    let d = accepts deepest doc t (g .is) in
+    let z = w .filled t (g .is) in
+    let n = length-rows 0 0 0 t in
+    let h = few-rows deepest doc t d in
+    let k = few-text deepest doc t d in
     let l = f .short in
     let j = f .text-fits in
-    let g : Known deepest doc c = rw e at x in
-    let h = few-rows deepest doc (g .tree) (accepts deepest doc (g .tree) (g .is)) in
-    record { few = omega (arith, g .row); held = λ i. holds-few doc R R' T T' a c l j i x e w u v }
+    let o = f .rows-few in
+    record {
+      few = omega (arith, g .row);
+      held = λ i.
+          record {
+            tree = t;
+            short = l;
+            word = d;
+            row = g .row;
+            text-count = g .text;
+            few = i;
+            linked = omega arith;
+            fits = omega (arith, g .text);
+            small = omega (arith, g .row, g .text);
+            table-is = subst (λ (s : List ℕ). Stands s 0 (rowsOf 0 0 0 t)) (sym (z .0)) (stands-sets R 0 (rowsOf 0 0 0 t) (omega (arith, g .row)));
+            text-is = subst (λ (s : List ℕ). Stands s 0 (textOf t)) (sym (z .1)) (stands-sets T 0 (textOf t) (omega arith));
+          };
+    }
 
 pub read-holds : (doc R T : List ℕ) (n m : ℕ) → Read doc R T n m → width * n ≤ length R → Held doc R T n m
 read-holds doc R T n m f i = f .held i

@@ -1,1 +1,4 @@
+pub mod Judged
 pub mod Filling
+pub mod Count
+pub mod Lent

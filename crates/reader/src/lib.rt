@@ -2,43 +2,35 @@
 ghost use Prim.Native.Nat.{_≤_};
 ghost use lib.ListN.{length};
 ghost use Rattle.language.specs.Answered.{number, value, second, Answered, limit};
-ghost use Rattle.reader.specs.Filling.{few-bytes, some-bytes, Enough, Texted, Read, Attempted};
+ghost use Rattle.reader.specs.Filling.{few-bytes, some-bytes, Texted, Read, Attempted};
+ghost use Rattle.reader.specs.Lent.{Passed};
 use answers::answer;
 use judge::blame;
+use judge::check;
 use judge::pass;
 use language::Answer;
 use language::DEEPEST;
 use language::LIMIT;
+use language::Place;
+use language::Row;
 use language::WIDTH;
+use places::MOST;
+use places::first_again;
+use repeats::Repeat;
 use rooms::Ans;
 
-// Rooms of our own are cleared first, and stand on the stack: so documents of few and of some bytes have smaller ones. They have a row for two bytes, as `- - 1` needs; a document with
-// more rows would be read once more, into larger ones.
+// Rooms of our own are cleared first, and stand on the stack: so they are small, and smaller for documents of few bytes. These have a row for two bytes, as `- - 1` needs; those for some bytes
+// have fewer, and a document with more rows, or with more bytes, is read into the rooms lent.
 const FEW: usize = 1024;
 
-const SOME: usize = 8192;
+const SOME: usize = 16384;
+
+const ROWS: usize = 1700;
 
 // What reading into rooms of our own gives: the answer, or that they have too few rows.
 pub enum Tried {
     Settled(Answer),
     TooFew,
-}
-
-// The answer by rooms of our own that are large enough for any document of so many bytes.
-fn judged(
-    doc: &[u8],
-    rows: &mut [u32],
-    bytes: &mut [u8],
-    table: &mut [u32],
-    text: &mut [u8],
-) -> Answer
-    requires { ⌜ Enough (now doc) (now rows) (now bytes) ⌝ }
-    ensures { λ r. ⌜ Answered (now (doc .entry)) (now (table .entry)) (now (text .entry)) (number r) (value r) (second r) (now (table .exit)) (now (text .exit)) ⌝ }
-{
-    match pass(&*doc, rows, bytes, DEEPEST) {
-        Ans::No(p) => blame(&*doc, rows, bytes, p),
-        Ans::Ok(c) => answer(&*doc, &*rows, &*bytes, c.row, c.text, table, text),
-    }
 }
 
 // The answer by rooms of our own whose rows may be too few.
@@ -52,7 +44,8 @@ fn attempt(
     requires { ⌜ Texted (now doc) (now rows) (now bytes) ⌝ }
     ensures { λ r. ⌜ Attempted (now (doc .entry)) (now (table .entry)) (now (text .entry)) r (now (table .exit)) (now (text .exit)) ⌝ }
 {
-    match pass(&*doc, rows, bytes, DEEPEST) {
+    let mut none = [0u32; 1];
+    match pass(&*doc, rows, bytes, &mut none, DEEPEST) {
         Ans::No(p) => Tried::Settled(blame(&*doc, rows, bytes, p)),
         Ans::Ok(c) => settled(&*doc, &*rows, &*bytes, c.row, c.text, table, text),
     }
@@ -77,7 +70,7 @@ fn settled(
     Tried::Settled(answer(&*doc, &*rows, &*bytes, n, m, table, text))
 }
 
-// The answer by rooms for documents of few, of some and of many bytes.
+// The answer by rooms of our own for documents of few bytes, and of some.
 fn of_few_bytes(doc: &[u8], table: &mut [u32], text: &mut [u8]) -> Tried
     requires { ⌜ length (now doc) ≤ few-bytes ⌝ }
     ensures { λ r. ⌜ Attempted (now (doc .entry)) (now (table .entry)) (now (text .entry)) r (now (table .exit)) (now (text .exit)) ⌝ }
@@ -91,28 +84,73 @@ fn of_some_bytes(doc: &[u8], table: &mut [u32], text: &mut [u8]) -> Tried
     requires { ⌜ length (now doc) ≤ some-bytes ⌝ }
     ensures { λ r. ⌜ Attempted (now (doc .entry)) (now (table .entry)) (now (text .entry)) r (now (table .exit)) (now (text .exit)) ⌝ }
 {
-    let mut rows = [0u32; WIDTH * (SOME / 2)];
+    let mut rows = [0u32; WIDTH * ROWS];
     let mut bytes = [0u8; SOME];
     attempt(&*doc, &mut rows, &mut bytes, table, text)
 }
 
-fn of_many_bytes(doc: &[u8], table: &mut [u32], text: &mut [u8]) -> Tried
-    requires { ⌜ length (now doc) ≤ limit ⌝ }
-    ensures { λ r. ⌜ Attempted (now (doc .entry)) (now (table .entry)) (now (text .entry)) r (now (table .exit)) (now (text .exit)) ⌝ }
+// The answer for a document of n rows and m text bytes whose keys are noted: it is read again, into the rooms lent.
+fn filled(
+    doc: &[u8],
+    keys: &mut [u32],
+    n: usize,
+    m: usize,
+    table: &mut [u32],
+    text: &mut [u8],
+) -> Answer
+    requires { ⌜ Passed (now doc) (now keys) n m ⌝ }
+    ensures { λ r. ⌜ Answered (now (doc .entry)) (now (table .entry)) (now (text .entry)) (number r) (value r) (second r) (now (table .exit)) (now (text .exit)) ⌝ }
 {
-    let mut rows = [0u32; WIDTH * (LIMIT / 2)];
-    let mut bytes = [0u8; LIMIT];
-    attempt(&*doc, &mut rows, &mut bytes, table, text)
+    match first_again(&*doc, &*keys) {
+        Repeat::At(p) => {
+            return Answer::Repeat(Place(p));
+        }
+        Repeat::Nowhere => {}
+    }
+    if table.len() < WIDTH * n {
+        return Answer::Rows(Row(n));
+    }
+    if text.len() < m {
+        return Answer::Text(m);
+    }
+    pass(&*doc, table, text, &mut keys[..0], DEEPEST);
+    Answer::Accepted(Row(n), m)
 }
 
-// The answer by rooms of our own for one row a byte.
-fn densely(doc: &[u8], table: &mut [u32], text: &mut [u8]) -> Answer
+// The answer for any document: it is passed over first, and its keys are noted.
+fn of_many_bytes(doc: &[u8], table: &mut [u32], text: &mut [u8]) -> Answer
     requires { ⌜ length (now doc) ≤ limit ⌝ }
     ensures { λ r. ⌜ Answered (now (doc .entry)) (now (table .entry)) (now (text .entry)) (number r) (value r) (second r) (now (table .exit)) (now (text .exit)) ⌝ }
 {
-    let mut rows = [0u32; WIDTH * LIMIT];
-    let mut bytes = [0u8; LIMIT];
-    judged(&*doc, &mut rows, &mut bytes, table, text)
+    let mut keys = [0u32; MOST + 1];
+    match check(&*doc, table, text, &mut keys, DEEPEST) {
+        Ans::No(p) => blame(&*doc, table, text, p),
+        Ans::Ok(c) => filled(&*doc, &mut keys, c.row, c.text, table, text),
+    }
+}
+
+// Whether a row is guessed at the byte: a line's end, a comma, a dash, a colon or an opening bracket.
+fn row_at(b: u8) -> bool {
+    match b {
+        10 | 44 | 45 | 58 | 91 | 123 => true,
+        _ => false,
+    }
+}
+
+// Whether the first bytes promise more rows than rooms of our own have. A wrong guess costs time alone.
+fn dense(doc: &[u8]) -> bool
+    requires { ⌜ length (now doc) ≤ limit ⌝ }
+{
+    let n = doc.len();
+    let mut ends = 0;
+    let mut i = 0;
+    while i < FEW && i < n {
+        if row_at(doc[i]) {
+            ends += 1;
+        }
+        i += 1;
+    }
+    ROWS * FEW < ends * n
 }
 
 // The answer by the class of rooms, from the smallest that the document's length allows on. It calls itself for the next one, so that no frame holds the rooms of two.
@@ -132,7 +170,7 @@ fn by_class(doc: &[u8], table: &mut [u32], text: &mut [u8], class: usize) -> Ans
             }
         }
         1 => {
-            if SOME < n {
+            if SOME < n || dense(&*doc) {
                 return by_class(&*doc, table, text, 2);
             }
             match of_some_bytes(&*doc, table, text) {
@@ -140,11 +178,7 @@ fn by_class(doc: &[u8], table: &mut [u32], text: &mut [u8], class: usize) -> Ans
                 Tried::TooFew => by_class(&*doc, table, text, 2),
             }
         }
-        2 => match of_many_bytes(&*doc, table, text) {
-            Tried::Settled(a) => a,
-            Tried::TooFew => by_class(&*doc, table, text, 3),
-        },
-        _ => densely(&*doc, table, text),
+        _ => of_many_bytes(&*doc, table, text),
     }
 }
 

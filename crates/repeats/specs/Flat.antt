@@ -1,5 +1,5 @@
--- THE KEYS OF A TREE in document order, each with the row of its object; a tree repeats a key exactly if this list names one twice. Assumes nothing.
-use mathlib.Core.Path.{_≡_, refl, sym, ap, _∙_}
+-- KEYS NAMED TWICE in the list of the keys of a tree, and the rows of the objects that they belong to. Assumes nothing.
+use mathlib.Core.Path.{_≡_, refl}
 use mathlib.Core.List.{List, [], _∷_, _++_}
 use mathlib.Core.Logic.{_⊎_, inl, inr}
 use mathlib.Core.Bool.{Bool, true, false}
@@ -9,20 +9,9 @@ use lib.Dec.{eqb}
 use borrow.Author.Tests.{eqb-true}
 use Rattle.notation.specs.Class.{pick}
 use Rattle.language.specs.Kind.{KEY}
-use Rattle.language.specs.Tree.{Tree, leaf, node, Forest, none, more, size, sizes, Has, has-here, has-later, Repeats, inside, Repeated, again, below, beside}
-
--- a key: the row of its object, its first byte, its text
-pub data Named : Type 0 where
-  named : ℕ → ℕ → List ℕ → Named
-
-unfoldable mutual
-  pub flat : ℕ → ℕ → Tree → List Named
-  flat r p (leaf k a e s) = pick (eqb k KEY) (named p a s ∷ []) []
-  flat r p (node k a e c ts) = flats (r + 1) r ts
-
-  pub flats : ℕ → ℕ → Forest → List Named
-  flats r p none = []
-  flats r p (more t ts) = flat r p t ++ flats (r + size t) p ts
+use Rattle.language.specs.Tree.{Tree, leaf, node, Forest, none, more, size, sizes}
+pub use Rattle.notes.specs.Flat.{Named, named}
+unfoldable pub use Rattle.notes.specs.Flat.{flat, flats}
 
 -- a key of the object q with the text s starts at a
 pub data In (q a : ℕ) (s : List ℕ) : List Named → Type 0 where

@@ -1,40 +1,18 @@
--- Keys as rows of a table: what their words have to be, when two are the same, and a mark that is one for the same keys. Assumes nothing.
-use mathlib.Core.Path.{_≡_, refl, sym, ap, _∙_}
-use mathlib.Core.List.{List, [], _∷_}
+-- KEYS AS ROWS of a table: what their words have to be, and how their texts are compared. Assumes nothing.
+use mathlib.Core.Path.{_≡_, sym, ap, _∙_}
+use mathlib.Core.List.{List, _∷_}
 use mathlib.Core.Bool.{Bool, true, false}
-use Prim.Native.Nat.{ℕ, suc, _+_, _-_, _*_, _/_, _%_, _≤_, _<_}
-use native.Mathlib.Nat.{add-zero, mod-lt}
-use native.Mathlib.Numerals.{add-one}
+use Prim.Native.Nat.{ℕ, suc, _+_, _-_, _*_, _≤_, _<_}
+use native.Mathlib.Nat.{add-zero}
 use native.Mathlib.Omega.{arith}
 use lib.ListN.{length, getD}
-use lib.Dec.{eqb}
-use borrow.Author.Tests.{eqb-true, eqb-false}
-use borrow.Author.Needs.{needs}
 use lib.Seq.{slice, slice-cons, slice-empty, length-slice}
+use borrow.Author.Needs.{needs}
+use Rattle.language.specs.Kind.{KEY}
 use Rattle.language.specs.Tree.{width}
 use Rattle.language.specs.Answered.{limit}
-
--- an answer that tells whether A holds
-abbrev pub Tells : Type 0 → Bool → Type 0
-Tells A true = A
-Tells A false = A → ⊥
-
-pub tells-yes : {A : Type 0} (r : Bool) → r ≡ true → Tells A r → A
-tells-yes r e t = rw e at t
-
-pub tells-no : {A : Type 0} (r : Bool) → r ≡ false → Tells A r → A → ⊥
-tells-no r e t = rw e at t
-
-pub tells-map : {A B : Type 0} → (A → B) → (B → A) → (r : Bool) → Tells A r → Tells B r
-tells-map f g true t = f t
-tells-map f g false t = λ b. t (g b)
-
-pub tells-eqb : (a b : ℕ) → Tells (a ≡ b) (eqb a b)
-tells-eqb a b = by (eqb a b) refl
-  where
-    by : (r : Bool) → eqb a b ≡ r → Tells (a ≡ b) r
-    by true e = eqb-true a b e
-    by false e = eqb-false a b e
+use Rattle.repeats.specs.Tells.{Tells}
+use Rattle.repeats.specs.Numbering.{Numbering, Same, chainOf, markOf, stir-first, stir-more, stir-done}
 
 abbrev pub kindOf : List ℕ → ℕ → ℕ
 kindOf rows i = getD rows (width * i) 0
@@ -61,29 +39,10 @@ pub record Keyed (rows text : List ℕ) (i : ℕ) : Type 0 where
   pub fits : toOf rows i ≤ length text
   pub few : i < limit
 
-pub record Same (rows text : List ℕ) (i k : ℕ) : Type 0 where
-  pub objects : objectOf rows i ≡ objectOf rows k
-  pub texts : textAt rows text i ≡ textAt rows text k
-
-unfoldable pub stir : ℕ → List ℕ → ℕ
-stir h [] = h
-stir h (b ∷ bs) = stir ((31 * h + b) % 4294967296) bs
-
-abbrev pub spread : ℕ → ℕ
-spread h = (h + h / 1048576) % 4096
-
-unfoldable pub markOf : List ℕ → List ℕ → ℕ → ℕ
-markOf rows text i = spread (stir (objectOf rows i) (textAt rows text i))
-
-pub mark-low : (rows text : List ℕ) (i : ℕ) → markOf rows text i < 4096
-unfolding markOf
-mark-low rows text i =
-    let h = stir (objectOf rows i) (textAt rows text i) in
-    mod-lt (h + h / 1048576) (omega arith)
-
-pub same-mark : (rows text : List ℕ) (i k : ℕ) → Same rows text i k → markOf rows text i ≡ markOf rows text k
-unfolding markOf
-same-mark rows text i k s = rw (s .objects, s .texts)
+-- the keys among the rows
+abbrev pub rowKeys : List ℕ → List ℕ → Numbering
+rowKeys rows text =
+    record { Key = λ i. kindOf rows i ≡ KEY; start = λ i. startOf rows i; object = λ i. objectOf rows i; text = λ i. textAt rows text i }
 
 -- ---- a turn of the loop over two texts
 
@@ -125,13 +84,13 @@ module _ (rows text : List ℕ) (i k n : ℕ) (x : Keyed rows text i) (y : Keyed
   ends : fromOf rows i + n ≡ toOf rows i
   ends = omega (arith, x .ordered)
 
-  pub same-short : (m : ℕ) → m ≡ toOf rows k - fromOf rows k → (m ≡ n → ⊥) → Tells (Same rows text i k) false
+  pub same-short : (m : ℕ) → m ≡ toOf rows k - fromOf rows k → (m ≡ n → ⊥) → Tells (Same (rowKeys rows text) i k) false
   same-short m g h s =
       h (omega (arith, sym (length-slice (fromOf rows i) (toOf rows i) text (x .fits)) ∙ (ap length (s .texts) ∙ length-slice (fromOf rows k) (toOf rows k) text (y .fits))))
 
   -- told by their texts, where the objects and the lengths are the same
   pub same-told : (r : Bool) (m o q a b : ℕ) → o ≡ objectOf rows i → q ≡ objectOf rows k → o ≡ q → m ≡ toOf rows k - fromOf rows k → m ≡ n → a ≡ fromOf rows i → b ≡ fromOf rows k
-      → Tells (slice a (a + n) text ≡ slice b (b + n) text) r → Tells (Same rows text i k) r
+      → Tells (slice a (a + n) text ≡ slice b (b + n) text) r → Tells (Same (rowKeys rows text) i k) r
   same-told r m o q a b u v w g h f f′ t = by r t
     where
       ends′ : b + n ≡ toOf rows k
@@ -140,45 +99,15 @@ module _ (rows text : List ℕ) (i k n : ℕ) (x : Keyed rows text i) (y : Keyed
       ends″ : a + n ≡ toOf rows i
       ends″ = omega (arith, ends)
 
-      by : (r : Bool) → Tells (slice a (a + n) text ≡ slice b (b + n) text) r → Tells (Same rows text i k) r
+      by : (r : Bool) → Tells (slice a (a + n) text ≡ slice b (b + n) text) r → Tells (Same (rowKeys rows text) i k) r
       by true z = record { objects = cc; texts = rw (ends″, ends′, f, f′) at z }
       by false z = λ s. z (rw (ends″, ends′, f, f′) (s .texts))
 
-pub same-other : (rows text : List ℕ) (i k o q : ℕ) → o ≡ objectOf rows i → q ≡ objectOf rows k → (o ≡ q → ⊥) → Tells (Same rows text i k) false
+pub same-other : (rows text : List ℕ) (i k o q : ℕ) → o ≡ objectOf rows i → q ≡ objectOf rows k → (o ≡ q → ⊥) → Tells (Same (rowKeys rows text) i k) false
 same-other rows text i k o q u v w s = w (let z = s .objects in cc)
 
--- ---- a mark
+-- the mark of a key is made of its text
+pub mark-of : (rows text : List ℕ) (i a e o r : ℕ) → a ≡ fromOf rows i → e ≡ toOf rows i → o ≡ objectOf rows i → r ≡ chainOf o (slice a e text) → r ≡ markOf (rowKeys rows text) i
+mark-of rows text i a e o r p q h z = rw (← p, ← q, ← h) z
 
--- what is stirred so far, of the text from a to e
-pub record Stirred (text : List ℕ) (g a₀ a e h : ℕ) : Type 0 where
-  pub from : a₀ ≤ a
-  pub to : a ≤ e
-  pub low : h < 4294967296
-  pub is : stir g (slice a₀ e text) ≡ stir h (slice a e text)
-
--- .. for the key of row i
-abbrev pub Marking : List ℕ → List ℕ → ℕ → ℕ → ℕ → Type 0
-Marking rows text i a h = Stirred text (objectOf rows i) (fromOf rows i) a (toOf rows i) h
-
-module _ (rows text : List ℕ) (i : ℕ) (x : Keyed rows text i) where
-  pub mark-first : (a h : ℕ) → a ≡ fromOf rows i → h ≡ objectOf rows i → h < 4294967296 → Marking rows text i a h
-  mark-first a h p q l = rw (p, q) (record { from = omega arith; to = x .ordered; low = omega arith; is = refl })
-
-  pub mark-more : (a h h′ e : ℕ) → Marking rows text i a h → e ≡ toOf rows i → a < e → h′ ≡ (31 * h + getD text a 0) % 4294967296 → Marking rows text i (a + 1) h′
-  unfolding stir
-  mark-more a h h′ e y p l z =
-      rw z
-      (record {
-        from = omega (arith, y .from);
-        to = omega arith;
-        low = mod-lt (31 * h + getD text a 0) (omega arith);
-        is = y .is ∙ (ap (stir h) (slice-cons a (toOf rows i) text 0 (omega arith) (x .fits)) ∙ rw add-one refl);
-      })
-
-  pub mark-done : (a h e r : ℕ) → Marking rows text i a h → e ≡ toOf rows i → e ≤ a → r ≡ spread h → r ≡ markOf rows text i
-  unfolding stir markOf
-  mark-done a h e r y p l z =
-      let q : a ≡ toOf rows i = omega (arith, y .to) in
-      z ∙ ap spread (sym (y .is ∙ (ap (λ (j : ℕ). stir h (slice j (toOf rows i) text)) q ∙ ap (stir h) (slice-empty (toOf rows i) text))))
-
-pub ruleset keys = (alike-first, alike-yes, alike-no, alike-more, same-short, same-told, same-other, mark-first, mark-more, mark-done, needs)
+pub ruleset keys = (alike-first, alike-yes, alike-no, alike-more, same-short, same-told, same-other, stir-first, stir-more, stir-done, mark-of, needs)

@@ -1,8 +1,12 @@
 pub mod Flat
 pub mod Repeating
 pub mod Listed
+pub mod Tells
+pub mod Numbering
 pub mod Keys
+pub mod Links
 pub mod Chains
 pub mod Later
+pub mod Turns
 pub mod Twice
 pub mod Told

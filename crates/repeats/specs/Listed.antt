@@ -51,7 +51,7 @@ module _ (l : List ℕ) (i : ℕ) (us vs : List ℕ) (h : Stands l i (us ++ vs))
 pub stands-word : (l : List ℕ) (i : ℕ) (vs : List ℕ) (j : ℕ) → j < length vs → Stands l i vs → getD l (i + j) 0 ≡ getD vs j 0
 stands-word l i vs j k h = sym (getD-drop i l j 0) ∙ (ap (λ (m : List ℕ). getD m j 0) (h .is) ∙ List·getD-append vs (h .rest) 0 j k)
 
-slice-of : (x : ℕ) (l s rest : List ℕ) → drop x l ≡ s ++ rest → slice x (x + length s) l ≡ s
+pub slice-of : (x : ℕ) (l s rest : List ℕ) → drop x l ≡ s ++ rest → slice x (x + length s) l ≡ s
 slice-of zero l s rest h = rw (zero-add (length s), h) (take-append-seam s rest)
 slice-of (suc x) [] [] rest h = rw suc-add refl
 slice-of (suc x) [] (v ∷ s) rest h = let z : _≡_ {A = ℕ} 0 1 = cc in absurd (omega arith)

@@ -1,15 +1,15 @@
 -- A TREE REPEATS A KEY exactly if the list of its keys names one twice: `repeats-twice` and `twice-repeats`. Assumes nothing.
-use mathlib.Core.Path.{_≡_, refl, sym, ap, subst, _∙_}
-use mathlib.Core.List.{List, [], _∷_, _++_}
+use mathlib.Core.Path.{_≡_, refl, sym, subst}
+use mathlib.Core.List.{List, [], _∷_}
 use mathlib.Core.Logic.{_⊎_, inl, inr}
 use mathlib.Core.Bool.{Bool, true, false}
-use Prim.Native.Nat.{ℕ, suc, _+_, _≤_, _<_}
+use Prim.Native.Nat.{ℕ, suc, _+_, _<_}
 use native.Mathlib.Omega.{arith}
 use lib.Dec.{eqb}
 use Rattle.notation.specs.Class.{pick}
 use Rattle.language.specs.Kind.{KEY}
 use Rattle.language.specs.Tree.{Tree, leaf, node, Forest, none, more, size, sizes, Has, has-here, has-later, Repeats, inside, Repeated, again, below, beside}
-use Rattle.repeats.specs.Flat.{Named, named, flat, flats, In, in-here, in-later, Twice, twice-here, twice-later, in-left, in-right, in-split, twice-left, twice-right, Split, in-first, in-second, across, twice-split, Below, leaf-object, either, object, objects}
+use Rattle.repeats.specs.Flat.{named, flat, flats, In, in-here, Twice, twice-here, twice-later, in-right, in-split, twice-left, twice-right, Split, in-first, in-second, across, twice-split, Below, leaf-object, either, object, objects}
 
 -- ---- from the tree to the list
 

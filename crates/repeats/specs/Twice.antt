@@ -1,176 +1,181 @@
--- THE ANSWER FOR ROWS (`FirstRepeat`): a key that is the same as one of an earlier row is one that the list of keys names twice, and back. Assumes nothing.
-use mathlib.Core.Path.{_≡_, refl, sym, ap, _∙_}
+-- THE KEYS IN A LIST (`Lists`): a key that is the same as an earlier one is one that the list names twice, and back. With it the answer for rows (`FirstRepeat`). Assumes nothing.
+use mathlib.Core.Path.{_≡_, refl, sym, ap, subst, _∙_}
 use mathlib.Core.List.{List, [], _∷_, _++_}
 use mathlib.Core.Bool.{Bool, true, false}
 use Prim.Native.Nat.{ℕ, zero, suc, _+_, _≤_, _<_}
+use native.Mathlib.Nat.{add-zero}
 use native.Mathlib.Omega.{arith}
 use native.Mathlib.Decide.{ℕ-discrete}
 use lib.Dec.{eqb}
-use borrow.Author.Tests.{eq-eqb}
-use Rattle.notation.specs.Class.{pick}
+use borrow.Author.Tests.{eqb-true, eqb-false}
 use Rattle.language.specs.Kind.{KEY}
 use Rattle.repeats.specs.declared.Repeat.{Repeat}
-use Rattle.repeats.specs.Flat.{named, In, in-here, Twice, twice-here, twice-later, in-left, in-right, in-split, twice-right, Split, in-first, in-second, across, twice-split, leaf-object, either}
+use Rattle.repeats.specs.Flat.{Named, named, In, in-here, in-later, Twice, twice-here, twice-later}
 use Rattle.repeats.specs.Listed.{keyRow, listed}
-use Rattle.repeats.specs.Keys.{kindOf, startOf, objectOf, textAt, Same}
+use Rattle.repeats.specs.Numbering.{Numbering, Same}
+use Rattle.repeats.specs.Keys.{kindOf, rowKeys}
 use Rattle.repeats.specs.Later.{Names, names-map, Later}
 
-module _ (rows text : List ℕ) where
-  -- a key of n rows from row i on
-  record Held (n i q a : ℕ) (s : List ℕ) : Type 0 where
-    row : ℕ
-    least : i ≤ row
-    most : row < i + n
-    key : kindOf rows row ≡ KEY
-    object : q ≡ objectOf rows row
-    starts : a ≡ startOf rows row
-    is : s ≡ textAt rows text row
+-- the list of the keys from i up to e
+pub data Lists (N : Numbering) (e : ℕ) : ℕ → List Named → Type 0 where
+  lists-none : Lists N e e []
+  lists-key : {i : ℕ} {ns : List Named} → N .Key i → Lists N e (suc i) ns → Lists N e i (named (N .object i) (N .start i) (N .text i) ∷ ns)
+  lists-other : {i : ℕ} {ns : List Named} → (N .Key i → ⊥) → Lists N e (suc i) ns → Lists N e i ns
 
-  key-here : (i : ℕ) → kindOf rows i ≡ KEY → keyRow rows text i ≡ named (objectOf rows i) (startOf rows i) (textAt rows text i) ∷ []
-  unfolding keyRow
-  key-here i k = rw (eq-eqb (kindOf rows i) KEY k)
+module _ (N : Numbering) (e : ℕ) where
+  -- a key of the list
+  record Held (i q a : ℕ) (s : List ℕ) : Type 0 where
+    number : ℕ
+    least : i ≤ number
+    most : number < e
+    key : N .Key number
+    object : q ≡ N .object number
+    starts : a ≡ N .start number
+    is : s ≡ N .text number
 
-  here-key : (i q a : ℕ) (s : List ℕ) → In q a s (keyRow rows text i) → (kindOf rows i ≡ KEY) × (q ≡ objectOf rows i) × (a ≡ startOf rows i) × (s ≡ textAt rows text i)
-  unfolding keyRow
-  here-key i q a s x = leaf-object (kindOf rows i) (objectOf rows i) (startOf rows i) (textAt rows text i) (eqb (kindOf rows i) KEY) refl x
+  lists-le : {i : ℕ} {ns : List Named} → Lists N e i ns → i ≤ e
+  lists-le lists-none = omega arith
+  lists-le (lists-key k x) = let h = lists-le x in omega arith
+  lists-le (lists-other k x) = let h = lists-le x in omega arith
 
-  in-held : (n i q a : ℕ) (s : List ℕ) → In q a s (listed n i rows text) → Held n i q a s
-  unfolding listed
-  in-held zero i q a s x = elim x [ ]
-  in-held (suc n) i q a s x =
-      either
-      (λ y. let h = here-key i q a s y in record { row = i; least = omega arith; most = omega arith; key = h .0; object = h .1; starts = h .2; is = h .3 })
-      (λ y. let h = in-held n (suc i) q a s y in record { row = h .row; least = omega (arith, h .least); most = omega (arith, h .most); key = h .key; object = h .object; starts = h .starts; is = h .is })
-      (in-split (keyRow rows text i) (listed n (suc i) rows text) x)
+  held-later : {i q a : ℕ} {s : List ℕ} → Held (suc i) q a s → Held i q a s
+  held-later h = record { number = h .number; least = omega (arith, h .least); most = h .most; key = h .key; object = h .object; starts = h .starts; is = h .is }
 
-  held-in : (n i k : ℕ) → i ≤ k → k < i + n → kindOf rows k ≡ KEY → In (objectOf rows k) (startOf rows k) (textAt rows text k) (listed n i rows text)
-  unfolding listed
-  held-in zero i k l m e = absurd (omega arith)
-  held-in (suc n) i k l m e = by (ℕ-discrete i k) (held-in n (suc i) k)
+  in-held : (i : ℕ) (ns : List Named) {q a : ℕ} {s : List ℕ} → Lists N e i ns → In q a s ns → Held i q a s
+  in-held i ns lists-none x = elim x [ ]
+  in-held i ns (lists-key k y) in-here =
+      record { number = i; least = omega arith; most = (let h = lists-le y in omega arith); key = k; object = refl; starts = refl; is = refl }
+  in-held i ns (lists-key k y) (in-later x) = held-later (in-held (suc i) _ y x)
+  in-held i ns (lists-other k y) x = held-later (in-held (suc i) _ y x)
+
+  held-in : (i : ℕ) (ns : List Named) → Lists N e i ns → (k : ℕ) → i ≤ k → k < e → N .Key k → In (N .object k) (N .start k) (N .text k) ns
+  held-in i ns lists-none k l m h = absurd (omega arith)
+  held-in i ns (lists-key {ns = ms} z y) k l m h = by (ℕ-discrete i k) (λ a b c. held-in (suc i) ms y k a b c)
     where
-      by : Dec (i ≡ k) → (suc i ≤ k → k < suc i + n → kindOf rows k ≡ KEY → In (objectOf rows k) (startOf rows k) (textAt rows text k) (listed n (suc i) rows text))
-          → In (objectOf rows k) (startOf rows k) (textAt rows text k) (keyRow rows text i ++ listed n (suc i) rows text)
-      by (yes h) f = in-left (keyRow rows text i) (listed n (suc i) rows text) (rw (h, key-here k e) in-here)
-      by (no h) f = in-right (keyRow rows text i) (listed n (suc i) rows text) (f (omega arith) (omega arith) e)
+      by : Dec (i ≡ k) → (suc i ≤ k → k < e → N .Key k → In (N .object k) (N .start k) (N .text k) ms)
+          → In (N .object k) (N .start k) (N .text k) (named (N .object i) (N .start i) (N .text i) ∷ ms)
+      by (yes g) f = rw g in-here
+      by (no g) f = in-later (f (omega arith) m h)
+  held-in i ns (lists-other z y) k l m h =
+      let g : i ≡ k → ⊥ = λ g. z (subst (N .Key) (sym g) h) in
+      held-in (suc i) ns y k (omega (arith, g)) m h
 
-  -- two of n rows from row i on are the same keys, and the later starts at p
-  record Pair (n i p : ℕ) : Type 0 where
+  -- two keys from i on are the same, and the later starts at p
+  record Pair (i p : ℕ) : Type 0 where
     one : ℕ
     two : ℕ
     least : i ≤ one
     between : one < two
-    most : two < i + n
-    one-key : kindOf rows one ≡ KEY
-    two-key : kindOf rows two ≡ KEY
-    starts : startOf rows two ≡ p
-    same : Same rows text two one
+    most : two < e
+    one-key : N .Key one
+    two-key : N .Key two
+    starts : N .start two ≡ p
+    same : Same N two one
 
-  no-two : (i p : ℕ) → Twice p (keyRow rows text i) → ⊥
-  unfolding keyRow
-  no-two i p x = by (eqb (kindOf rows i) KEY) x
-    where
-      by : (c : Bool) → Twice p (pick c (named (objectOf rows i) (startOf rows i) (textAt rows text i) ∷ []) []) → ⊥
-      by true (twice-here y) = elim y [ ]
-      by true (twice-later y) = elim y [ ]
-      by false y = elim y [ ]
+  pair-from : {p : ℕ} (i j : ℕ) (x : Pair i p) → j ≤ x .one → Pair j p
+  pair-from i j x l =
+      record {
+        one = x .one;
+        two = x .two;
+        least = l;
+        between = x .between;
+        most = x .most;
+        one-key = x .one-key;
+        two-key = x .two-key;
+        starts = x .starts;
+        same = x .same;
+      }
 
-  twice-pair : (n i p : ℕ) → Twice p (listed n i rows text) → Pair n i p
-  unfolding listed
-  twice-pair zero i p x = elim x [ ]
-  twice-pair (suc n) i p x = by (twice-pair n (suc i) p) (twice-split (keyRow rows text i) (listed n (suc i) rows text) x)
-    where
-      by : (Twice p (listed n (suc i) rows text) → Pair n (suc i) p) → Split p (keyRow rows text i) (listed n (suc i) rows text) → Pair (suc n) i p
-      by f (in-first y) = absurd (no-two i p y)
-      by f (in-second y) =
-          let h = f y in
-          record {
-            one = h .one;
-            two = h .two;
-            least = omega (arith, h .least);
-            between = h .between;
-            most = omega (arith, h .most);
-            one-key = h .one-key;
-            two-key = h .two-key;
-            starts = h .starts;
-            same = h .same;
-          }
-      by f (across q a s y z) =
-          let u = here-key i q a s y in
-          let v = in-held n (suc i) q p s z in
-          record {
-            one = i;
-            two = v .row;
-            least = omega arith;
-            between = omega (arith, v .least);
-            most = omega (arith, v .most);
-            one-key = u .0;
-            two-key = v .key;
-            starts = sym (v .starts);
-            same = record { objects = sym (v .object) ∙ u .1; texts = sym (v .is) ∙ u .3 };
-          }
+  pair-later : {p : ℕ} (i : ℕ) → Pair (suc i) p → Pair i p
+  pair-later i x = pair-from (suc i) i x (omega (arith, x .least))
 
-  pair-twice : (n i p : ℕ) → Pair n i p → Twice p (listed n i rows text)
-  unfolding listed
-  pair-twice zero i p x = absurd (omega (arith, x .least, x .between, x .most))
-  pair-twice (suc n) i p x = by (ℕ-discrete (x .one) i) (pair-twice n (suc i) p)
+  twice-pair : (i : ℕ) (ns : List Named) {p : ℕ} → Lists N e i ns → Twice p ns → Pair i p
+  twice-pair i ns lists-none x = elim x [ ]
+  twice-pair i ns (lists-key k y) (twice-here x) =
+      let v = in-held (suc i) _ y x in
+      record {
+        one = i;
+        two = v .number;
+        least = omega arith;
+        between = omega (arith, v .least);
+        most = v .most;
+        one-key = k;
+        two-key = v .key;
+        starts = sym (v .starts);
+        same = record { objects = sym (v .object); texts = sym (v .is) };
+      }
+  twice-pair i ns (lists-key k y) (twice-later x) = pair-later i (twice-pair (suc i) _ y x)
+  twice-pair i ns (lists-other k y) x = pair-later i (twice-pair (suc i) _ y x)
+
+  pair-twice : (i : ℕ) (ns : List Named) {p : ℕ} → Lists N e i ns → Pair i p → Twice p ns
+  pair-twice i ns lists-none x = absurd (omega (arith, x .least, x .between, x .most))
+  pair-twice i ns {p} (lists-key {ns = ms} z y) x = by (ℕ-discrete (x .one) i) (λ w. pair-twice (suc i) ms y w)
     where
-      by : Dec (x .one ≡ i) → (Pair n (suc i) p → Twice p (listed n (suc i) rows text)) → Twice p (keyRow rows text i ++ listed n (suc i) rows text)
+      by : Dec (x .one ≡ i) → (Pair (suc i) p → Twice p ms) → Twice p (named (N .object i) (N .start i) (N .text i) ∷ ms)
       by (yes h) f =
-          let k : kindOf rows i ≡ KEY = ap (kindOf rows) (sym h) ∙ x .one-key in
-          let o : objectOf rows (x .two) ≡ objectOf rows i = x .same .objects ∙ ap (objectOf rows) h in
-          let s : textAt rows text (x .two) ≡ textAt rows text i = x .same .texts ∙ ap (textAt rows text) h in
-          let y = held-in n (suc i) (x .two) (omega (arith, x .between)) (omega (arith, x .most)) (x .two-key) in
-          let z : In (objectOf rows i) p (textAt rows text i) (listed n (suc i) rows text) = rw (o, s, x .starts) at y in
-          rw (key-here i k) (twice-here z)
-      by (no h) f =
-          twice-right
-          (keyRow rows text i)
-          (listed n (suc i) rows text)
-          (f
-          (record {
-            one = x .one;
-            two = x .two;
-            least = omega (arith, x .least);
-            between = x .between;
-            most = omega (arith, x .most);
-            one-key = x .one-key;
-            two-key = x .two-key;
-            starts = x .starts;
-            same = x .same;
-          }))
+          let o : N .object (x .two) ≡ N .object i = x .same .objects ∙ ap (N .object) h in
+          let s : N .text (x .two) ≡ N .text i = x .same .texts ∙ ap (N .text) h in
+          let v = held-in (suc i) ms y (x .two) (omega (arith, x .between)) (x .most) (x .two-key) in
+          let w : In (N .object i) p (N .text i) ms = rw (o, s, x .starts) at v in
+          twice-here w
+      by (no h) f = twice-later (f (pair-from i (suc i) x (omega (arith, x .least))))
+  pair-twice i ns (lists-other z y) x =
+      pair-twice (suc i) ns y (pair-from i (suc i) x (let h : x .one ≡ i → ⊥ = λ g. z (subst (N .Key) g (x .one-key)) in omega (arith, x .least)))
 
-  pub later-twice : (n p : ℕ) → Later rows text n p → Twice p (listed n 0 rows text)
-  later-twice n p x =
+-- where the list is that of all keys
+module _ (N : Numbering) (n : ℕ) (ns : List Named) (l : Lists N n 0 ns) (p : ℕ) where
+  pub later-twice : Later N n p → Twice p ns
+  later-twice x =
       let e = x .earlier in
       pair-twice
+      N
       n
       0
-      p
+      ns
+      l
       (record {
-        one = e .row;
-        two = x .row;
+        one = e .other;
+        two = x .number;
         least = omega arith;
         between = e .key .before;
-        most = omega (arith, x .key .before);
+        most = x .key .before;
         one-key = e .key .key;
         two-key = x .key .key;
         starts = x .starts;
         same = e .same;
       })
 
-  pub twice-later-row : (n p : ℕ) → Twice p (listed n 0 rows text) → Later rows text n p
-  twice-later-row n p x =
-      let h = twice-pair n 0 p x in
+  pub twice-later-key : Twice p ns → Later N n p
+  twice-later-key x =
+      let h = twice-pair N n 0 ns l x in
       record {
-        row = h .two;
-        key = record { before = omega (arith, h .most); key = h .two-key };
+        number = h .two;
+        key = record { before = h .most; key = h .two-key };
         starts = h .starts;
-        earlier = record { row = h .one; key = record { before = h .between; key = h .one-key }; same = h .same };
+        earlier = record { other = h .one; key = record { before = h .between; key = h .one-key }; same = h .same };
       }
+
+-- THE ROWS list their keys
+module _ (rows text : List ℕ) where
+  pub row-lists : (n i e : ℕ) → e ≡ i + n → Lists (rowKeys rows text) e i (listed n i rows text)
+  unfolding listed keyRow
+  row-lists zero i e h = rw h (rw (add-zero i) lists-none)
+  row-lists (suc n) i e h = by (eqb (kindOf rows i) KEY) refl (row-lists n (suc i) e (omega arith))
+    where
+      by : (c : Bool) → eqb (kindOf rows i) KEY ≡ c → Lists (rowKeys rows text) e (suc i) (listed n (suc i) rows text)
+          → Lists (rowKeys rows text) e i (keyRow rows text i ++ listed n (suc i) rows text)
+      by true z x = rw z (lists-key (eqb-true (kindOf rows i) KEY z) x)
+      by false z x = rw z (lists-other (eqb-false (kindOf rows i) KEY z) x)
 
 -- THE ANSWER for n rows: the least start of a key that the list of keys names twice, or that there is none
 abbrev pub FirstRepeat : List ℕ → List ℕ → ℕ → Repeat → Type 0
 FirstRepeat rows text n r = Names (λ p. Twice p (listed n 0 rows text)) r
 
-pub first-repeat : (rows text : List ℕ) (n : ℕ) (r : Repeat) → Names (Later rows text n) r → FirstRepeat rows text n r
-first-repeat rows text n r x = names-map (later-twice rows text n) (twice-later-row rows text n) r x
+pub first-repeat : (rows text : List ℕ) (n : ℕ) (r : Repeat) → Names (Later (rowKeys rows text) n) r → FirstRepeat rows text n r
+first-repeat rows text n r x =
+    let l = row-lists rows text n 0 n (omega arith) in
+    names-map
+    (λ p y. later-twice (rowKeys rows text) n (listed n 0 rows text) l p y)
+    (λ p y. twice-later-key (rowKeys rows text) n (listed n 0 rows text) l p y)
+    r
+    x

@@ -1,9 +1,9 @@
--- EVERY DOCUMENT'S TREE: its rows and its text are fewer than the document's bytes, its spans and its kinds are in their place. Assumes nothing.
+-- EVERY DOCUMENT'S TREE: its rows and its text are fewer than the document's bytes, its keys a fourth of them at most, its spans and its kinds are in their place. Assumes nothing.
 use mathlib.Core.Path.{_≡_}
 use mathlib.Core.List.{List}
 use mathlib.Core.Logic.{inl}
 use mathlib.Core.Bool.{true}
-use Prim.Native.Nat.{ℕ, zero, suc, _+_, _≤_, _<_}
+use Prim.Native.Nat.{ℕ, zero, suc, _+_, _*_, _≤_, _<_}
 use native.Mathlib.Omega.{arith}
 use lib.ListN.{length}
 use Rattle.notation.specs.Lang.{End, end}
@@ -12,19 +12,22 @@ use Rattle.language.specs.Document.{RootLine, Root, Whole, Document}
 use Rattle.spans.specs.Every.{ret-every, byte-every, byte-then, bind-every, alt-every}
 use Rattle.spans.specs.Placed.{Placed, Child, Siblings, Within, Inside, span-some, child-inside, siblings-ordered, within-placed, within-inside}
 use Rattle.spans.specs.Formed.{Formed, Sound, formed-sound}
+use Rattle.spans.specs.Keys.{keysIn}
 use Rattle.spans.specs.Kinds.{Contains, Tells, within-either, either-contains, either-tells}
-use Rattle.spans.specs.Lies.{Lies, lies-from, lies-to, lies-line}
+use Rattle.spans.specs.Lies.{LiesIn, lies-from, lies-to, lies-line}
 use Rattle.spans.specs.Texts.{star-goes, comment-goes}
 use Rattle.spans.specs.Inline.{value-lies}
-use Rattle.spans.specs.Blocks.{OnLines, object-lies, array-lies, open-lies, nested-lies, item-lies}
+use Rattle.spans.specs.Blocks.{OnLines, Roomy, on-lines, object-lies, array-lies, open-lies, nested-lies, item-lies}
 
-root-line-lies : (k : ℕ) → OnLines (RootLine k)
+root-line-lies : (k : ℕ) → Roomy (RootLine k)
 root-line-lies k at = bind-every (value-lies true k at) (λ v m x. byte-then (λ b. ret-every (lies-line (omega arith) x)))
 
 root-lies : (k : ℕ) → OnLines (Root k)
-root-lies zero at = alt-every (root-line-lies zero at) (open-lies 0 at)
+root-lies zero at = on-lines (λ b. alt-every (root-line-lies zero b) (open-lies 0 b)) at
 root-lies (suc k) at =
-    alt-every (alt-every (root-line-lies (suc k) at) (open-lies 0 at)) (alt-every (array-lies (item-lies k 2) 0 at) (object-lies k 0 (nested-lies k 2) at))
+    alt-every
+    (on-lines (λ b. alt-every (root-line-lies (suc k) b) (open-lies 0 b)) at)
+    (alt-every (on-lines (array-lies (item-lies k 2) 0) at) (object-lies k 0 (nested-lies k 1) at))
 
 whole-lies : (k : ℕ) → OnLines (Whole k)
 whole-lies k at =
@@ -35,11 +38,11 @@ whole-lies k at =
     (λ v e x. bind-every (star-goes (λ a. byte-every (λ b. omega arith)) e) (λ fs at′ l. ret-every (lies-from h (lies-to l x)))))
 
 module _ (k : ℕ) (doc : List ℕ) (t : Tree) (d : Document k doc t) where
-  document-lies : Lies Formed 1 0 t (length doc)
+  document-lies : LiesIn Formed 1 1 0 t (length doc)
   unfolding Document
   document-lies = by (d .others) (whole-lies k 0 .has (d .first)) (whole-lies k 0 .moves (d .first))
     where
-      by : {v : Tree} {m : ℕ} {s : List ℕ} → End v m s t → Lies Formed 1 0 v m → m + length s ≡ 0 + length doc → Lies Formed 1 0 t (length doc)
+      by : {v : Tree} {m : ℕ} {s : List ℕ} → End v m s t → LiesIn Formed 1 1 0 v m → m + length s ≡ 0 + length doc → LiesIn Formed 1 1 0 t (length doc)
       by end x h = lies-to (omega arith) x
 
   -- "Rows and text are each fewer than the document's bytes."
@@ -48,6 +51,10 @@ module _ (k : ℕ) (doc : List ℕ) (t : Tree) (d : Document k doc t) where
 
   pub few-text : length (textOf t) < length doc
   few-text = let h = document-lies .text in omega arith
+
+  -- four bytes or more belong to each key
+  pub few-keys : 4 * keysIn t ≤ length doc
+  few-keys = let h = document-lies .keys in omega arith
 
   -- its spans are in their place; the next four say so in plain words
   pub placed : Placed t

@@ -9,7 +9,7 @@ use Rattle.language.specs.Tree.{Tree}
 use Rattle.language.specs.Inline.{Listed, InlineArray, InlinePair, InlineObject, Scalar, Value}
 use Rattle.spans.specs.Every.{Every, Extends, ret-every, here-then, byte-then, seq-every, bind-every, via, alt-every, star-every, word-then}
 use Rattle.spans.specs.Formed.{Formed}
-use Rattle.spans.specs.Lies.{Lies, ElementsLie, PairsLie, lies-from, elements-none, elements-more, pairs-none, pairs-more, inline-array-lies, inline-object-lies}
+use Rattle.spans.specs.Lies.{LiesIn, Lies, ElementsLie, PairsLie, lies-from, elements-none, elements-more, pairs-none, pairs-more, inline-array-lies, inline-object-lies}
 use Rattle.spans.specs.Scalars.{plain-lies}
 use Rattle.spans.specs.Strings.{string-lies, key-lies, inline-bytes-lies}
 
@@ -26,7 +26,7 @@ listed-every close I none more at k =
     (λ vs e h. byte-then (λ b. ret-every (k _ e (f vs e h))))))
 
 -- values one after another
-pub elements-extend : {A : Lang Tree} {n : ℕ} → ((at : ℕ) → Every A at (Lies Formed n at)) → Extends ElementsLie A
+pub elements-extend : {A : Lang Tree} {n j : ℕ} → ((at : ℕ) → Every A at (LiesIn Formed n j at)) → Extends ElementsLie A
 elements-extend g at b h = via (g b) (λ v m x vs e y. elements-more (lies-from h x) y)
 
 module _ {A : Lang Tree} (g : (at : ℕ) → Every A at (Lies Formed 0 at)) where
@@ -41,7 +41,7 @@ module _ {A : Lang Tree} (g : (at : ℕ) → Every A at (Lies Formed 0 at)) wher
       (key-lies b)
       (λ k m x. word-then (58 ∷ 32 ∷ []) (λ n l. bind-every (g n) (λ v o y. ret-every (λ vs e z. pairs-more (lies-from h x) (on l) y z))))
     where
-      on : {m n : ℕ} → n ≡ m + 2 → m ≤ n
+      on : {m n : ℕ} → n ≡ m + 2 → suc (suc m) ≤ n
       on h = omega arith
 
   object-every : (at : ℕ) → Every (InlineObject A) at (Lies Formed 0 at)

@@ -1,6 +1,7 @@
 pub mod Every
 pub mod Placed
 pub mod Formed
+pub mod Keys
 pub mod Kinds
 pub mod Lies
 pub mod Texts

@@ -1,26 +1,34 @@
--- TREES IN THEIR BYTES: a tree that was read from the byte `at` up to the byte at′ has its span, its rows and its text there. Assumes nothing.
+-- TREES IN THEIR BYTES: a tree that was read from the byte `at` up to the byte at′ has its span, its rows, its text and its keys there. Assumes nothing.
 use mathlib.Core.List.{List, [], _∷_, _++_}
-use Prim.Native.Nat.{ℕ, suc, _+_, _≤_, _<_}
+use Prim.Native.Nat.{ℕ, suc, _+_, _*_, _≤_, _<_}
 use native.Mathlib.Omega.{arith}
 use lib.ListN.{length, length-append}
 use Rattle.language.specs.Tree.{Tree, leaf, node, Forest, forest, count, first, after, Field, field, fields, Entry, entry, entries, endOf, arrayTree, objectTree, blockArray, blockObject, size, sizes, textOf, textsOf}
 use Rattle.spans.specs.Placed.{Placed, Along, placed-leaf, placed-node, along-none, along-more, along-wide, along-end, along-le, end-le, span-some}
 use Rattle.spans.specs.Formed.{Formed, Elements, Pairs, IsKey, no-element, element, no-pair, pair, formed-array, formed-object}
+use Rattle.spans.specs.Keys.{keysIn, keysAmong, value-none, key-one}
 
--- its rows and its text are each fewer than the bytes, or as many, with so many bytes to spare. F: what it is by its kinds
-pub record Lies (F : Tree → Type 0) (spare at : ℕ) (t : Tree) (at′ : ℕ) : Type 0 where
+-- its rows and its text are each fewer than the bytes, or as many, with so many bytes to spare; and each of its keys takes four bytes, beside `free` ones.
+-- F: what it is by its kinds
+pub record LiesIn (F : Tree → Type 0) (spare free at : ℕ) (t : Tree) (at′ : ℕ) : Type 0 where
   pub begins : at ≤ first t
   pub ends : after t ≤ at′
   pub placed : Placed t
   pub rows : spare + at + size t ≤ at′
   pub text : spare + at + length (textOf t) ≤ at′
+  pub keys : free + at + 4 * keysIn t ≤ at′
   pub formed : F t
+
+-- all but a block object take a byte more than they spare
+abbrev pub Lies : (Tree → Type 0) → ℕ → ℕ → Tree → ℕ → Type 0
+Lies F n = LiesIn F n (suc n)
 
 -- trees one after another
 pub record Lie (at : ℕ) (ts : List Tree) (at′ : ℕ) : Type 0 where
   pub along : Along at (forest ts) at′
   pub rows : at + sizes (forest ts) ≤ at′
   pub text : at + length (textsOf (forest ts)) ≤ at′
+  pub keys : at + 4 * keysAmong (forest ts) ≤ at′
 
 -- the elements of an array; the pairs of an object
 pub record ElementsLie (at : ℕ) (ts : List Tree) (at′ : ℕ) : Type 0 where
@@ -32,19 +40,21 @@ pub record PairsLie (at : ℕ) (fs : List Field) (at′ : ℕ) : Type 0 where
   pub all : Pairs (count fs) (forest (fields fs))
 
 -- in more bytes
-pub lies-from : {F : Tree → Type 0} {n a b e : ℕ} {t : Tree} → a ≤ b → Lies F n b t e → Lies F n a t e
+pub lies-from : {F : Tree → Type 0} {n j a b e : ℕ} {t : Tree} → a ≤ b → LiesIn F n j b t e → LiesIn F n j a t e
 lies-from h x =
     let p = x .begins in
     let r = x .rows in
     let s = x .text in
-    record { begins = omega arith; ends = x .ends; placed = x .placed; rows = omega arith; text = omega arith; formed = x .formed }
+    let k = x .keys in
+    record { begins = omega arith; ends = x .ends; placed = x .placed; rows = omega arith; text = omega arith; keys = omega arith; formed = x .formed }
 
-pub lies-to : {F : Tree → Type 0} {n a e f : ℕ} {t : Tree} → e ≤ f → Lies F n a t e → Lies F n a t f
+pub lies-to : {F : Tree → Type 0} {n j a e f : ℕ} {t : Tree} → e ≤ f → LiesIn F n j a t e → LiesIn F n j a t f
 lies-to h x =
     let q = x .ends in
     let r = x .rows in
     let s = x .text in
-    record { begins = x .begins; ends = omega arith; placed = x .placed; rows = omega arith; text = omega arith; formed = x .formed }
+    let k = x .keys in
+    record { begins = x .begins; ends = omega arith; placed = x .placed; rows = omega arith; text = omega arith; keys = omega arith; formed = x .formed }
 
 -- with a byte or more behind it
 pub lies-line : {F : Tree → Type 0} {a m e : ℕ} {t : Tree} → m < e → Lies F 0 a t m → Lies F 1 a t e
@@ -53,20 +63,36 @@ lies-line h x =
     let q = x .ends in
     let r = x .rows in
     let s = x .text in
-    record { begins = omega arith; ends = omega arith; placed = x .placed; rows = omega arith; text = omega arith; formed = x .formed }
+    let k = x .keys in
+    record { begins = omega arith; ends = omega arith; placed = x .placed; rows = omega arith; text = omega arith; keys = omega arith; formed = x .formed }
+
+-- with a byte or more in front of it, and with fewer free ones
+pub lies-behind : {F : Tree → Type 0} {n j a b e : ℕ} {t : Tree} → a < b → LiesIn F n j b t e → LiesIn F n (suc j) a t e
+lies-behind h x =
+    let p = x .begins in
+    let r = x .rows in
+    let s = x .text in
+    let k = x .keys in
+    record { begins = omega arith; ends = x .ends; placed = x .placed; rows = omega arith; text = omega arith; keys = omega arith; formed = x .formed }
+
+pub lies-less : {F : Tree → Type 0} {n j a e : ℕ} {t : Tree} → LiesIn F n (suc j) a t e → LiesIn F n j a t e
+lies-less x =
+    let k = x .keys in
+    record { begins = x .begins; ends = x .ends; placed = x .placed; rows = x .rows; text = x .text; keys = omega arith; formed = x .formed }
 
 -- a leaf whose span begins where it was read
 pub leaf-lies : {F : Tree → Type 0} {n k a e at′ : ℕ} {s : List ℕ} → F (leaf k a e s) → a < e → e ≤ at′ → n + suc a ≤ at′ → n + a + length s ≤ at′ → Lies F n a (leaf k a e s) at′
-unfolding size textOf
-leaf-lies f h k l m = record { begins = omega arith; ends = k; placed = placed-leaf h; rows = omega arith; text = m; formed = f }
+unfolding size textOf keysIn
+leaf-lies f h k l m = record { begins = omega arith; ends = k; placed = placed-leaf h; rows = omega arith; text = m; keys = omega arith; formed = f }
 
 pub lie-none : (at : ℕ) → Lie at [] at
-unfolding sizes textsOf
-lie-none at = record { along = along-none {a = at} {e = at} (omega arith); rows = omega arith; text = omega arith }
+unfolding sizes textsOf keysAmong
+lie-none at = record { along = along-none {a = at} {e = at} (omega arith); rows = omega arith; text = omega arith; keys = omega arith }
 
-pub lie-more : {F : Tree → Type 0} {n a m b e : ℕ} {t : Tree} {ts : List Tree} → Lies F n a t m → m ≤ b → Lie b ts e → Lie a (t ∷ ts) e
+-- one tree more in front, with the bytes of its keys
+lie-more : {F : Tree → Type 0} {n j a m b e : ℕ} {t : Tree} {ts : List Tree} → LiesIn F n j a t m → m ≤ b → Lie b ts e → a + 4 * keysAmong (forest (t ∷ ts)) ≤ e → Lie a (t ∷ ts) e
 unfolding sizes textsOf
-lie-more {a = a} {b = b} {e = e} {t = t} {ts = ts} x h y =
+lie-more {a = a} {b = b} {e = e} {t = t} {ts = ts} x h y i =
     let p : a ≤ first t = x .begins in
     let q = x .ends in
     let r = x .rows in
@@ -76,13 +102,29 @@ lie-more {a = a} {b = b} {e = e} {t = t} {ts = ts} x h y =
     let w = length-append (textOf t) (textsOf (forest ts)) in
     let l : after t ≤ b = omega arith in
     let m : e ≤ e = omega arith in
-    record { along = along-more p (x .placed) (along-wide l m (y .along)); rows = omega arith; text = omega arith }
+    record { along = along-more p (x .placed) (along-wide l m (y .along)); rows = omega arith; text = omega arith; keys = i }
+
+-- a value
+value-more : {n j a b e : ℕ} {t : Tree} {ts : List Tree} → LiesIn Formed n j a t b → Lie b ts e → Lie a (t ∷ ts) e
+unfolding keysAmong
+value-more {b = b} x y =
+    let l : b ≤ b = omega arith in
+    lie-more x l y (omega (arith, value-none (x .formed), x .keys, y .keys))
+
+-- a key and its value: the key, a colon, a space or an LF, and a byte of the value are its own four bytes
+pair-keys : {n a m b e at′ : ℕ} {k v : Tree} {ts : List Tree} → Lies IsKey 0 a k m → suc (suc m) ≤ b → Lies Formed n b v e → Lie e ts at′
+    → n + a + 4 * keysAmong (forest (k ∷ v ∷ ts)) ≤ at′
+unfolding keysAmong
+pair-keys x h y z = omega (arith, key-one (x .formed), value-none (y .formed), x .keys, y .keys, z .keys)
+
+pair-more : {n a m b e at′ : ℕ} {k v : Tree} {ts : List Tree} → Lies IsKey 0 a k m → suc (suc m) ≤ b → Lies Formed n b v e → Lie e ts at′ → Lie a (k ∷ v ∷ ts) at′
+pair-more {m = m} {b = b} x h y z = let l : m ≤ b = omega arith in lie-more x l (value-more y z) (omega (arith, pair-keys x h y z))
 
 -- a container
-node-lies : {n k at a e c at′ : ℕ} {ts : Forest} → Formed (node k a e c ts) → at ≤ a → a < e → e ≤ at′ → Along a ts e
-    → n + suc at + sizes ts ≤ at′ → n + at + length (textsOf ts) ≤ at′ → Lies Formed n at (node k a e c ts) at′
-unfolding size textOf
-node-lies f b h k l x y = record { begins = b; ends = k; placed = placed-node h l; rows = omega arith; text = y; formed = f }
+node-lies : {n j k at a e c at′ : ℕ} {ts : Forest} → Formed (node k a e c ts) → at ≤ a → a < e → e ≤ at′ → Along a ts e
+    → n + suc at + sizes ts ≤ at′ → n + at + length (textsOf ts) ≤ at′ → j + at + 4 * keysAmong ts ≤ at′ → LiesIn Formed n j at (node k a e c ts) at′
+unfolding size textOf keysIn
+node-lies f b h k l x y z = record { begins = b; ends = k; placed = placed-node h l; rows = omega arith; text = y; keys = z; formed = f }
 
 -- inline, between brackets
 module _ {a m : ℕ} {ts : List Tree} (x : Lie (suc a) ts m) where
@@ -90,9 +132,10 @@ module _ {a m : ℕ} {ts : List Tree} (x : Lie (suc a) ts m) where
   inline-lies f =
       let p = x .rows in
       let q = x .text in
+      let y = x .keys in
       let l : a ≤ suc a = omega arith in
       let r : m ≤ suc m = omega arith in
-      node-lies f (omega arith) (omega arith) (omega arith) (along-wide l r (x .along)) (omega arith) (omega arith)
+      node-lies f (omega arith) (omega arith) (omega arith) (along-wide l r (x .along)) (omega arith) (omega arith) (omega arith)
 
 pub inline-array-lies : {a m : ℕ} {ts : List Tree} → ElementsLie (suc a) ts m → Lies Formed 0 a (arrayTree a (suc m) ts) (suc m)
 inline-array-lies x = inline-lies (x .lie) (formed-array (x .all))
@@ -109,16 +152,17 @@ block-array-lies {a} {at′} {v} es x = by (x .lie .along)
     by l =
         let p = x .lie .rows in
         let q = x .lie .text in
+        let y = x .lie .keys in
         let e = endOf (after v) (entries es) in
         let r : a ≤ suc (suc a) = omega arith in
         let s : e ≤ e = omega arith in
         let m = along-end (v ∷ entries es) l in
         let o = along-le m in
-        node-lies (formed-array (x .all)) (omega arith) (omega arith) (end-le (v ∷ entries es) l) (along-wide r s m) (omega arith) (omega arith)
+        node-lies (formed-array (x .all)) (omega arith) (omega arith) (end-le (v ∷ entries es) l) (along-wide r s m) (omega arith) (omega arith) (omega arith)
 
 -- a block object, from its first key on; behind the key stand a colon and a space or an LF
 pub block-object-lies : {a m e at′ : ℕ} {k v : Tree} {fs : List Field} → Lies IsKey 0 a k m → Lies Formed 1 (suc (suc m)) v e → PairsLie e fs at′
-    → Lies Formed 1 a (blockObject (field k v ∷ fs)) at′
+    → LiesIn Formed 1 1 a (blockObject (field k v ∷ fs)) at′
 unfolding sizes textsOf
 block-object-lies {a} {m} {e} {at′} {k} {v} {fs} x y z =
     let ts = fields fs in
@@ -127,8 +171,7 @@ block-object-lies {a} {m} {e} {at′} {k} {v} {fs} x y z =
     let d : after k ≤ suc (suc m) = omega arith in
     let i : first k ≤ first k = omega arith in
     let h : at′ ≤ at′ = omega arith in
-    let l : e ≤ e = omega arith in
-    let g : Along (after k) (forest (v ∷ ts)) at′ = along-wide d h (lie-more y l (z .lie) .along) in
+    let g : Along (after k) (forest (v ∷ ts)) at′ = along-wide d h (value-more y (z .lie) .along) in
     let n : Along (after k) (forest (v ∷ ts)) (endOf (after k) (v ∷ ts)) = along-end (v ∷ ts) g in
     let o = along-le n in
     let p : 0 + a + size k ≤ m = x .rows in
@@ -139,20 +182,17 @@ block-object-lies {a} {m} {e} {at′} {k} {v} {fs} x y z =
     let u : e + length (textsOf (forest ts)) ≤ at′ = z .lie .text in
     let w = length-append (textOf k) (textOf v ++ textsOf (forest ts)) in
     let j = length-append (textOf v) (textsOf (forest ts)) in
-    node-lies (formed-object (pair (x .formed) (y .formed) (z .all))) (x .begins) (omega arith) (end-le (v ∷ ts) g) (along-more i (x .placed) n) (omega arith) (omega arith)
+    let f : suc (suc m) ≤ suc (suc m) = omega arith in
+    node-lies (formed-object (pair (x .formed) (y .formed) (z .all))) (x .begins) (omega arith) (end-le (v ∷ ts) g) (along-more i (x .placed) n) (omega arith) (omega arith) (pair-keys x f y (z .lie))
 
 pub elements-none : (at : ℕ) → ElementsLie at [] at
 elements-none at = record { lie = lie-none at; all = no-element }
 
-pub elements-more : {n a b e : ℕ} {t : Tree} {ts : List Tree} → Lies Formed n a t b → ElementsLie b ts e → ElementsLie a (t ∷ ts) e
-elements-more {b = b} x y =
-    let l : b ≤ b = omega arith in
-    record { lie = lie-more x l (y .lie); all = element (x .formed) (y .all) }
+pub elements-more : {n j a b e : ℕ} {t : Tree} {ts : List Tree} → LiesIn Formed n j a t b → ElementsLie b ts e → ElementsLie a (t ∷ ts) e
+elements-more x y = record { lie = value-more x (y .lie); all = element (x .formed) (y .all) }
 
 pub pairs-none : (at : ℕ) → PairsLie at [] at
 pairs-none at = record { lie = lie-none at; all = no-pair }
 
-pub pairs-more : {n a m b e at′ : ℕ} {k v : Tree} {fs : List Field} → Lies IsKey 0 a k m → m ≤ b → Lies Formed n b v e → PairsLie e fs at′ → PairsLie a (field k v ∷ fs) at′
-pairs-more {e = e} x h y z =
-    let l : e ≤ e = omega arith in
-    record { lie = lie-more x h (lie-more y l (z .lie)); all = pair (x .formed) (y .formed) (z .all) }
+pub pairs-more : {n a m b e at′ : ℕ} {k v : Tree} {fs : List Field} → Lies IsKey 0 a k m → suc (suc m) ≤ b → Lies Formed n b v e → PairsLie e fs at′ → PairsLie a (field k v ∷ fs) at′
+pairs-more x h y z = record { lie = pair-more x h y (z .lie); all = pair (x .formed) (y .formed) (z .all) }

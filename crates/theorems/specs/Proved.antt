@@ -1,8 +1,8 @@
--- THE THEOREMS, by name, of every document and of every reader that meets the promise. What they say that is not in `language` stands in `spans` (Placed), `found`
+-- THE THEOREMS, by name, of every document and of every reader that meets the promise. What they say that is not in `language` stands in `spans` (Keys, Placed), `found`
 -- (Objects, Once, Kinds, Spans, Read) and `exports` (Exports).
 use mathlib.Core.Path.{_≡_}
 use mathlib.Core.List.{List, _++_}
-use Prim.Native.Nat.{ℕ, suc, _≤_, _<_}
+use Prim.Native.Nat.{ℕ, suc, _*_, _≤_, _<_}
 use lib.ListN.{length, take}
 use lib.IntN.{ℤ}
 use Rattle.language.specs.declared.Answer.{Answer}
@@ -20,6 +20,7 @@ use Rattle.exports.specs.Exports.{FoundAt, ComparedTo, TextAt}
 use Rattle.exports.specs.Unique as exports
 use Rattle.blocks.specs.Document as readers
 use Rattle.blocks.specs.Clean as clean
+use Rattle.spans.specs.Keys.{keysIn}
 use Rattle.spans.specs.Placed.{Within, Child, Siblings, Inside}
 use Rattle.spans.specs.Document as documents
 use Rattle.found.specs.Spans.{RowSpans}
@@ -110,6 +111,10 @@ few-rows = documents.few-rows
 
 pub few-text : (k : ℕ) (doc : List ℕ) (t : Tree) → Document k doc t → length (textOf t) < length doc
 few-text = documents.few-text
+
+-- FEW KEYS: four bytes or more of a document belong to each, at any depth
+pub few-keys : (k : ℕ) (doc : List ℕ) (t : Tree) → Document k doc t → 4 * keysIn t ≤ length doc
+few-keys = documents.few-keys
 
 -- SPANS of a tree: each child's inside its parent's; siblings' disjoint and in order; none empty, and all inside the document
 pub record TreeSpans (bytes : ℕ) (t : Tree) : Type 0 where

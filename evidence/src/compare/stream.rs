@@ -2,7 +2,7 @@
 //! all documents over small alphabets mixed with random ones, without end.
 
 use crate::documents::grow::Meant;
-use crate::documents::{borders::borders, deep::deep, grow, mutate::mutate, small, Grown, Rng};
+use crate::documents::{borders::borders, deep::deep, grow, grow_wide, mutate::mutate, small, Grown, Rng};
 use crate::second::{Second, END, LONGEST, REPEAT};
 use crate::vectors::Vector;
 
@@ -97,10 +97,11 @@ impl Stream {
             }
             30..=69 => self.grown().doc,
             70..=84 if !self.vectors.is_empty() => self.vectors[self.rng.below(self.vectors.len())].clone(),
-            70..=97 => {
+            70..=96 => {
                 let depth = 29 + self.rng.below(6);
                 deep(&mut self.rng, depth)
             }
+            97 => self.large(),
             98 => self.cut(),
             _ => self.long(),
         };
@@ -118,6 +119,16 @@ impl Stream {
             _ => self.rng.below(120),
         };
         grow(&mut self.rng, size, 32)
+    }
+
+    /// A document too large to be read at once, or about as large.
+    fn large(&mut self) -> Vec<u8> {
+        let (size, nesting) = (6_000 + self.rng.below(27_000), 1 + self.rng.below(6));
+        let Grown { doc, meant } = grow_wide(&mut self.rng, size, nesting);
+        if doc.len() <= LONGEST {
+            self.waiting.push(Document { doc: doc.clone(), meant: Some(meant), every_room: false });
+        }
+        doc
     }
 
     /// A grown document, to be followed by its cuts at every place.

@@ -18,7 +18,18 @@ pub struct Grown {
 
 /// A document of about `size` bytes with at most `nesting` containers one inside another.
 pub fn grow(rng: &mut Rng, size: usize, nesting: usize) -> Grown {
-    let (repeats, wide) = (rng.once_in(8), rng.once_in(10));
+    let (repeats, wide) = (if rng.once_in(8) { 5 } else { 0 }, rng.once_in(10));
+    grow_so(rng, size, nesting, repeats, wide)
+}
+
+/// The same with arrays and objects that go on until the size is reached, and in every other document with a key that
+/// repeats an earlier one far behind it.
+pub fn grow_wide(rng: &mut Rng, size: usize, nesting: usize) -> Grown {
+    let repeats = if rng.once_in(2) { 1 + rng.below(2000) } else { 0 };
+    grow_so(rng, size, nesting, repeats, true)
+}
+
+fn grow_so(rng: &mut Rng, size: usize, nesting: usize, repeats: usize, wide: bool) -> Grown {
     let mut grower =
         Grower { repeats, wide, rng, size, doc: Vec::new(), rows: Vec::new(), text: Vec::new(), repeat: None };
     grower.document(nesting);
@@ -36,8 +47,8 @@ struct Grower<'r> {
     rows: Vec<[u32; 7]>,
     text: Vec<u8>,
     repeat: Option<usize>,
-    /// Whether keys may repeat.
-    repeats: bool,
+    /// One key in so many, and as many as its object has, repeats one of them; 0 for none.
+    repeats: usize,
     /// Whether arrays and objects go on until the size is reached.
     wide: bool,
 }
@@ -98,7 +109,7 @@ impl Grower<'_> {
 
     /// A key as written and as meant; one that the object has only in a document with repeats.
     fn new_key(&mut self, keys: &Keys) -> (String, Vec<u8>) {
-        if self.repeats && !keys.is_empty() && self.rng.once_in(5 + keys.len()) {
+        if self.repeats > 0 && !keys.is_empty() && self.rng.once_in(self.repeats + keys.len()) {
             let key = keys[self.rng.below(keys.len())].clone();
             return (pieces::written_anew(self.rng, &key), key);
         }

@@ -1,7 +1,15 @@
 //! Makes a failing document small: drops pieces and plainer bytes as long as it still fails.
 
+/// So many smaller documents are tried: a large one need not become the smallest.
+const TRIES: usize = 2_000;
+
 pub fn shrink(doc: &[u8], mut fails: impl FnMut(&[u8]) -> bool) -> Vec<u8> {
     let mut doc = doc.to_vec();
+    let mut left = TRIES;
+    let mut fails = move |doc: &[u8]| {
+        left = left.saturating_sub(1);
+        left > 0 && fails(doc)
+    };
     loop {
         let before = doc.clone();
         drop_pieces(&mut doc, &mut fails);

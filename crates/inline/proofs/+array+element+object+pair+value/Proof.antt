@@ -1,8 +1,7 @@
 -- The cycle of values, arrays and objects meets its contracts. The allowance falls from a value to a container inside it; in the loops, what is left of the document falls.
 use borrow.Author.Needs.{needs}
 use mathlib.Core.Bool.{true, false}
-use Prim.Native.Nat.{ℕ, _<_, _≤_, _+_, _-_, _*_}
-use native.Mathlib.Omega.{arith}
+use Prim.Native.Nat.{ℕ, _<_, _+_, _-_, _*_}
 use mathlib.Core.Path.{_≡_}
 use lib.ListN.{length}
 use Rattle.inline.specs.Values.{valueR}
@@ -10,6 +9,7 @@ use Rattle.inline.proofs.Choices.{choices}
 use Rattle.inline.proofs.Members.{turning}
 use Rattle.inline.proofs.Listing.{Loop}
 use Rattle.inline.proofs.Containers.{looping, last-fits, loop-again as again}
+use Rattle.inline.proofs.Noting.{noting}
 use borrow.Fn.Kinds.{In}
 use borrow.Fn.PlainCycle.{Measures, is, falls, and}
 use Rattle.inline.proofs.array.Reads as array
@@ -32,6 +32,7 @@ use Rattle.inline.proofs.enclose.Reads as enclose-reads
 use Rattle.inline.proofs.label.Reads as label-reads
 use Rattle.inline.proofs.open.Reads as open-reads
 use Rattle.inline.proofs.scalar.Reads as scalar-reads
+use Rattle.notes.proofs.note.Reads as note-reads
 use Rattle.numbers.proofs.plain_inside.Reads as plain-inside-reads
 use Rattle.rooms.proofs.Ans.anew.Reads as anew-reads
 use Rattle.rooms.proofs.Cursor.look.Reads as look-reads
@@ -39,50 +40,50 @@ use Rattle.rooms.proofs.Cursor.take.Reads as take-reads
 use Rattle.inline.proofs.+array+element+object+pair+value.{statement}
 use Rattle.inline.proofs.+array+element+object+pair+value.Tie.{close}
 
-abbrev μ-array : Measures 3 array-kinds.ps ℕ
-μ-array κs a = 4 * a .1 .1 .1 .1 .1 .0 + 3
+abbrev μ-array : Measures 4 array-kinds.ps ℕ
+μ-array κs a = 4 * a .1 .1 .1 .1 .1 .1 .0 + 3
 
-abbrev μ-element : Measures 3 element-kinds.ps ℕ
-μ-element κs a = 4 * a .1 .1 .1 .1 .1 .0 + 1
+abbrev μ-element : Measures 4 element-kinds.ps ℕ
+μ-element κs a = 4 * a .1 .1 .1 .1 .1 .1 .0 + 1
 
-abbrev μ-object : Measures 3 object-kinds.ps ℕ
-μ-object κs a = 4 * a .1 .1 .1 .1 .1 .0 + 3
+abbrev μ-object : Measures 4 object-kinds.ps ℕ
+μ-object κs a = 4 * a .1 .1 .1 .1 .1 .1 .0 + 3
 
-abbrev μ-pair : Measures 3 pair-kinds.ps ℕ
-μ-pair κs a = 4 * a .1 .1 .1 .1 .1 .0 + 2
+abbrev μ-pair : Measures 4 pair-kinds.ps ℕ
+μ-pair κs a = 4 * a .1 .1 .1 .1 .1 .1 .0 + 2
 
-abbrev μ-value : Measures 3 value-kinds.ps ℕ
-μ-value κs a = 4 * a .1 .1 .1 .1 .1 .0
+abbrev μ-value : Measures 4 value-kinds.ps ℕ
+μ-value κs a = 4 * a .1 .1 .1 .1 .1 .1 .0
 
-abbrev array-at : ℕ → In 3 array-kinds.ps
-array-at t = and 3 array-kinds.ps (is 3 array-kinds.ps μ-array t) array.Pre
+abbrev array-at : ℕ → In 4 array-kinds.ps
+array-at t = and 4 array-kinds.ps (is 4 array-kinds.ps μ-array t) array.Pre
 
-abbrev array-below : ℕ → In 3 array-kinds.ps
-array-below t = and 3 array-kinds.ps (falls 3 array-kinds.ps _<_ μ-array t) array.Pre
+abbrev array-below : ℕ → In 4 array-kinds.ps
+array-below t = and 4 array-kinds.ps (falls 4 array-kinds.ps _<_ μ-array t) array.Pre
 
-abbrev element-at : ℕ → In 3 element-kinds.ps
-element-at t = and 3 element-kinds.ps (is 3 element-kinds.ps μ-element t) element.Pre
+abbrev element-at : ℕ → In 4 element-kinds.ps
+element-at t = and 4 element-kinds.ps (is 4 element-kinds.ps μ-element t) element.Pre
 
-abbrev element-below : ℕ → In 3 element-kinds.ps
-element-below t = and 3 element-kinds.ps (falls 3 element-kinds.ps _<_ μ-element t) element.Pre
+abbrev element-below : ℕ → In 4 element-kinds.ps
+element-below t = and 4 element-kinds.ps (falls 4 element-kinds.ps _<_ μ-element t) element.Pre
 
-abbrev object-at : ℕ → In 3 object-kinds.ps
-object-at t = and 3 object-kinds.ps (is 3 object-kinds.ps μ-object t) object.Pre
+abbrev object-at : ℕ → In 4 object-kinds.ps
+object-at t = and 4 object-kinds.ps (is 4 object-kinds.ps μ-object t) object.Pre
 
-abbrev object-below : ℕ → In 3 object-kinds.ps
-object-below t = and 3 object-kinds.ps (falls 3 object-kinds.ps _<_ μ-object t) object.Pre
+abbrev object-below : ℕ → In 4 object-kinds.ps
+object-below t = and 4 object-kinds.ps (falls 4 object-kinds.ps _<_ μ-object t) object.Pre
 
-abbrev pair-at : ℕ → In 3 pair-kinds.ps
-pair-at t = and 3 pair-kinds.ps (is 3 pair-kinds.ps μ-pair t) pair.Pre
+abbrev pair-at : ℕ → In 4 pair-kinds.ps
+pair-at t = and 4 pair-kinds.ps (is 4 pair-kinds.ps μ-pair t) pair.Pre
 
-abbrev pair-below : ℕ → In 3 pair-kinds.ps
-pair-below t = and 3 pair-kinds.ps (falls 3 pair-kinds.ps _<_ μ-pair t) pair.Pre
+abbrev pair-below : ℕ → In 4 pair-kinds.ps
+pair-below t = and 4 pair-kinds.ps (falls 4 pair-kinds.ps _<_ μ-pair t) pair.Pre
 
-abbrev value-at : ℕ → In 3 value-kinds.ps
-value-at t = and 3 value-kinds.ps (is 3 value-kinds.ps μ-value t) value.Pre
+abbrev value-at : ℕ → In 4 value-kinds.ps
+value-at t = and 4 value-kinds.ps (is 4 value-kinds.ps μ-value t) value.Pre
 
-abbrev value-below : ℕ → In 3 value-kinds.ps
-value-below t = and 3 value-kinds.ps (falls 3 value-kinds.ps _<_ μ-value t) value.Pre
+abbrev value-below : ℕ → In 4 value-kinds.ps
+value-below t = and 4 value-kinds.ps (falls 4 value-kinds.ps _<_ μ-value t) value.Pre
 
 abbrev array-claims : ℕ → array-lts.Claims
 array-claims t = (open-reads.Asked, open-reads.Learnt, take-reads.Asked, take-reads.Learnt, enclose-reads.Asked, enclose-reads.Learnt, element-below t, element.Post)
@@ -94,16 +95,16 @@ abbrev object-claims : ℕ → object-lts.Claims
 object-claims t = (open-reads.Asked, open-reads.Learnt, take-reads.Asked, take-reads.Learnt, enclose-reads.Asked, enclose-reads.Learnt, pair-below t, pair.Post)
 
 abbrev pair-claims : ℕ → pair-lts.Claims
-pair-claims t = (label-reads.Asked, label-reads.Learnt, element-below t, element.Post)
+pair-claims t = (label-reads.Asked, label-reads.Learnt, note-reads.Asked, note-reads.Learnt, element-below t, element.Post)
 
 abbrev value-claims : ℕ → value-lts.Claims
 value-claims t = (scalar-reads.Asked, scalar-reads.Learnt, anew-reads.Asked, anew-reads.Learnt, look-reads.Asked, look-reads.Learnt, array-below t, array.Post, object-below t, object.Post, plain-inside-reads.Asked, plain-inside-reads.Learnt)
 
 abbrev array-Inv-loop : array-lts.InvT-loop
-array-Inv-loop doc rows₀ text₀ c parent allow row count₀ cur₀ rows text count cur = Loop false (valueR false allow) doc c rows₀ text₀ rows text cur count × (length rows ≡ length rows₀) × (length text ≡ length text₀)
+array-Inv-loop doc rows₀ text₀ keys₀ c parent allow row count₀ cur₀ rows text keys count cur = Loop false (valueR false allow) doc c rows₀ text₀ keys₀ rows text keys cur count × (length rows ≡ length rows₀) × (length text ≡ length text₀) × (length keys ≡ length keys₀)
 
 abbrev array-μ-loop : array-lts.MeasureT-loop
-array-μ-loop doc rows₀ text₀ c parent allow row count₀ cur₀ rows text count cur = length doc - cur .at
+array-μ-loop doc rows₀ text₀ keys₀ c parent allow row count₀ cur₀ rows text keys count cur = length doc - cur .at
 
 array-open-requires : (t : ℕ) → array-lts.Need-open-requires (array-claims t) (array-at t) array.Post array-Inv-loop array-μ-loop
 array-open-requires t c κs = search looping
@@ -115,7 +116,7 @@ array-enum-told : (t : ℕ) → array-lts.Need-enum-told (array-claims t) (array
 array-enum-told t c = search looping
 
 array-returns : (t : ℕ) → array-lts.Need-returns (array-claims t) (array-at t) array.Post array-Inv-loop array-μ-loop
-array-returns t c = search looping
+array-returns t c = (search looping, search noting)
 
 array-take-requires : (t : ℕ) → array-lts.Need-take-requires (array-claims t) (array-at t) array.Post array-Inv-loop array-μ-loop
 array-take-requires t c κs = search looping
@@ -127,16 +128,16 @@ array-enclose-requires : (t : ℕ) → array-lts.Need-enclose-requires (array-cl
 array-enclose-requires t c κs = search looping
 
 array-same-length : (t : ℕ) → array-lts.Need-same-length (array-claims t) (array-at t) array.Post array-Inv-loop array-μ-loop
-array-same-length t c = search looping
+array-same-length t c = search needs
 
 array-returns-2 : (t : ℕ) → array-lts.Need-returns-2 (array-claims t) (array-at t) array.Post array-Inv-loop array-μ-loop
-array-returns-2 t c = search looping
+array-returns-2 t c = (search looping, search noting)
 
 array-enum-told-2 : (t : ℕ) → array-lts.Need-enum-told-2 (array-claims t) (array-at t) array.Post array-Inv-loop array-μ-loop
 array-enum-told-2 t c = search looping
 
 array-loop-holds : (t : ℕ) → array-lts.Need-loop-holds (array-claims t) (array-at t) array.Post array-Inv-loop array-μ-loop
-array-loop-holds t c = search looping
+array-loop-holds t c = (search looping, search needs, search needs, search needs)
 
 array-cast-element : (t : ℕ) → array-lts.Need-cast-element (array-claims t) (array-at t) array.Post array-Inv-loop array-μ-loop
 array-cast-element t c = search looping
@@ -148,13 +149,16 @@ array-enum-known-p : (t : ℕ) → array-lts.Need-enum-known-p (array-claims t) 
 array-enum-known-p t c = search looping
 
 array-same-length-2 : (t : ℕ) → array-lts.Need-same-length-2 (array-claims t) (array-at t) array.Post array-Inv-loop array-μ-loop
-array-same-length-2 t c = search looping
+array-same-length-2 t c = search needs
 
 array-same-length-3 : (t : ℕ) → array-lts.Need-same-length-3 (array-claims t) (array-at t) array.Post array-Inv-loop array-μ-loop
-array-same-length-3 t c = search looping
+array-same-length-3 t c = search needs
+
+array-same-length-4 : (t : ℕ) → array-lts.Need-same-length-4 (array-claims t) (array-at t) array.Post array-Inv-loop array-μ-loop
+array-same-length-4 t c = search needs
 
 array-returns-3 : (t : ℕ) → array-lts.Need-returns-3 (array-claims t) (array-at t) array.Post array-Inv-loop array-μ-loop
-array-returns-3 t c = search looping
+array-returns-3 t c = (search looping, search noting)
 
 array-enum-known-n-2 : (t : ℕ) → array-lts.Need-enum-known-n-2 (array-claims t) (array-at t) array.Post array-Inv-loop array-μ-loop
 array-enum-known-n-2 t c = search looping
@@ -163,16 +167,19 @@ array-add-enclose : (t : ℕ) → array-lts.Need-add-enclose (array-claims t) (a
 array-add-enclose t c = search looping
 
 array-enclose-requires-2 : (t : ℕ) → array-lts.Need-enclose-requires-2 (array-claims t) (array-at t) array.Post array-Inv-loop array-μ-loop
-array-enclose-requires-2 t c κs = let l = c .before .before .before .before .before .before .before .before .before .before .before .loop .inv .0 in let e = c .before .before .before .before .before .before .before .before .element .ensures in search (last-fits _ _ _ _ _ _ _ _ _ _ _ _ l _ e)
-
-array-same-length-4 : (t : ℕ) → array-lts.Need-same-length-4 (array-claims t) (array-at t) array.Post array-Inv-loop array-μ-loop
-array-same-length-4 t c = search looping
+array-enclose-requires-2 t c κs = let l = c .before .before .before .before .before .before .before .before .before .before .before .before .before .before .loop .inv .0 in let e = c .before .before .before .before .before .before .before .before .before .before .element .ensures .0 in search (last-fits _ _ _ _ _ _ _ _ _ _ _ _ _ _ l _ e)
 
 array-same-length-5 : (t : ℕ) → array-lts.Need-same-length-5 (array-claims t) (array-at t) array.Post array-Inv-loop array-μ-loop
-array-same-length-5 t c = search looping
+array-same-length-5 t c = search needs
+
+array-same-length-6 : (t : ℕ) → array-lts.Need-same-length-6 (array-claims t) (array-at t) array.Post array-Inv-loop array-μ-loop
+array-same-length-6 t c = search needs
+
+array-same-length-7 : (t : ℕ) → array-lts.Need-same-length-7 (array-claims t) (array-at t) array.Post array-Inv-loop array-μ-loop
+array-same-length-7 t c = search needs
 
 array-returns-4 : (t : ℕ) → array-lts.Need-returns-4 (array-claims t) (array-at t) array.Post array-Inv-loop array-μ-loop
-array-returns-4 t c = search looping
+array-returns-4 t c = (search looping, search noting)
 
 array-enum-known-n-3 : (t : ℕ) → array-lts.Need-enum-known-n-3 (array-claims t) (array-at t) array.Post array-Inv-loop array-μ-loop
 array-enum-known-n-3 t c = search looping
@@ -184,7 +191,7 @@ array-loop-less : (t : ℕ) → array-lts.Need-loop-less (array-claims t) (array
 array-loop-less t c = search looping
 
 array-loop-again : (t : ℕ) → array-lts.Need-loop-again (array-claims t) (array-at t) array.Post array-Inv-loop array-μ-loop
-array-loop-again t c = (search again, search needs, search needs)
+array-loop-again t c = (search again, search needs, search needs, search needs)
 
 element-value-requires : (t : ℕ) → element-lts.Need-value-requires (element-claims t) (element-at t) element.Post
 element-value-requires t c κs = search choices
@@ -199,28 +206,34 @@ element-after-requires : (t : ℕ) → element-lts.Need-after-requires (element-
 element-after-requires t c κs = search turning
 
 element-same-length : (t : ℕ) → element-lts.Need-same-length (element-claims t) (element-at t) element.Post
-element-same-length t c = search turning
+element-same-length t c = search needs
 
 element-same-length-2 : (t : ℕ) → element-lts.Need-same-length-2 (element-claims t) (element-at t) element.Post
-element-same-length-2 t c = search turning
-
-element-returns : (t : ℕ) → element-lts.Need-returns (element-claims t) (element-at t) element.Post
-element-returns t c = search turning
+element-same-length-2 t c = search needs
 
 element-same-length-3 : (t : ℕ) → element-lts.Need-same-length-3 (element-claims t) (element-at t) element.Post
-element-same-length-3 t c = search turning
+element-same-length-3 t c = search needs
+
+element-returns : (t : ℕ) → element-lts.Need-returns (element-claims t) (element-at t) element.Post
+element-returns t c = (search turning, search noting)
 
 element-same-length-4 : (t : ℕ) → element-lts.Need-same-length-4 (element-claims t) (element-at t) element.Post
-element-same-length-4 t c = search turning
+element-same-length-4 t c = search needs
+
+element-same-length-5 : (t : ℕ) → element-lts.Need-same-length-5 (element-claims t) (element-at t) element.Post
+element-same-length-5 t c = search needs
+
+element-same-length-6 : (t : ℕ) → element-lts.Need-same-length-6 (element-claims t) (element-at t) element.Post
+element-same-length-6 t c = search needs
 
 element-returns-2 : (t : ℕ) → element-lts.Need-returns-2 (element-claims t) (element-at t) element.Post
-element-returns-2 t c = search turning
+element-returns-2 t c = (search turning, search noting)
 
 abbrev object-Inv-loop : object-lts.InvT-loop
-object-Inv-loop doc rows₀ text₀ c parent allow row count₀ cur₀ rows text count cur = Loop true (valueR false allow) doc c rows₀ text₀ rows text cur count × (length rows ≡ length rows₀) × (length text ≡ length text₀)
+object-Inv-loop doc rows₀ text₀ keys₀ c parent allow row count₀ cur₀ rows text keys count cur = Loop true (valueR false allow) doc c rows₀ text₀ keys₀ rows text keys cur count × (length rows ≡ length rows₀) × (length text ≡ length text₀) × (length keys ≡ length keys₀)
 
 abbrev object-μ-loop : object-lts.MeasureT-loop
-object-μ-loop doc rows₀ text₀ c parent allow row count₀ cur₀ rows text count cur = length doc - cur .at
+object-μ-loop doc rows₀ text₀ keys₀ c parent allow row count₀ cur₀ rows text keys count cur = length doc - cur .at
 
 object-open-requires : (t : ℕ) → object-lts.Need-open-requires (object-claims t) (object-at t) object.Post object-Inv-loop object-μ-loop
 object-open-requires t c κs = search looping
@@ -232,7 +245,7 @@ object-enum-told : (t : ℕ) → object-lts.Need-enum-told (object-claims t) (ob
 object-enum-told t c = search looping
 
 object-returns : (t : ℕ) → object-lts.Need-returns (object-claims t) (object-at t) object.Post object-Inv-loop object-μ-loop
-object-returns t c = search looping
+object-returns t c = (search looping, search noting)
 
 object-take-requires : (t : ℕ) → object-lts.Need-take-requires (object-claims t) (object-at t) object.Post object-Inv-loop object-μ-loop
 object-take-requires t c κs = search looping
@@ -244,16 +257,16 @@ object-enclose-requires : (t : ℕ) → object-lts.Need-enclose-requires (object
 object-enclose-requires t c κs = search looping
 
 object-same-length : (t : ℕ) → object-lts.Need-same-length (object-claims t) (object-at t) object.Post object-Inv-loop object-μ-loop
-object-same-length t c = search looping
+object-same-length t c = search needs
 
 object-returns-2 : (t : ℕ) → object-lts.Need-returns-2 (object-claims t) (object-at t) object.Post object-Inv-loop object-μ-loop
-object-returns-2 t c = search looping
+object-returns-2 t c = (search looping, search noting)
 
 object-enum-told-2 : (t : ℕ) → object-lts.Need-enum-told-2 (object-claims t) (object-at t) object.Post object-Inv-loop object-μ-loop
 object-enum-told-2 t c = search looping
 
 object-loop-holds : (t : ℕ) → object-lts.Need-loop-holds (object-claims t) (object-at t) object.Post object-Inv-loop object-μ-loop
-object-loop-holds t c = search looping
+object-loop-holds t c = (search looping, search needs, search needs, search needs)
 
 object-cast-pair : (t : ℕ) → object-lts.Need-cast-pair (object-claims t) (object-at t) object.Post object-Inv-loop object-μ-loop
 object-cast-pair t c = search looping
@@ -265,13 +278,16 @@ object-enum-known-p : (t : ℕ) → object-lts.Need-enum-known-p (object-claims 
 object-enum-known-p t c = search looping
 
 object-same-length-2 : (t : ℕ) → object-lts.Need-same-length-2 (object-claims t) (object-at t) object.Post object-Inv-loop object-μ-loop
-object-same-length-2 t c = search looping
+object-same-length-2 t c = search needs
 
 object-same-length-3 : (t : ℕ) → object-lts.Need-same-length-3 (object-claims t) (object-at t) object.Post object-Inv-loop object-μ-loop
-object-same-length-3 t c = search looping
+object-same-length-3 t c = search needs
+
+object-same-length-4 : (t : ℕ) → object-lts.Need-same-length-4 (object-claims t) (object-at t) object.Post object-Inv-loop object-μ-loop
+object-same-length-4 t c = search needs
 
 object-returns-3 : (t : ℕ) → object-lts.Need-returns-3 (object-claims t) (object-at t) object.Post object-Inv-loop object-μ-loop
-object-returns-3 t c = search looping
+object-returns-3 t c = (search looping, search noting)
 
 object-enum-known-n-2 : (t : ℕ) → object-lts.Need-enum-known-n-2 (object-claims t) (object-at t) object.Post object-Inv-loop object-μ-loop
 object-enum-known-n-2 t c = search looping
@@ -280,16 +296,19 @@ object-add-enclose : (t : ℕ) → object-lts.Need-add-enclose (object-claims t)
 object-add-enclose t c = search looping
 
 object-enclose-requires-2 : (t : ℕ) → object-lts.Need-enclose-requires-2 (object-claims t) (object-at t) object.Post object-Inv-loop object-μ-loop
-object-enclose-requires-2 t c κs = let l = c .before .before .before .before .before .before .before .before .before .before .before .loop .inv .0 in let e = c .before .before .before .before .before .before .before .before .pair .ensures in search (last-fits _ _ _ _ _ _ _ _ _ _ _ _ l _ e)
-
-object-same-length-4 : (t : ℕ) → object-lts.Need-same-length-4 (object-claims t) (object-at t) object.Post object-Inv-loop object-μ-loop
-object-same-length-4 t c = search looping
+object-enclose-requires-2 t c κs = let l = c .before .before .before .before .before .before .before .before .before .before .before .before .before .before .loop .inv .0 in let e = c .before .before .before .before .before .before .before .before .before .before .pair .ensures .0 in search (last-fits _ _ _ _ _ _ _ _ _ _ _ _ _ _ l _ e)
 
 object-same-length-5 : (t : ℕ) → object-lts.Need-same-length-5 (object-claims t) (object-at t) object.Post object-Inv-loop object-μ-loop
-object-same-length-5 t c = search looping
+object-same-length-5 t c = search needs
+
+object-same-length-6 : (t : ℕ) → object-lts.Need-same-length-6 (object-claims t) (object-at t) object.Post object-Inv-loop object-μ-loop
+object-same-length-6 t c = search needs
+
+object-same-length-7 : (t : ℕ) → object-lts.Need-same-length-7 (object-claims t) (object-at t) object.Post object-Inv-loop object-μ-loop
+object-same-length-7 t c = search needs
 
 object-returns-4 : (t : ℕ) → object-lts.Need-returns-4 (object-claims t) (object-at t) object.Post object-Inv-loop object-μ-loop
-object-returns-4 t c = search looping
+object-returns-4 t c = (search looping, search noting)
 
 object-enum-known-n-3 : (t : ℕ) → object-lts.Need-enum-known-n-3 (object-claims t) (object-at t) object.Post object-Inv-loop object-μ-loop
 object-enum-known-n-3 t c = search looping
@@ -301,7 +320,7 @@ object-loop-less : (t : ℕ) → object-lts.Need-loop-less (object-claims t) (ob
 object-loop-less t c = search looping
 
 object-loop-again : (t : ℕ) → object-lts.Need-loop-again (object-claims t) (object-at t) object.Post object-Inv-loop object-μ-loop
-object-loop-again t c = (search again, search needs, search needs)
+object-loop-again t c = (search again, search needs, search needs, search needs)
 
 pair-label-requires : (t : ℕ) → pair-lts.Need-label-requires (pair-claims t) (pair-at t) pair.Post
 pair-label-requires t c κs = search turning
@@ -312,26 +331,32 @@ pair-enum-known-p t c = search turning
 pair-enum-known-n : (t : ℕ) → pair-lts.Need-enum-known-n (pair-claims t) (pair-at t) pair.Post
 pair-enum-known-n t c = search turning
 
+pair-note-requires : (t : ℕ) → pair-lts.Need-note-requires (pair-claims t) (pair-at t) pair.Post
+pair-note-requires t c κs = search noting
+
 pair-element-requires : (t : ℕ) → pair-lts.Need-element-requires (pair-claims t) (pair-at t) pair.Post
 pair-element-requires t c κs = search turning
 
 pair-same-length : (t : ℕ) → pair-lts.Need-same-length (pair-claims t) (pair-at t) pair.Post
-pair-same-length t c = search turning
+pair-same-length t c = search needs
 
 pair-same-length-2 : (t : ℕ) → pair-lts.Need-same-length-2 (pair-claims t) (pair-at t) pair.Post
-pair-same-length-2 t c = search turning
+pair-same-length-2 t c = search needs
 
 pair-returns : (t : ℕ) → pair-lts.Need-returns (pair-claims t) (pair-at t) pair.Post
-pair-returns t c = search turning
+pair-returns t c = (search turning, search noting)
 
 pair-same-length-3 : (t : ℕ) → pair-lts.Need-same-length-3 (pair-claims t) (pair-at t) pair.Post
-pair-same-length-3 t c = search turning
+pair-same-length-3 t c = search needs
 
 pair-same-length-4 : (t : ℕ) → pair-lts.Need-same-length-4 (pair-claims t) (pair-at t) pair.Post
-pair-same-length-4 t c = search turning
+pair-same-length-4 t c = search needs
+
+pair-same-length-5 : (t : ℕ) → pair-lts.Need-same-length-5 (pair-claims t) (pair-at t) pair.Post
+pair-same-length-5 t c = search needs
 
 pair-returns-2 : (t : ℕ) → pair-lts.Need-returns-2 (pair-claims t) (pair-at t) pair.Post
-pair-returns-2 t c = search turning
+pair-returns-2 t c = (search turning, search noting)
 
 value-scalar-requires : (t : ℕ) → value-lts.Need-scalar-requires (value-claims t) (value-at t) value.Post
 value-scalar-requires t c κs = search choices
@@ -340,13 +365,13 @@ value-anew-requires : (t : ℕ) → value-lts.Need-anew-requires (value-claims t
 value-anew-requires t c κs = search choices
 
 value-same-length : (t : ℕ) → value-lts.Need-same-length (value-claims t) (value-at t) value.Post
-value-same-length t c = search choices
+value-same-length t c = search needs
 
 value-same-length-2 : (t : ℕ) → value-lts.Need-same-length-2 (value-claims t) (value-at t) value.Post
-value-same-length-2 t c = search choices
+value-same-length-2 t c = search needs
 
 value-returns : (t : ℕ) → value-lts.Need-returns (value-claims t) (value-at t) value.Post
-value-returns t c = rw (c .anew .ensures) (search choices)
+value-returns t c = (rw (c .anew .ensures) (search choices), search noting)
 
 value-look-requires : (t : ℕ) → value-lts.Need-look-requires (value-claims t) (value-at t) value.Post
 value-look-requires t c κs = search choices
@@ -382,53 +407,50 @@ value-anew-requires-5 : (t : ℕ) → value-lts.Need-anew-requires-5 (value-clai
 value-anew-requires-5 t c κs = search choices
 
 value-same-length-3 : (t : ℕ) → value-lts.Need-same-length-3 (value-claims t) (value-at t) value.Post
-value-same-length-3 t c = search choices
+value-same-length-3 t c = search needs
 
 value-same-length-4 : (t : ℕ) → value-lts.Need-same-length-4 (value-claims t) (value-at t) value.Post
-value-same-length-4 t c = search choices
-
-value-returns-2 : (t : ℕ) → value-lts.Need-returns-2 (value-claims t) (value-at t) value.Post
-value-returns-2 t c = rw (c .anew2 .ensures) (search choices)
+value-same-length-4 t c = search needs
 
 value-same-length-5 : (t : ℕ) → value-lts.Need-same-length-5 (value-claims t) (value-at t) value.Post
-value-same-length-5 t c = search choices
+value-same-length-5 t c = search needs
+
+value-returns-2 : (t : ℕ) → value-lts.Need-returns-2 (value-claims t) (value-at t) value.Post
+value-returns-2 t c = (rw (c .anew2 .ensures) (search choices), search noting)
 
 value-same-length-6 : (t : ℕ) → value-lts.Need-same-length-6 (value-claims t) (value-at t) value.Post
-value-same-length-6 t c = search choices
-
-value-returns-3 : (t : ℕ) → value-lts.Need-returns-3 (value-claims t) (value-at t) value.Post
-value-returns-3 t c = rw (c .anew3 .ensures) (search choices)
+value-same-length-6 t c = search needs
 
 value-same-length-7 : (t : ℕ) → value-lts.Need-same-length-7 (value-claims t) (value-at t) value.Post
-value-same-length-7 t c = search choices
+value-same-length-7 t c = search needs
 
 value-same-length-8 : (t : ℕ) → value-lts.Need-same-length-8 (value-claims t) (value-at t) value.Post
-value-same-length-8 t c = search choices
+value-same-length-8 t c = search needs
 
-value-returns-4 : (t : ℕ) → value-lts.Need-returns-4 (value-claims t) (value-at t) value.Post
-value-returns-4 t c = rw (c .anew4 .ensures) (search choices)
+value-returns-3 : (t : ℕ) → value-lts.Need-returns-3 (value-claims t) (value-at t) value.Post
+value-returns-3 t c = (rw (c .anew3 .ensures) (search choices), search noting)
 
 value-same-length-9 : (t : ℕ) → value-lts.Need-same-length-9 (value-claims t) (value-at t) value.Post
-value-same-length-9 t c = search choices
+value-same-length-9 t c = search needs
 
 value-same-length-10 : (t : ℕ) → value-lts.Need-same-length-10 (value-claims t) (value-at t) value.Post
-value-same-length-10 t c = search choices
+value-same-length-10 t c = search needs
+
+value-returns-4 : (t : ℕ) → value-lts.Need-returns-4 (value-claims t) (value-at t) value.Post
+value-returns-4 t c = (rw (c .anew4 .ensures) (search choices), search noting)
+
+value-same-length-11 : (t : ℕ) → value-lts.Need-same-length-11 (value-claims t) (value-at t) value.Post
+value-same-length-11 t c = search needs
+
+value-same-length-12 : (t : ℕ) → value-lts.Need-same-length-12 (value-claims t) (value-at t) value.Post
+value-same-length-12 t c = search needs
 
 value-returns-5 : (t : ℕ) → value-lts.Need-returns-5 (value-claims t) (value-at t) value.Post
-value-returns-5 t c = rw (c .anew5 .ensures) (search choices)
+value-returns-5 t c = (rw (c .anew5 .ensures) (search choices), search noting)
 
 pub +array+element+object+pair+value-spec : {M : Type 1} → statement M
 +array+element+object+pair+value-spec =
-    close μ-array μ-element μ-object μ-pair μ-value (λ t. array-lts.spec (
-      open-reads.Asked,
-      open-reads.Learnt,
-      take-reads.Asked,
-      take-reads.Learnt,
-      enclose-reads.Asked,
-      enclose-reads.Learnt,
-      element-below t,
-      element.Post,
-    )
+    close μ-array μ-element μ-object μ-pair μ-value (λ t. array-lts.spec (array-claims t)
     (array-at t)
     array.Post
     array-Inv-loop
@@ -449,19 +471,20 @@ pub +array+element+object+pair+value-spec : {M : Type 1} → statement M
     (array-enum-known-p t)
     (array-same-length-2 t)
     (array-same-length-3 t)
+    (array-same-length-4 t)
     (array-returns-3 t)
     (array-enum-known-n-2 t)
     (array-add-enclose t)
     (array-enclose-requires-2 t)
-    (array-same-length-4 t)
     (array-same-length-5 t)
+    (array-same-length-6 t)
+    (array-same-length-7 t)
     (array-returns-4 t)
     (array-enum-known-n-3 t)
     (array-add-count t)
     (array-loop-less t)
     (array-loop-again t))
-    (λ t. element-lts.spec
-    (value-below t, value.Post, after-reads.Asked, after-reads.Learnt)
+    (λ t. element-lts.spec (element-claims t)
     (element-at t)
     element.Post
     (element-value-requires t)
@@ -470,20 +493,13 @@ pub +array+element+object+pair+value-spec : {M : Type 1} → statement M
     (element-after-requires t)
     (element-same-length t)
     (element-same-length-2 t)
-    (element-returns t)
     (element-same-length-3 t)
+    (element-returns t)
     (element-same-length-4 t)
+    (element-same-length-5 t)
+    (element-same-length-6 t)
     (element-returns-2 t))
-    (λ t. object-lts.spec (
-      open-reads.Asked,
-      open-reads.Learnt,
-      take-reads.Asked,
-      take-reads.Learnt,
-      enclose-reads.Asked,
-      enclose-reads.Learnt,
-      pair-below t,
-      pair.Post,
-    )
+    (λ t. object-lts.spec (object-claims t)
     (object-at t)
     object.Post
     object-Inv-loop
@@ -504,45 +520,35 @@ pub +array+element+object+pair+value-spec : {M : Type 1} → statement M
     (object-enum-known-p t)
     (object-same-length-2 t)
     (object-same-length-3 t)
+    (object-same-length-4 t)
     (object-returns-3 t)
     (object-enum-known-n-2 t)
     (object-add-enclose t)
     (object-enclose-requires-2 t)
-    (object-same-length-4 t)
     (object-same-length-5 t)
+    (object-same-length-6 t)
+    (object-same-length-7 t)
     (object-returns-4 t)
     (object-enum-known-n-3 t)
     (object-add-count t)
     (object-loop-less t)
     (object-loop-again t))
-    (λ t. pair-lts.spec
-    (label-reads.Asked, label-reads.Learnt, element-below t, element.Post)
+    (λ t. pair-lts.spec (pair-claims t)
     (pair-at t)
     pair.Post
     (pair-label-requires t)
     (pair-enum-known-p t)
     (pair-enum-known-n t)
+    (pair-note-requires t)
     (pair-element-requires t)
     (pair-same-length t)
     (pair-same-length-2 t)
     (pair-returns t)
     (pair-same-length-3 t)
     (pair-same-length-4 t)
+    (pair-same-length-5 t)
     (pair-returns-2 t))
-    λ t. value-lts.spec (
-      scalar-reads.Asked,
-      scalar-reads.Learnt,
-      anew-reads.Asked,
-      anew-reads.Learnt,
-      look-reads.Asked,
-      look-reads.Learnt,
-      array-below t,
-      array.Post,
-      object-below t,
-      object.Post,
-      plain-inside-reads.Asked,
-      plain-inside-reads.Learnt,
-    )
+    λ t. value-lts.spec (value-claims t)
     (value-at t)
     value.Post
     (value-scalar-requires t)
@@ -563,13 +569,15 @@ pub +array+element+object+pair+value-spec : {M : Type 1} → statement M
     (value-anew-requires-5 t)
     (value-same-length-3 t)
     (value-same-length-4 t)
-    (value-returns-2 t)
     (value-same-length-5 t)
+    (value-returns-2 t)
     (value-same-length-6 t)
-    (value-returns-3 t)
     (value-same-length-7 t)
     (value-same-length-8 t)
-    (value-returns-4 t)
+    (value-returns-3 t)
     (value-same-length-9 t)
     (value-same-length-10 t)
+    (value-returns-4 t)
+    (value-same-length-11 t)
+    (value-same-length-12 t)
     (value-returns-5 t)

@@ -1,7 +1,8 @@
 -- `line_value` meets its contract: a keyword or a number by its own reader, all else as inside brackets.
-use Rattle.inline.proofs.Choices.{lining}
 use Rattle.inline.proofs.line_value.Statement.{statement}
 use Rattle.inline.proofs.line_value.Tie as tie
+use Rattle.inline.proofs.Choices.{lining}
+use Rattle.inline.proofs.Noting.{noting-line}
 
 look-requires : tie.Need-look-requires
 look-requires c κs = search lining
@@ -24,23 +25,14 @@ same-length c = search lining
 same-length-2 : tie.Need-same-length-2
 same-length-2 c = search lining
 
-returns : tie.Need-returns
-returns c = search lining
-
 same-length-3 : tie.Need-same-length-3
 same-length-3 c = search lining
 
+returns : tie.Need-returns
+returns c = (search lining, search noting-line)
+
 same-length-4 : tie.Need-same-length-4
 same-length-4 c = search lining
-
-returns-2 : tie.Need-returns-2
-returns-2 c = search lining
-
-plain-requires : tie.Need-plain-requires
-plain-requires c κs = search lining
-
-anew-requires : tie.Need-anew-requires
-anew-requires c κs = search lining
 
 same-length-5 : tie.Need-same-length-5
 same-length-5 c = search lining
@@ -48,8 +40,23 @@ same-length-5 c = search lining
 same-length-6 : tie.Need-same-length-6
 same-length-6 c = search lining
 
+returns-2 : tie.Need-returns-2
+returns-2 c = (search lining, search noting-line)
+
+plain-requires : tie.Need-plain-requires
+plain-requires c κs = search lining
+
+anew-requires : tie.Need-anew-requires
+anew-requires c κs = search lining
+
+same-length-7 : tie.Need-same-length-7
+same-length-7 c = search lining
+
+same-length-8 : tie.Need-same-length-8
+same-length-8 c = search lining
+
 returns-3 : tie.Need-returns-3
-returns-3 c = rw (c .anew .ensures) (search lining)
+returns-3 c = (rw (c .anew .ensures) (search lining), search noting-line)
 
 pub line-value-spec : {M : Type 1} → statement M
 line-value-spec =
@@ -62,12 +69,14 @@ line-value-spec =
     enum-known-p
     same-length
     same-length-2
-    returns
     same-length-3
+    returns
     same-length-4
+    same-length-5
+    same-length-6
     returns-2
     plain-requires
     anew-requires
-    same-length-5
-    same-length-6
+    same-length-7
+    same-length-8
     returns-3)

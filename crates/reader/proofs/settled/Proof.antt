@@ -5,22 +5,22 @@ use Rattle.reader.proofs.settled.Statement.{statement}
 use Rattle.reader.proofs.settled.Tie as tie
 
 mul-if1 : tie.Need-mul-if1
-mul-if1 c = search (attempt-few, attempt-done, read-holds, needs)
+mul-if1 c = search needs
 
 returns : tie.Need-returns
-returns c = search (attempt-few, attempt-done, read-holds, needs)
+returns c = search (attempt-few, needs)
 
 answer-requires : tie.Need-answer-requires
-answer-requires c κs = search (attempt-few, attempt-done, read-holds, needs)
+answer-requires c κs = search (read-holds, needs)
 
 same-length : tie.Need-same-length
-same-length c = search (attempt-few, attempt-done, read-holds, needs)
+same-length c = search needs
 
 same-length-2 : tie.Need-same-length-2
-same-length-2 c = search (attempt-few, attempt-done, read-holds, needs)
+same-length-2 c = search needs
 
 returns-2 : tie.Need-returns-2
-returns-2 c = search (attempt-few, attempt-done, read-holds, needs)
+returns-2 c = search (attempt-done, needs)
 
 pub settled-spec : {M : Type 1} → statement M
 settled-spec =

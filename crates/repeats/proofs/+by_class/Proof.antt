@@ -6,7 +6,7 @@ use borrow.Fn.PlainCycle.{Measures, is, falls, and}
 use Rattle.repeats.proofs.by_class.Reads as by-class
 use Rattle.repeats.proofs.by_class.Kinds as by-class-kinds
 use Rattle.repeats.proofs.+by_class.Lts-by_class as by-class-lts
-use Rattle.repeats.proofs.among_all.Reads as among-all-reads
+use Rattle.repeats.proofs.among_most.Reads as among-most-reads
 use Rattle.repeats.proofs.among_few.Reads as among-few-reads
 use Rattle.repeats.proofs.among_some.Reads as among-some-reads
 use Rattle.repeats.proofs.+by_class.{statement}
@@ -23,7 +23,7 @@ by-class-below t =
     and 2 by-class-kinds.ps (falls 2 by-class-kinds.ps _<_ μ-by-class t) by-class.Pre
 
 abbrev by-class-claims : ℕ → by-class-lts.Claims
-by-class-claims t = (among-few-reads.Asked, among-few-reads.Learnt, by-class-below t, by-class.Post, among-some-reads.Asked, among-some-reads.Learnt, among-all-reads.Asked, among-all-reads.Learnt)
+by-class-claims t = (among-few-reads.Asked, among-few-reads.Learnt, by-class-below t, by-class.Post, among-some-reads.Asked, among-some-reads.Learnt, among-most-reads.Asked, among-most-reads.Learnt)
 
 by-class-among-few-requires : (t : ℕ) → by-class-lts.Need-among-few-requires (by-class-claims t) (by-class-at t) by-class.Post
 by-class-among-few-requires t c κs = search needs
@@ -43,8 +43,8 @@ by-class-returns-2 t c = search needs
 by-class-by-class-requires-2 : (t : ℕ) → by-class-lts.Need-by-class-requires-2 (by-class-claims t) (by-class-at t) by-class.Post
 by-class-by-class-requires-2 t c κs = search needs
 
-by-class-among-all-requires : (t : ℕ) → by-class-lts.Need-among-all-requires (by-class-claims t) (by-class-at t) by-class.Post
-by-class-among-all-requires t c κs = search needs
+by-class-among-most-requires : (t : ℕ) → by-class-lts.Need-among-most-requires (by-class-claims t) (by-class-at t) by-class.Post
+by-class-among-most-requires t c κs = search needs
 
 by-class-returns-3 : (t : ℕ) → by-class-lts.Need-returns-3 (by-class-claims t) (by-class-at t) by-class.Post
 by-class-returns-3 t c = search needs
@@ -65,7 +65,7 @@ pub +by-class-spec : {M : Type 1} → statement M
     (by-class-among-some-requires t)
     (by-class-returns-2 t)
     (by-class-by-class-requires-2 t)
-    (by-class-among-all-requires t)
+    (by-class-among-most-requires t)
     (by-class-returns-3 t)
     (by-class-returns-4 t)
     (by-class-returns-5 t)

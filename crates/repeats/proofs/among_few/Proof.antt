@@ -1,7 +1,7 @@
 -- `among_few` starts with chains that have no key in them. Assumes nothing.
 use mathlib.Core.Path.{refl}
 use borrow.Author.Needs.{needs}
-use Rattle.repeats.specs.Later
+use Rattle.repeats.specs.Turns
 use Rattle.repeats.proofs.among_few.Statement.{statement}
 use Rattle.repeats.proofs.among_few.Tie as tie
 
@@ -14,7 +14,7 @@ slice-aggregate-repeated-2 c = search needs
 repeated-requires : tie.Need-repeated-requires
 repeated-requires c κs =
     let s = c .before .before .before .before in
-    Later.starting (s .args .rows .now) (s .args .text .now) 4096 512 (s .args .n) refl (s .pre .1) (s .pre .0)
+    Turns.starting (s .args .rows .now) (s .args .text .now) 4096 512 (s .args .n) refl (s .pre .1) (s .pre .0)
 
 returns : tie.Need-returns
 returns c = search needs

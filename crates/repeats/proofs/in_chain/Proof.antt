@@ -2,13 +2,15 @@
 use native.Mathlib.Omega.{arith}
 use Prim.Native.Nat.{_-_}
 use borrow.Author.Needs.{needs}
-use Rattle.repeats.specs.Keys.{tells-yes, tells-no}
-use Rattle.repeats.specs.Chains
+use Rattle.repeats.specs.Tells.{tells-yes, tells-no}
+use Rattle.repeats.specs.Keys.{rowKeys}
+use Rattle.repeats.specs.Links
+use Rattle.repeats.specs.Chains.{walk-keyed}
 use Rattle.repeats.proofs.in_chain.Statement.{statement}
 use Rattle.repeats.proofs.in_chain.Tie as tie
 
 abbrev Inv-loop : tie.InvT-loop
-Inv-loop rows text links head i h₀ h = Chains.Walked rows text links head i h
+Inv-loop rows text links head i h₀ h = Links.Walked (rowKeys rows text) links head i h
 
 abbrev μ-loop : tie.MeasureT-loop
 μ-loop rows text links head i h₀ h = h
@@ -16,7 +18,7 @@ abbrev μ-loop : tie.MeasureT-loop
 loop-holds : tie.Need-loop-holds Inv-loop μ-loop
 loop-holds c =
     let s = c .before .before .before in
-    Chains.walk-first (s .args .rows .now) (s .args .text .now) (s .args .links .now) (s .args .head) (s .args .i) (s .pre)
+    Links.walk-first (rowKeys (s .args .rows .now) (s .args .text .now)) (s .args .links .now) (s .args .head) (s .args .i) (s .pre .walk)
 
 sub-k : tie.Need-sub-k Inv-loop μ-loop
 sub-k c = omega (arith, c .loop-test .taken)
@@ -24,20 +26,19 @@ sub-k c = omega (arith, c .loop-test .taken)
 same-key-requires : tie.Need-same-key-requires Inv-loop μ-loop
 same-key-requires c κs =
     let s = c .before .before .before .before .before in
-    (s .pre .this, Chains.walk-keyed (s .args .rows .now) (s .args .text .now) (s .args .links .now) (s .args .head) (s .args .i) (s .pre) (c .before .loop .h) (c .before .loop .inv) (c .loop-test .taken))
+    (s .pre .this, walk-keyed (s .args .rows .now) (s .args .text .now) (s .args .links .now) (s .args .head) (s .args .i) (s .pre) (c .before .loop .h) (c .before .loop .inv) (c .loop-test .taken))
 
 returns : tie.Need-returns Inv-loop μ-loop
 returns c =
     let s = c .before .before .before .before .before .before .before in
     let l = c .before .before .before .loop in
     let k = c .before .same-key in
-    Chains.walk-same
-    (s .args .rows .now)
-    (s .args .text .now)
+    Links.walk-same
+    (rowKeys (s .args .rows .now) (s .args .text .now))
     (s .args .links .now)
     (s .args .head)
     (s .args .i)
-    (s .pre)
+    (s .pre .walk)
     (l .h)
     (l .inv)
     (c .before .before .loop-test .taken)
@@ -47,20 +48,19 @@ mul-h : tie.Need-mul-h Inv-loop μ-loop
 mul-h c =
     let s = c .before .before .before .before .before .before .before in
     let l = c .before .before .before .loop in
-    let z = Chains.walk-room (s .args .rows .now) (s .args .text .now) (s .args .links .now) (s .args .head) (s .args .i) (s .pre) (l .h) (l .inv) (c .before .before .loop-test .taken) in
+    let z = Links.walk-room (rowKeys (s .args .rows .now) (s .args .text .now)) (s .args .links .now) (s .args .head) (s .args .i) (s .pre .walk) (l .h) (l .inv) (c .before .before .loop-test .taken) in
     search needs
 
 shared-slice-read-h : tie.Need-shared-slice-read-h Inv-loop μ-loop
 shared-slice-read-h c =
     let s = c .before .before .before .before .before .before .before .before in
     let l = c .before .before .before .before .loop in
-    Chains.walk-room
-    (s .args .rows .now)
-    (s .args .text .now)
+    Links.walk-room
+    (rowKeys (s .args .rows .now) (s .args .text .now))
     (s .args .links .now)
     (s .args .head)
     (s .args .i)
-    (s .pre)
+    (s .pre .walk)
     (l .h)
     (l .inv)
     (c .before .before .before .loop-test .taken)
@@ -71,13 +71,12 @@ cast-h c = omega (arith, c .shared-slice-known4 .given (c .before .before .befor
 loop-less : tie.Need-loop-less Inv-loop μ-loop
 loop-less c =
     let s = c .before .before .before .before .before .before .before .before in
-    Chains.walk-less
-    (s .args .rows .now)
-    (s .args .text .now)
+    Links.walk-less
+    (rowKeys (s .args .rows .now) (s .args .text .now))
     (s .args .links .now)
     (s .args .head)
     (s .args .i)
-    (s .pre)
+    (s .pre .walk)
     (c .before .before .before .before .loop .h)
     (c .before .before .before .loop-test .taken)
 
@@ -86,13 +85,12 @@ loop-again c =
     let s = c .before .before .before .before .before .before .before .before in
     let l = c .before .before .before .before .loop in
     let k = c .before .before .same-key in
-    Chains.walk-more
-    (s .args .rows .now)
-    (s .args .text .now)
+    Links.walk-more
+    (rowKeys (s .args .rows .now) (s .args .text .now))
     (s .args .links .now)
     (s .args .head)
     (s .args .i)
-    (s .pre)
+    (s .pre .walk)
     (l .h)
     (l .inv)
     (c .before .before .before .loop-test .taken)
@@ -101,13 +99,12 @@ loop-again c =
 returns-2 : tie.Need-returns-2 Inv-loop μ-loop
 returns-2 c =
     let s = c .before .before .before .before .before in
-    Chains.walk-none
-    (s .args .rows .now)
-    (s .args .text .now)
+    Links.walk-none
+    (rowKeys (s .args .rows .now) (s .args .text .now))
     (s .args .links .now)
     (s .args .head)
     (s .args .i)
-    (s .pre)
+    (s .pre .walk)
     (c .before .loop .h)
     (c .before .loop .inv)
     (c .loop-test .left)

@@ -2,7 +2,7 @@
 use Prim.Native.Nat.{_*_}
 use lib.ListN.{getD}
 use borrow.Author.Needs.{needs}
-use Rattle.repeats.specs.Keys.{tells-eqb}
+use Rattle.repeats.specs.Tells.{tells-eqb}
 use Rattle.repeats.proofs.is_key.Statement.{statement}
 use Rattle.repeats.proofs.is_key.Tie as tie
 use Rattle.language.specs.Tree.{width}

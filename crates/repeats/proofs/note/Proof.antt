@@ -1,6 +1,8 @@
 -- `note` tells whether an earlier key is the same, and row i's key joins its chain. Assumes nothing.
 use native.Mathlib.Omega.{arith}
 use borrow.Author.Needs.{needs}
+use Rattle.repeats.specs.Keys.{rowKeys}
+use Rattle.repeats.specs.Links
 use Rattle.repeats.specs.Chains
 use Rattle.repeats.proofs.note.Statement.{statement}
 use Rattle.repeats.proofs.note.Tie as tie
@@ -14,19 +16,18 @@ mul-head : tie.Need-mul-head
 mul-head c =
     let s = c .before .before .before .before .before in
     let k = c .mark in
-    omega (arith, Chains.note-small (s .args .rows .now) (s .args .text .now) (s .args .heads .now) (s .args .links .now) (s .args .i) (s .pre) (k .result) (k .ensures))
+    omega (arith, Links.note-small (rowKeys (s .args .rows .now) (s .args .text .now)) (s .args .heads .now) (s .args .links .now) (s .args .i) (s .pre .noting) (k .result) (k .ensures))
 
 slice-read-head : tie.Need-slice-read-head
 slice-read-head c =
     let s = c .before .before .before .before .before .before in
     let k = c .before .mark in
-    Chains.note-low
-    (s .args .rows .now)
-    (s .args .text .now)
+    Links.note-low
+    (rowKeys (s .args .rows .now) (s .args .text .now))
     (s .args .heads .now)
     (s .args .links .now)
     (s .args .i)
-    (s .pre)
+    (s .pre .noting)
     (k .result)
     (k .ensures)
 
@@ -37,7 +38,7 @@ in-chain-requires : tie.Need-in-chain-requires
 in-chain-requires c κs =
     let s = c .before .before .before .before .before .before .before in
     let k = c .before .before .mark in
-    Chains.note-walkable
+    Chains.row-walkable
     (s .args .rows .now)
     (s .args .text .now)
     (s .args .heads .now)
@@ -63,19 +64,18 @@ mul-heads : tie.Need-mul-heads
 mul-heads c =
     let s = c .before .before .before .before .before .before .before .before in
     let k = c .before .before .before .mark in
-    omega (arith, Chains.note-small (s .args .rows .now) (s .args .text .now) (s .args .heads .now) (s .args .links .now) (s .args .i) (s .pre) (k .result) (k .ensures))
+    omega (arith, Links.note-small (rowKeys (s .args .rows .now) (s .args .text .now)) (s .args .heads .now) (s .args .links .now) (s .args .i) (s .pre .noting) (k .result) (k .ensures))
 
 slice-write-heads : tie.Need-slice-write-heads
 slice-write-heads c =
     let s = c .before .before .before .before .before .before .before .before in
     let k = c .before .before .before .mark in
-    Chains.note-low
-    (s .args .rows .now)
-    (s .args .text .now)
+    Links.note-low
+    (rowKeys (s .args .rows .now) (s .args .text .now))
     (s .args .heads .now)
     (s .args .links .now)
     (s .args .i)
-    (s .pre)
+    (s .pre .noting)
     (k .result)
     (k .ensures)
 
@@ -89,13 +89,12 @@ returns : tie.Need-returns
 returns c =
     let s = c .before .before .before .before .before .before .before .before in
     let k = c .before .before .before .mark in
-    Chains.noted
-    (s .args .rows .now)
-    (s .args .text .now)
+    Links.noted
+    (rowKeys (s .args .rows .now) (s .args .text .now))
     (s .args .heads .now)
     (s .args .links .now)
     (s .args .i)
-    (s .pre)
+    (s .pre .noting)
     (k .result)
     (k .ensures)
     (c .in-chain .result)

@@ -3,12 +3,12 @@ use native.Mathlib.Omega.{arith}
 use mathlib.Core.Path.{_≡_, refl, _∙_}
 use Prim.Native.Nat.{_-_}
 use lib.ListN.{length}
-use Rattle.repeats.specs.Later
+use Rattle.repeats.specs.Turns
 use Rattle.repeats.proofs.repeated.Statement.{statement}
 use Rattle.repeats.proofs.repeated.Tie as tie
 
 abbrev Inv-loop : tie.InvT-loop
-Inv-loop rows text heads₀ links₀ n best₀ i₀ heads links best i = Later.Passed rows text heads links n i best × (length heads ≡ length heads₀) × (length links ≡ length links₀)
+Inv-loop rows text heads₀ links₀ n best₀ i₀ heads links best i = Turns.Passed rows text heads links n i best × (length heads ≡ length heads₀) × (length links ≡ length links₀)
 
 abbrev μ-loop : tie.MeasureT-loop
 μ-loop rows text heads₀ links₀ n best₀ i₀ heads links best i = n - i
@@ -16,13 +16,13 @@ abbrev μ-loop : tie.MeasureT-loop
 loop-holds : tie.Need-loop-holds Inv-loop μ-loop
 loop-holds c =
     let s = c .before .before .before .before in
-    (Later.pass-first (s .args .rows .now) (s .args .text .now) (s .args .n) (s .args .heads .now) (s .args .links .now) (s .pre), refl, refl)
+    (Turns.pass-first (s .args .rows .now) (s .args .text .now) (s .args .n) (s .args .heads .now) (s .args .links .now) (s .pre), refl, refl)
 
 turn-requires : tie.Need-turn-requires Inv-loop μ-loop
 turn-requires c κs =
     let s = c .before .before .before .before .before .before .before .before in
     let l = c .before .before .before .loop in
-    Later.pass-turning
+    Turns.pass-turning
     (s .args .rows .now)
     (s .args .text .now)
     (s .args .n)
@@ -48,7 +48,7 @@ loop-again c =
     let l = c .before .before .before .before .before .before .before .before .loop in
     let d = c .before .before .before .before .turn in
     let t =
-    Later.pass-more
+    Turns.pass-more
     (s .args .rows .now)
     (s .args .text .now)
     (s .args .n)
@@ -71,7 +71,7 @@ returns : tie.Need-returns Inv-loop μ-loop
 returns c =
     let s = c .before .before .before .before .before .before in
     let l = c .before .loop in
-    Later.pass-done (s .args .rows .now) (s .args .text .now) (s .args .n) (l .heads) (l .links) (l .i) (l .best) (l .inv .0) (c .loop-test .left)
+    Turns.pass-done (s .args .rows .now) (s .args .text .now) (s .args .n) (l .heads) (l .links) (l .i) (l .best) (l .inv .0) (c .loop-test .left)
 
 pub repeated-spec : {M : Type 1} → statement M
 repeated-spec =

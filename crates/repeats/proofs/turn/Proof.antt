@@ -1,7 +1,8 @@
 -- `turn` gives the answer with one row more. Assumes nothing.
 use mathlib.Core.Path.{ap, _∙_}
 use borrow.Author.Needs.{needs}
-use Rattle.repeats.specs.Keys.{tells-yes, tells-no}
+use Rattle.repeats.specs.Tells.{tells-yes, tells-no}
+use Rattle.repeats.specs.Turns
 use Rattle.repeats.specs.Later
 use Rattle.repeats.proofs.turn.Statement.{statement}
 use Rattle.repeats.proofs.turn.Tie as tie
@@ -13,7 +14,7 @@ note-requires : tie.Need-note-requires
 note-requires c κs =
     let s = c .before .before .before .before .before .before .before .before in
     let k = c .before .before .before .is-key in
-    Later.turn-noting
+    Turns.turn-noting
     (s .args .rows .now)
     (s .args .text .now)
     (s .args .heads .now)
@@ -41,7 +42,7 @@ returns c =
     let k = c .before .before .before .before .before .before .before .before .before .before .before .is-key in
     let d = c .before .before .before .before .before .before .before .note in
     let w = c .before .word in
-    Later.turn-again
+    Turns.turn-again
     (s .args .rows .now)
     (s .args .text .now)
     (s .args .heads .now)
@@ -69,7 +70,7 @@ returns-2 c =
     let s = c .before .before .before .before .before .before .before .before .before .before .before .before .before .before in
     let k = c .before .before .before .before .before .before .before .before .before .is-key in
     let d = c .before .before .before .before .before .note in
-    Later.turn-first
+    Turns.turn-first
     (s .args .rows .now)
     (s .args .text .now)
     (s .args .heads .now)
@@ -88,7 +89,7 @@ returns-3 : tie.Need-returns-3
 returns-3 c =
     let s = c .before .before .before .before .before .before in
     let k = c .before .is-key in
-    Later.turn-other
+    Turns.turn-other
     (s .args .rows .now)
     (s .args .text .now)
     (s .args .heads .now)

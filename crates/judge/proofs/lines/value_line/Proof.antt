@@ -1,5 +1,6 @@
 -- `value_line` meets its contract: a value, and the end of its line.
 use Rattle.judge.proofs.Lining.{lining}
+use Rattle.judge.proofs.Noting.{line-noting}
 use borrow.Author.Needs.{needs}
 use Rattle.judge.proofs.lines.value_line.Statement.{statement}
 use Rattle.judge.proofs.lines.value_line.Tie as tie
@@ -34,17 +35,14 @@ same-length c = search needs
 same-length-2 : tie.Need-same-length-2
 same-length-2 c = search needs
 
-returns : tie.Need-returns
-returns c = search lining
-
 same-length-3 : tie.Need-same-length-3
 same-length-3 c = search needs
 
+returns : tie.Need-returns
+returns c = (search lining, search line-noting)
+
 same-length-4 : tie.Need-same-length-4
 same-length-4 c = search needs
-
-returns-2 : tie.Need-returns-2
-returns-2 c = search lining
 
 same-length-5 : tie.Need-same-length-5
 same-length-5 c = search needs
@@ -52,8 +50,20 @@ same-length-5 c = search needs
 same-length-6 : tie.Need-same-length-6
 same-length-6 c = search needs
 
+returns-2 : tie.Need-returns-2
+returns-2 c = (search lining, search line-noting)
+
+same-length-7 : tie.Need-same-length-7
+same-length-7 c = search needs
+
+same-length-8 : tie.Need-same-length-8
+same-length-8 c = search needs
+
+same-length-9 : tie.Need-same-length-9
+same-length-9 c = search needs
+
 returns-3 : tie.Need-returns-3
-returns-3 c = search lining
+returns-3 c = (search lining, search line-noting)
 
 pub value-line-spec : {M : Type 1} → statement M
 value-line-spec =
@@ -69,10 +79,13 @@ value-line-spec =
     moved-requires
     same-length
     same-length-2
-    returns
     same-length-3
+    returns
     same-length-4
-    returns-2
     same-length-5
     same-length-6
+    returns-2
+    same-length-7
+    same-length-8
+    same-length-9
     returns-3)

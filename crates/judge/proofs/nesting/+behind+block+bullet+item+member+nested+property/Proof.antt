@@ -3,9 +3,9 @@ use mathlib.Core.Path.{_≡_, refl}
 use native.Mathlib.Omega.{arith}
 use Prim.Native.Nat.{_*_, _+_, _-_}
 use lib.ListN.{length}
-use Rattle.judge.proofs.Blocks.{Loop}
+use Rattle.judge.proofs.NotingBlocks.{Noticed, block-done-notes, behind-noting, property-noting, member-noting, block-noting, item-noting, nested-noting}
 use Rattle.judge.proofs.Colons.{key-inside, property-ready, behind-colon, property-laws}
-use Rattle.judge.proofs.Containers.{block-inside, block-done, bullet-encloses, member-laws, block-laws, bullet-laws, item-laws, nested-laws}
+use Rattle.judge.proofs.Containers.{block-inside, block-encloses, block-done, bullet-encloses, member-laws, block-laws, bullet-laws, item-laws, nested-laws}
 use borrow.Author.Needs.{needs}
 use Prim.Native.Nat.{ℕ, _<_}
 use borrow.Fn.Kinds.{In}
@@ -43,6 +43,7 @@ use Rattle.judge.proofs.look.line_end.Reads as line-end-reads
 use Rattle.judge.proofs.look.moved.Reads as moved-reads
 use Rattle.judge.proofs.look.one_space.Reads as one-space-reads
 use Rattle.judge.proofs.look.starts.Reads as starts-reads
+use Rattle.notes.proofs.note.Reads as note-reads
 use Rattle.rooms.proofs.Block.anew.Reads as anew-reads
 use Rattle.rooms.proofs.Cursor.indent.Reads as indent-reads
 use Rattle.rooms.proofs.Cursor.take.Reads as take-reads
@@ -54,69 +55,69 @@ use Rattle.judge.proofs.nesting.+behind+block+bullet+item+member+nested
   close,
 }
 
-abbrev μ-behind : Measures 3 behind-kinds.ps ℕ
-μ-behind κs a = 8 * a .1 .1 .1 .1 .1 .1 .0 + 1
+abbrev μ-behind : Measures 4 behind-kinds.ps ℕ
+μ-behind κs a = 8 * a .1 .1 .1 .1 .1 .1 .1 .0 + 1
 
-abbrev μ-block : Measures 3 block-kinds.ps ℕ
-μ-block κs a = 8 * a .1 .1 .1 .1 .1 .1 .0 + 4
+abbrev μ-block : Measures 4 block-kinds.ps ℕ
+μ-block κs a = 8 * a .1 .1 .1 .1 .1 .1 .1 .0 + 4
 
-abbrev μ-bullet : Measures 3 bullet-kinds.ps ℕ
-μ-bullet κs a = 8 * a .1 .1 .1 .1 .1 .1 .0 + 4
+abbrev μ-bullet : Measures 4 bullet-kinds.ps ℕ
+μ-bullet κs a = 8 * a .1 .1 .1 .1 .1 .1 .1 .0 + 4
 
-abbrev μ-item : Measures 3 item-kinds.ps ℕ
-μ-item κs a = 8 * a .1 .1 .1 .1 .1 .1 .0
+abbrev μ-item : Measures 4 item-kinds.ps ℕ
+μ-item κs a = 8 * a .1 .1 .1 .1 .1 .1 .1 .0
 
-abbrev μ-member : Measures 3 member-kinds.ps ℕ
-μ-member κs a = 8 * a .1 .1 .1 .1 .1 .1 .0 + 3
+abbrev μ-member : Measures 4 member-kinds.ps ℕ
+μ-member κs a = 8 * a .1 .1 .1 .1 .1 .1 .1 .0 + 3
 
-abbrev μ-nested : Measures 3 nested-kinds.ps ℕ
-μ-nested κs a = 8 * a .1 .1 .1 .1 .1 .1 .0
+abbrev μ-nested : Measures 4 nested-kinds.ps ℕ
+μ-nested κs a = 8 * a .1 .1 .1 .1 .1 .1 .1 .0
 
-abbrev μ-property : Measures 3 property-kinds.ps ℕ
-μ-property κs a = 8 * a .1 .1 .1 .1 .1 .1 .0 + 2
+abbrev μ-property : Measures 4 property-kinds.ps ℕ
+μ-property κs a = 8 * a .1 .1 .1 .1 .1 .1 .1 .0 + 2
 
-abbrev behind-at : ℕ → In 3 behind-kinds.ps
-behind-at t = and 3 behind-kinds.ps (is 3 behind-kinds.ps μ-behind t) behind.Pre
+abbrev behind-at : ℕ → In 4 behind-kinds.ps
+behind-at t = and 4 behind-kinds.ps (is 4 behind-kinds.ps μ-behind t) behind.Pre
 
-abbrev behind-below : ℕ → In 3 behind-kinds.ps
-behind-below t = and 3 behind-kinds.ps (falls 3 behind-kinds.ps _<_ μ-behind t) behind.Pre
+abbrev behind-below : ℕ → In 4 behind-kinds.ps
+behind-below t = and 4 behind-kinds.ps (falls 4 behind-kinds.ps _<_ μ-behind t) behind.Pre
 
-abbrev block-at : ℕ → In 3 block-kinds.ps
-block-at t = and 3 block-kinds.ps (is 3 block-kinds.ps μ-block t) block.Pre
+abbrev block-at : ℕ → In 4 block-kinds.ps
+block-at t = and 4 block-kinds.ps (is 4 block-kinds.ps μ-block t) block.Pre
 
-abbrev block-below : ℕ → In 3 block-kinds.ps
-block-below t = and 3 block-kinds.ps (falls 3 block-kinds.ps _<_ μ-block t) block.Pre
+abbrev block-below : ℕ → In 4 block-kinds.ps
+block-below t = and 4 block-kinds.ps (falls 4 block-kinds.ps _<_ μ-block t) block.Pre
 
-abbrev bullet-at : ℕ → In 3 bullet-kinds.ps
-bullet-at t = and 3 bullet-kinds.ps (is 3 bullet-kinds.ps μ-bullet t) bullet.Pre
+abbrev bullet-at : ℕ → In 4 bullet-kinds.ps
+bullet-at t = and 4 bullet-kinds.ps (is 4 bullet-kinds.ps μ-bullet t) bullet.Pre
 
-abbrev bullet-below : ℕ → In 3 bullet-kinds.ps
-bullet-below t = and 3 bullet-kinds.ps (falls 3 bullet-kinds.ps _<_ μ-bullet t) bullet.Pre
+abbrev bullet-below : ℕ → In 4 bullet-kinds.ps
+bullet-below t = and 4 bullet-kinds.ps (falls 4 bullet-kinds.ps _<_ μ-bullet t) bullet.Pre
 
-abbrev item-at : ℕ → In 3 item-kinds.ps
-item-at t = and 3 item-kinds.ps (is 3 item-kinds.ps μ-item t) item.Pre
+abbrev item-at : ℕ → In 4 item-kinds.ps
+item-at t = and 4 item-kinds.ps (is 4 item-kinds.ps μ-item t) item.Pre
 
-abbrev item-below : ℕ → In 3 item-kinds.ps
-item-below t = and 3 item-kinds.ps (falls 3 item-kinds.ps _<_ μ-item t) item.Pre
+abbrev item-below : ℕ → In 4 item-kinds.ps
+item-below t = and 4 item-kinds.ps (falls 4 item-kinds.ps _<_ μ-item t) item.Pre
 
-abbrev member-at : ℕ → In 3 member-kinds.ps
-member-at t = and 3 member-kinds.ps (is 3 member-kinds.ps μ-member t) member.Pre
+abbrev member-at : ℕ → In 4 member-kinds.ps
+member-at t = and 4 member-kinds.ps (is 4 member-kinds.ps μ-member t) member.Pre
 
-abbrev member-below : ℕ → In 3 member-kinds.ps
-member-below t = and 3 member-kinds.ps (falls 3 member-kinds.ps _<_ μ-member t) member.Pre
+abbrev member-below : ℕ → In 4 member-kinds.ps
+member-below t = and 4 member-kinds.ps (falls 4 member-kinds.ps _<_ μ-member t) member.Pre
 
-abbrev nested-at : ℕ → In 3 nested-kinds.ps
-nested-at t = and 3 nested-kinds.ps (is 3 nested-kinds.ps μ-nested t) nested.Pre
+abbrev nested-at : ℕ → In 4 nested-kinds.ps
+nested-at t = and 4 nested-kinds.ps (is 4 nested-kinds.ps μ-nested t) nested.Pre
 
-abbrev nested-below : ℕ → In 3 nested-kinds.ps
-nested-below t = and 3 nested-kinds.ps (falls 3 nested-kinds.ps _<_ μ-nested t) nested.Pre
+abbrev nested-below : ℕ → In 4 nested-kinds.ps
+nested-below t = and 4 nested-kinds.ps (falls 4 nested-kinds.ps _<_ μ-nested t) nested.Pre
 
-abbrev property-at : ℕ → In 3 property-kinds.ps
-property-at t = and 3 property-kinds.ps (is 3 property-kinds.ps μ-property t) property.Pre
+abbrev property-at : ℕ → In 4 property-kinds.ps
+property-at t = and 4 property-kinds.ps (is 4 property-kinds.ps μ-property t) property.Pre
 
-abbrev property-below : ℕ → In 3 property-kinds.ps
+abbrev property-below : ℕ → In 4 property-kinds.ps
 property-below t =
-    and 3 property-kinds.ps (falls 3 property-kinds.ps _<_ μ-property t) property.Pre
+    and 4 property-kinds.ps (falls 4 property-kinds.ps _<_ μ-property t) property.Pre
 
 abbrev behind-claims : ℕ → behind-lts.Claims
 behind-claims t = (one-space-reads.Asked, one-space-reads.Learnt, on-line-reads.Asked, on-line-reads.Learnt, anew-reads.Asked, anew-reads.Learnt, line-end-reads.Asked, line-end-reads.Learnt, moved-reads.Asked, moved-reads.Learnt, nested-below t, nested.Post)
@@ -137,7 +138,7 @@ abbrev nested-claims : ℕ → nested-lts.Claims
 nested-claims t = (indent-reads.Asked, indent-reads.Learnt, moved-reads.Asked, moved-reads.Learnt, nested-line-reads.Asked, nested-line-reads.Learnt, starts-reads.Asked, starts-reads.Learnt, block-below t, block.Post, anew-reads.Asked, anew-reads.Learnt, kept-reads.Asked, kept-reads.Learnt)
 
 abbrev property-claims : ℕ → property-lts.Claims
-property-claims t = (key-row-reads.Asked, key-row-reads.Learnt, take-reads.Asked, take-reads.Learnt, behind-below t, behind.Post)
+property-claims t = (key-row-reads.Asked, key-row-reads.Learnt, take-reads.Asked, take-reads.Learnt, note-reads.Asked, note-reads.Learnt, behind-below t, behind.Post)
 
 behind-one-space-requires : (t : ℕ) → behind-lts.Need-one-space-requires (behind-claims t) (behind-at t) behind.Post
 behind-one-space-requires t c κs = search needs
@@ -157,8 +158,11 @@ behind-same-length t c = search needs
 behind-same-length-2 : (t : ℕ) → behind-lts.Need-same-length-2 (behind-claims t) (behind-at t) behind.Post
 behind-same-length-2 t c = search needs
 
+behind-same-length-3 : (t : ℕ) → behind-lts.Need-same-length-3 (behind-claims t) (behind-at t) behind.Post
+behind-same-length-3 t c = search needs
+
 behind-returns : (t : ℕ) → behind-lts.Need-returns (behind-claims t) (behind-at t) behind.Post
-behind-returns t c = rw (c .anew .ensures) (search behind-colon)
+behind-returns t c = rw (c .anew .ensures) (search behind-colon, search behind-noting)
 
 behind-enum-told : (t : ℕ) → behind-lts.Need-enum-told (behind-claims t) (behind-at t) behind.Post
 behind-enum-told t c = search behind-colon
@@ -185,28 +189,32 @@ behind-anew-requires-2 : (t : ℕ) → behind-lts.Need-anew-requires-2 (behind-c
 behind-anew-requires-2 t c κs = search needs
 
 behind-returns-2 : (t : ℕ) → behind-lts.Need-returns-2 (behind-claims t) (behind-at t) behind.Post
-behind-returns-2 t c = search behind-colon
-
-behind-same-length-3 : (t : ℕ) → behind-lts.Need-same-length-3 (behind-claims t) (behind-at t) behind.Post
-behind-same-length-3 t c = search needs
+behind-returns-2 t c = (search behind-colon, search behind-noting)
 
 behind-same-length-4 : (t : ℕ) → behind-lts.Need-same-length-4 (behind-claims t) (behind-at t) behind.Post
 behind-same-length-4 t c = search needs
 
+behind-same-length-5 : (t : ℕ) → behind-lts.Need-same-length-5 (behind-claims t) (behind-at t) behind.Post
+behind-same-length-5 t c = search needs
+
+behind-same-length-6 : (t : ℕ) → behind-lts.Need-same-length-6 (behind-claims t) (behind-at t) behind.Post
+behind-same-length-6 t c = search needs
+
 behind-returns-3 : (t : ℕ) → behind-lts.Need-returns-3 (behind-claims t) (behind-at t) behind.Post
-behind-returns-3 t c = rw (c .anew2 .ensures) (search behind-colon)
+behind-returns-3 t c = rw (c .anew2 .ensures) (search behind-colon, search behind-noting)
 
 abbrev block-Inv-loop : block-lts.InvT-loop
-block-Inv-loop doc rows₀ text₀ c parent col allow object row cur₀ far₀ count₀ rows text cur far count = Loop object allow col doc c rows₀ text₀ rows text cur far count × (length rows ≡ length rows₀) × (length text ≡ length text₀)
+block-Inv-loop doc rows₀ text₀ keys₀ c parent col allow object row cur₀ far₀ count₀ rows text keys cur far count =
+    Noticed object allow col doc c rows₀ text₀ keys₀ rows text keys cur far count × (length rows ≡ length rows₀) × (length text ≡ length text₀) × (length keys ≡ length keys₀)
 
 abbrev block-μ-loop : block-lts.MeasureT-loop
-block-μ-loop doc rows₀ text₀ c parent col allow object row cur₀ far₀ count₀ rows text cur far count = length doc - cur .at
+block-μ-loop doc rows₀ text₀ keys₀ c parent col allow object row cur₀ far₀ count₀ rows text keys cur far count = length doc - cur .at
 
-block-add-t19 : (t : ℕ) → block-lts.Need-add-t19 (block-claims t) (block-at t) block.Post block-Inv-loop block-μ-loop
-block-add-t19 t c = search needs
+block-add-t20 : (t : ℕ) → block-lts.Need-add-t20 (block-claims t) (block-at t) block.Post block-Inv-loop block-μ-loop
+block-add-t20 t c = search needs
 
 block-loop-holds : (t : ℕ) → block-lts.Need-loop-holds (block-claims t) (block-at t) block.Post block-Inv-loop block-μ-loop
-block-loop-holds t c = (search block-laws, search needs, search needs)
+block-loop-holds t c = (search block-noting, search needs, search needs, search needs)
 
 block-cast-member : (t : ℕ) → block-lts.Need-cast-member (block-claims t) (block-at t) block.Post block-Inv-loop block-μ-loop
 block-cast-member t c = search needs
@@ -226,8 +234,11 @@ block-same-length t c = search needs
 block-same-length-2 : (t : ℕ) → block-lts.Need-same-length-2 (block-claims t) (block-at t) block.Post block-Inv-loop block-μ-loop
 block-same-length-2 t c = search needs
 
+block-same-length-3 : (t : ℕ) → block-lts.Need-same-length-3 (block-claims t) (block-at t) block.Post block-Inv-loop block-μ-loop
+block-same-length-3 t c = search needs
+
 block-returns : (t : ℕ) → block-lts.Need-returns (block-claims t) (block-at t) block.Post block-Inv-loop block-μ-loop
-block-returns t c = search block-laws
+block-returns t c = (search block-laws, search block-noting)
 
 block-enum-known-n : (t : ℕ) → block-lts.Need-enum-known-n (block-claims t) (block-at t) block.Post block-Inv-loop block-μ-loop
 block-enum-known-n t c = search needs
@@ -239,25 +250,28 @@ block-add-count : (t : ℕ) → block-lts.Need-add-count (block-claims t) (block
 block-add-count t c = search needs
 
 block-further-requires : (t : ℕ) → block-lts.Need-further-requires (block-claims t) (block-at t) block.Post block-Inv-loop block-μ-loop
-block-further-requires t c κs = block-inside _ _ _ _ _ _ _ _ _ _ _ _ (c .before .before .before .before .before .before .before .before .before .before .before .loop .inv .0) _ _ _ (c .before .before .before .before .before .before .before .before .member .ensures) _ _ _ (c .before .before .n .given .1)
+block-further-requires t c κs = block-inside _ _ _ _ _ _ _ _ _ _ _ _ (c .before .before .before .before .before .before .before .before .before .before .before .before .before .before .loop .inv .0 .loop) _ _ _ (c .before .before .before .before .before .before .before .before .before .before .member .ensures .0) _ _ _ (c .before .before .n .given .1)
 
 block-enum-known-p-2 : (t : ℕ) → block-lts.Need-enum-known-p-2 (block-claims t) (block-at t) block.Post block-Inv-loop block-μ-loop
 block-enum-known-p-2 t c = search needs
 
 block-enclose-requires : (t : ℕ) → block-lts.Need-enclose-requires (block-claims t) (block-at t) block.Post block-Inv-loop block-μ-loop
-block-enclose-requires t c κs = search block-laws
+block-enclose-requires t c κs = block-encloses _ _ _ _ _ _ _ _ _ _ _ _ (c .before .before .before .before .before .before .before .before .before .before .before .before .before .before .before .before .before .before .before .loop .inv .0 .loop) _ _ _ (c .before .before .before .before .before .before .before .before .before .before .before .before .before .before .before .member .ensures .0) _ _ _ (c .before .before .before .before .before .before .before .n .given .1) _ refl
 
 block-greater-requires-3 : (t : ℕ) → block-lts.Need-greater-requires-3 (block-claims t) (block-at t) block.Post block-Inv-loop block-μ-loop
 block-greater-requires-3 t c κs = search needs
 
-block-same-length-3 : (t : ℕ) → block-lts.Need-same-length-3 (block-claims t) (block-at t) block.Post block-Inv-loop block-μ-loop
-block-same-length-3 t c = search needs
-
 block-same-length-4 : (t : ℕ) → block-lts.Need-same-length-4 (block-claims t) (block-at t) block.Post block-Inv-loop block-μ-loop
 block-same-length-4 t c = search needs
 
+block-same-length-5 : (t : ℕ) → block-lts.Need-same-length-5 (block-claims t) (block-at t) block.Post block-Inv-loop block-μ-loop
+block-same-length-5 t c = search needs
+
+block-same-length-6 : (t : ℕ) → block-lts.Need-same-length-6 (block-claims t) (block-at t) block.Post block-Inv-loop block-μ-loop
+block-same-length-6 t c = search needs
+
 block-returns-2 : (t : ℕ) → block-lts.Need-returns-2 (block-claims t) (block-at t) block.Post block-Inv-loop block-μ-loop
-block-returns-2 t c = block-done _ _ _ _ _ _ _ _ _ _ _ _ (c .before .before .before .before .before .before .before .before .before .before .before .before .before .before .before .before .before .before .before .before .loop .inv .0) _ _ _ (c .before .before .before .before .before .before .before .before .before .before .before .before .before .before .before .before .before .member .ensures) _ _ _ (c .before .before .before .before .before .before .before .before .before .before .before .n .given .1) _ (c .before .before .before .before .before .before .before .before .further .ensures) _ _ _ _ _ _ (c .before .before .before .before .before .before .p2 .given .1) (c .before .before .before .before .before .before .before .before .before .greater2 .ensures) (c .greater3 .ensures) refl (c .before .before .before .enclose .ensures)
+block-returns-2 t c = (block-done _ _ _ _ _ _ _ _ _ _ _ _ (c .before .before .before .before .before .before .before .before .before .before .before .before .before .before .before .before .before .before .before .before .before .before .before .loop .inv .0 .loop) _ _ _ (c .before .before .before .before .before .before .before .before .before .before .before .before .before .before .before .before .before .before .before .member .ensures .0) _ _ _ (c .before .before .before .before .before .before .before .before .before .before .before .n .given .1) _ (c .before .before .before .before .before .before .before .before .further .ensures) _ _ _ _ _ _ (c .before .before .before .before .before .before .p2 .given .1) (c .before .before .before .before .before .before .before .before .before .greater2 .ensures) (c .greater3 .ensures) refl (c .before .before .before .enclose .ensures), block-done-notes _ _ _ _ _ _ _ _ _ _ _ _ _ _ (c .before .before .before .before .before .before .before .before .before .before .before .before .before .before .before .before .before .before .before .before .before .before .before .loop .inv .0) _ _ _ _ (c .before .before .before .before .before .before .before .before .before .before .before .before .before .before .before .before .before .before .before .member .ensures .0) (c .before .before .before .before .before .before .before .before .before .before .before .before .before .before .before .before .before .before .before .member .ensures .1) _ _ _ (c .before .before .before .before .before .before .before .before .before .before .before .n .given .1) _ (c .before .before .before .before .before .before .before .before .further .ensures) _ _ (c .before .before .before .before .before .before .p2 .given .1))
 
 block-enum-known-m : (t : ℕ) → block-lts.Need-enum-known-m (block-claims t) (block-at t) block.Post block-Inv-loop block-μ-loop
 block-enum-known-m t c = search block-laws
@@ -266,10 +280,10 @@ block-loop-less : (t : ℕ) → block-lts.Need-loop-less (block-claims t) (block
 block-loop-less t c = search block-laws
 
 block-loop-again : (t : ℕ) → block-lts.Need-loop-again (block-claims t) (block-at t) block.Post block-Inv-loop block-μ-loop
-block-loop-again t c = (search block-laws, search needs, search needs)
+block-loop-again t c = (search block-noting, search needs, search needs, search needs)
 
-bullet-add-t14 : (t : ℕ) → bullet-lts.Need-add-t14 (bullet-claims t) (bullet-at t) bullet.Post
-bullet-add-t14 t c = search needs
+bullet-add-t15 : (t : ℕ) → bullet-lts.Need-add-t15 (bullet-claims t) (bullet-at t) bullet.Post
+bullet-add-t15 t c = search needs
 
 bullet-cast-member : (t : ℕ) → bullet-lts.Need-cast-member (bullet-claims t) (bullet-at t) bullet.Post
 bullet-cast-member t c = search needs
@@ -284,7 +298,7 @@ bullet-enum-known-n : (t : ℕ) → bullet-lts.Need-enum-known-n (bullet-claims 
 bullet-enum-known-n t c = search needs
 
 bullet-enclose-requires : (t : ℕ) → bullet-lts.Need-enclose-requires (bullet-claims t) (bullet-at t) bullet.Post
-bullet-enclose-requires t c κs = bullet-encloses _ _ _ _ 0 _ _ _ _ _ (c .before .before .before .before .before .before .before .before .member .ensures) _ _ _ (c .before .before .n .given .1) (search needs)
+bullet-enclose-requires t c κs = bullet-encloses _ _ _ _ 0 _ _ _ _ _ (c .before .before .before .before .before .before .before .before .before .before .member .ensures .0) _ _ _ (c .before .before .n .given .1) (search needs)
 
 bullet-same-length : (t : ℕ) → bullet-lts.Need-same-length (bullet-claims t) (bullet-at t) bullet.Post
 bullet-same-length t c = search needs
@@ -292,17 +306,23 @@ bullet-same-length t c = search needs
 bullet-same-length-2 : (t : ℕ) → bullet-lts.Need-same-length-2 (bullet-claims t) (bullet-at t) bullet.Post
 bullet-same-length-2 t c = search needs
 
-bullet-returns : (t : ℕ) → bullet-lts.Need-returns (bullet-claims t) (bullet-at t) bullet.Post
-bullet-returns t c = search bullet-laws
-
 bullet-same-length-3 : (t : ℕ) → bullet-lts.Need-same-length-3 (bullet-claims t) (bullet-at t) bullet.Post
 bullet-same-length-3 t c = search needs
+
+bullet-returns : (t : ℕ) → bullet-lts.Need-returns (bullet-claims t) (bullet-at t) bullet.Post
+bullet-returns t c = (search bullet-laws, search item-noting)
 
 bullet-same-length-4 : (t : ℕ) → bullet-lts.Need-same-length-4 (bullet-claims t) (bullet-at t) bullet.Post
 bullet-same-length-4 t c = search needs
 
+bullet-same-length-5 : (t : ℕ) → bullet-lts.Need-same-length-5 (bullet-claims t) (bullet-at t) bullet.Post
+bullet-same-length-5 t c = search needs
+
+bullet-same-length-6 : (t : ℕ) → bullet-lts.Need-same-length-6 (bullet-claims t) (bullet-at t) bullet.Post
+bullet-same-length-6 t c = search needs
+
 bullet-returns-2 : (t : ℕ) → bullet-lts.Need-returns-2 (bullet-claims t) (bullet-at t) bullet.Post
-bullet-returns-2 t c = search bullet-laws
+bullet-returns-2 t c = (search bullet-laws, search item-noting)
 
 item-opener-requires : (t : ℕ) → item-lts.Need-opener-requires (item-claims t) (item-at t) item.Post
 item-opener-requires t c κs = search item-laws
@@ -316,8 +336,11 @@ item-same-length t c = search needs
 item-same-length-2 : (t : ℕ) → item-lts.Need-same-length-2 (item-claims t) (item-at t) item.Post
 item-same-length-2 t c = search needs
 
+item-same-length-3 : (t : ℕ) → item-lts.Need-same-length-3 (item-claims t) (item-at t) item.Post
+item-same-length-3 t c = search needs
+
 item-returns : (t : ℕ) → item-lts.Need-returns (item-claims t) (item-at t) item.Post
-item-returns t c = rw (c .anew .ensures) (search item-laws)
+item-returns t c = rw (c .anew .ensures) (search item-laws, search item-noting)
 
 item-starts-requires : (t : ℕ) → item-lts.Need-starts-requires (item-claims t) (item-at t) item.Post
 item-starts-requires t c κs = search item-laws
@@ -352,14 +375,8 @@ item-opener-requires-2 t c κs = search item-laws
 item-kept-requires : (t : ℕ) → item-lts.Need-kept-requires (item-claims t) (item-at t) item.Post
 item-kept-requires t c κs = search needs
 
-item-same-length-3 : (t : ℕ) → item-lts.Need-same-length-3 (item-claims t) (item-at t) item.Post
-item-same-length-3 t c = search needs
-
 item-same-length-4 : (t : ℕ) → item-lts.Need-same-length-4 (item-claims t) (item-at t) item.Post
 item-same-length-4 t c = search needs
-
-item-returns-2 : (t : ℕ) → item-lts.Need-returns-2 (item-claims t) (item-at t) item.Post
-item-returns-2 t c = search item-laws
 
 item-same-length-5 : (t : ℕ) → item-lts.Need-same-length-5 (item-claims t) (item-at t) item.Post
 item-same-length-5 t c = search needs
@@ -367,8 +384,8 @@ item-same-length-5 t c = search needs
 item-same-length-6 : (t : ℕ) → item-lts.Need-same-length-6 (item-claims t) (item-at t) item.Post
 item-same-length-6 t c = search needs
 
-item-returns-3 : (t : ℕ) → item-lts.Need-returns-3 (item-claims t) (item-at t) item.Post
-item-returns-3 t c = rw (c .anew2 .ensures) (search item-laws)
+item-returns-2 : (t : ℕ) → item-lts.Need-returns-2 (item-claims t) (item-at t) item.Post
+item-returns-2 t c = (search item-laws, search item-noting)
 
 item-same-length-7 : (t : ℕ) → item-lts.Need-same-length-7 (item-claims t) (item-at t) item.Post
 item-same-length-7 t c = search needs
@@ -376,8 +393,23 @@ item-same-length-7 t c = search needs
 item-same-length-8 : (t : ℕ) → item-lts.Need-same-length-8 (item-claims t) (item-at t) item.Post
 item-same-length-8 t c = search needs
 
+item-same-length-9 : (t : ℕ) → item-lts.Need-same-length-9 (item-claims t) (item-at t) item.Post
+item-same-length-9 t c = search needs
+
+item-returns-3 : (t : ℕ) → item-lts.Need-returns-3 (item-claims t) (item-at t) item.Post
+item-returns-3 t c = rw (c .anew2 .ensures) (search item-laws, search item-noting)
+
+item-same-length-10 : (t : ℕ) → item-lts.Need-same-length-10 (item-claims t) (item-at t) item.Post
+item-same-length-10 t c = search needs
+
+item-same-length-11 : (t : ℕ) → item-lts.Need-same-length-11 (item-claims t) (item-at t) item.Post
+item-same-length-11 t c = search needs
+
+item-same-length-12 : (t : ℕ) → item-lts.Need-same-length-12 (item-claims t) (item-at t) item.Post
+item-same-length-12 t c = search needs
+
 item-returns-4 : (t : ℕ) → item-lts.Need-returns-4 (item-claims t) (item-at t) item.Post
-item-returns-4 t c = search item-laws
+item-returns-4 t c = (search item-laws, search item-noting)
 
 member-property-requires : (t : ℕ) → member-lts.Need-property-requires (member-claims t) (member-at t) member.Post
 member-property-requires t c κs = search member-laws
@@ -388,8 +420,11 @@ member-same-length t c = search needs
 member-same-length-2 : (t : ℕ) → member-lts.Need-same-length-2 (member-claims t) (member-at t) member.Post
 member-same-length-2 t c = search needs
 
+member-same-length-3 : (t : ℕ) → member-lts.Need-same-length-3 (member-claims t) (member-at t) member.Post
+member-same-length-3 t c = search needs
+
 member-returns : (t : ℕ) → member-lts.Need-returns (member-claims t) (member-at t) member.Post
-member-returns t c = search member-laws
+member-returns t c = (search member-laws, search member-noting)
 
 member-pass-requires : (t : ℕ) → member-lts.Need-pass-requires (member-claims t) (member-at t) member.Post
 member-pass-requires t c κs = search member-laws
@@ -407,16 +442,19 @@ member-item-requires : (t : ℕ) → member-lts.Need-item-requires (member-claim
 member-item-requires t c κs = (search needs, (search member-laws, search needs))
 
 member-returns-2 : (t : ℕ) → member-lts.Need-returns-2 (member-claims t) (member-at t) member.Post
-member-returns-2 t c = search member-laws
-
-member-same-length-3 : (t : ℕ) → member-lts.Need-same-length-3 (member-claims t) (member-at t) member.Post
-member-same-length-3 t c = search needs
+member-returns-2 t c = (search member-laws, search member-noting)
 
 member-same-length-4 : (t : ℕ) → member-lts.Need-same-length-4 (member-claims t) (member-at t) member.Post
 member-same-length-4 t c = search needs
 
+member-same-length-5 : (t : ℕ) → member-lts.Need-same-length-5 (member-claims t) (member-at t) member.Post
+member-same-length-5 t c = search needs
+
+member-same-length-6 : (t : ℕ) → member-lts.Need-same-length-6 (member-claims t) (member-at t) member.Post
+member-same-length-6 t c = search needs
+
 member-returns-3 : (t : ℕ) → member-lts.Need-returns-3 (member-claims t) (member-at t) member.Post
-member-returns-3 t c = search member-laws
+member-returns-3 t c = (search member-laws, search member-noting)
 
 nested-indent-requires : (t : ℕ) → nested-lts.Need-indent-requires (nested-claims t) (nested-at t) nested.Post
 nested-indent-requires t c κs = search needs
@@ -428,7 +466,7 @@ nested-moved-requires : (t : ℕ) → nested-lts.Need-moved-requires (nested-cla
 nested-moved-requires t c κs = search needs
 
 nested-returns : (t : ℕ) → nested-lts.Need-returns (nested-claims t) (nested-at t) nested.Post
-nested-returns t c = search nested-laws
+nested-returns t c = (search nested-laws, search nested-noting)
 
 nested-nested-line-requires : (t : ℕ) → nested-lts.Need-nested-line-requires (nested-claims t) (nested-at t) nested.Post
 nested-nested-line-requires t c κs = search nested-laws
@@ -440,7 +478,7 @@ nested-same-length-2 : (t : ℕ) → nested-lts.Need-same-length-2 (nested-claim
 nested-same-length-2 t c = search needs
 
 nested-returns-2 : (t : ℕ) → nested-lts.Need-returns-2 (nested-claims t) (nested-at t) nested.Post
-nested-returns-2 t c = search nested-laws
+nested-returns-2 t c = (search nested-laws, search nested-noting)
 
 nested-starts-requires : (t : ℕ) → nested-lts.Need-starts-requires (nested-claims t) (nested-at t) nested.Post
 nested-starts-requires t c κs = search nested-laws
@@ -481,17 +519,14 @@ nested-same-length-3 t c = search needs
 nested-same-length-4 : (t : ℕ) → nested-lts.Need-same-length-4 (nested-claims t) (nested-at t) nested.Post
 nested-same-length-4 t c = search needs
 
-nested-returns-3 : (t : ℕ) → nested-lts.Need-returns-3 (nested-claims t) (nested-at t) nested.Post
-nested-returns-3 t c = search nested-laws
-
 nested-same-length-5 : (t : ℕ) → nested-lts.Need-same-length-5 (nested-claims t) (nested-at t) nested.Post
 nested-same-length-5 t c = search needs
 
+nested-returns-3 : (t : ℕ) → nested-lts.Need-returns-3 (nested-claims t) (nested-at t) nested.Post
+nested-returns-3 t c = (search nested-laws, search nested-noting)
+
 nested-same-length-6 : (t : ℕ) → nested-lts.Need-same-length-6 (nested-claims t) (nested-at t) nested.Post
 nested-same-length-6 t c = search needs
-
-nested-returns-4 : (t : ℕ) → nested-lts.Need-returns-4 (nested-claims t) (nested-at t) nested.Post
-nested-returns-4 t c = rw (c .anew .ensures) (search nested-laws)
 
 nested-same-length-7 : (t : ℕ) → nested-lts.Need-same-length-7 (nested-claims t) (nested-at t) nested.Post
 nested-same-length-7 t c = search needs
@@ -499,8 +534,17 @@ nested-same-length-7 t c = search needs
 nested-same-length-8 : (t : ℕ) → nested-lts.Need-same-length-8 (nested-claims t) (nested-at t) nested.Post
 nested-same-length-8 t c = search needs
 
+nested-returns-4 : (t : ℕ) → nested-lts.Need-returns-4 (nested-claims t) (nested-at t) nested.Post
+nested-returns-4 t c = rw (c .anew .ensures) (search nested-laws, search nested-noting)
+
+nested-same-length-9 : (t : ℕ) → nested-lts.Need-same-length-9 (nested-claims t) (nested-at t) nested.Post
+nested-same-length-9 t c = search needs
+
+nested-same-length-10 : (t : ℕ) → nested-lts.Need-same-length-10 (nested-claims t) (nested-at t) nested.Post
+nested-same-length-10 t c = search needs
+
 nested-returns-5 : (t : ℕ) → nested-lts.Need-returns-5 (nested-claims t) (nested-at t) nested.Post
-nested-returns-5 t c = search nested-laws
+nested-returns-5 t c = (search nested-laws, search nested-noting)
 
 property-key-row-requires : (t : ℕ) → property-lts.Need-key-row-requires (property-claims t) (property-at t) property.Post
 property-key-row-requires t c κs = search needs
@@ -520,8 +564,11 @@ property-enum-known-p-2 t c = search property-laws
 property-enum-known-m : (t : ℕ) → property-lts.Need-enum-known-m (property-claims t) (property-at t) property.Post
 property-enum-known-m t c = search property-laws
 
+property-note-requires : (t : ℕ) → property-lts.Need-note-requires (property-claims t) (property-at t) property.Post
+property-note-requires t c κs = search needs
+
 property-behind-requires : (t : ℕ) → property-lts.Need-behind-requires (property-claims t) (property-at t) property.Post
-property-behind-requires t c κs = (search needs, (search (property-ready, needs), search needs))
+property-behind-requires t c κs = (search needs, (property-ready _ _ _ _ _ _ _ _ (c .before .before .before .before .before .before .before .before .before .before .before .before .before .before .before .before .before .before .key-row .ensures) _ _ (c .before .before .before .before .before .before .before .before .before .before .before .before .n .given .1) (c .before .before .before .before .before .before .before .before .before .before .take .ensures) _ (c .before .before .before .before .before .before .before .before .m .given .1) (c .before .before .before .before .before .before .before .before .before .before .before .before .before .before .before .before .before .before .before .before .before .before .before .before .before .pre .1 .0), c .before .before .before .before .before .before .before .before .before .before .before .before .before .before .before .before .before .before .before .before .before .before .before .before .before .pre .1 .1))
 
 property-same-length : (t : ℕ) → property-lts.Need-same-length (property-claims t) (property-at t) property.Post
 property-same-length t c = search needs
@@ -530,7 +577,7 @@ property-same-length-2 : (t : ℕ) → property-lts.Need-same-length-2 (property
 property-same-length-2 t c = search needs
 
 property-returns : (t : ℕ) → property-lts.Need-returns (property-claims t) (property-at t) property.Post
-property-returns t c = search property-laws
+property-returns t c = (search property-laws, search property-noting)
 
 property-same-length-3 : (t : ℕ) → property-lts.Need-same-length-3 (property-claims t) (property-at t) property.Post
 property-same-length-3 t c = search needs
@@ -539,7 +586,7 @@ property-same-length-4 : (t : ℕ) → property-lts.Need-same-length-4 (property
 property-same-length-4 t c = search needs
 
 property-returns-2 : (t : ℕ) → property-lts.Need-returns-2 (property-claims t) (property-at t) property.Post
-property-returns-2 t c = search property-laws
+property-returns-2 t c = (search property-laws, search property-noting)
 
 property-same-length-5 : (t : ℕ) → property-lts.Need-same-length-5 (property-claims t) (property-at t) property.Post
 property-same-length-5 t c = search needs
@@ -547,8 +594,11 @@ property-same-length-5 t c = search needs
 property-same-length-6 : (t : ℕ) → property-lts.Need-same-length-6 (property-claims t) (property-at t) property.Post
 property-same-length-6 t c = search needs
 
+property-same-length-7 : (t : ℕ) → property-lts.Need-same-length-7 (property-claims t) (property-at t) property.Post
+property-same-length-7 t c = search needs
+
 property-returns-3 : (t : ℕ) → property-lts.Need-returns-3 (property-claims t) (property-at t) property.Post
-property-returns-3 t c = search property-laws
+property-returns-3 t c = (search property-laws, search property-noting)
 
 pub +behind+block+bullet+item+member+nested+property-spec : {M : Type 1} → statement M
 +behind+block+bullet+item+member+nested+property-spec =
@@ -574,6 +624,7 @@ pub +behind+block+bullet+item+member+nested+property-spec : {M : Type 1} → sta
     (behind-anew-requires t)
     (behind-same-length t)
     (behind-same-length-2 t)
+    (behind-same-length-3 t)
     (behind-returns t)
     (behind-enum-told t)
     (behind-line-end-requires t)
@@ -584,8 +635,9 @@ pub +behind+block+bullet+item+member+nested+property-spec : {M : Type 1} → sta
     (behind-nested-requires t)
     (behind-anew-requires-2 t)
     (behind-returns-2 t)
-    (behind-same-length-3 t)
     (behind-same-length-4 t)
+    (behind-same-length-5 t)
+    (behind-same-length-6 t)
     (behind-returns-3 t))
     (λ t. block-lts.spec (
       member-below t,
@@ -601,7 +653,7 @@ pub +behind+block+bullet+item+member+nested+property-spec : {M : Type 1} → sta
     block.Post
     block-Inv-loop
     block-μ-loop
-    (block-add-t19 t)
+    (block-add-t20 t)
     (block-loop-holds t)
     (block-cast-member t)
     (block-member-requires t)
@@ -609,6 +661,7 @@ pub +behind+block+bullet+item+member+nested+property-spec : {M : Type 1} → sta
     (block-greater-requires t)
     (block-same-length t)
     (block-same-length-2 t)
+    (block-same-length-3 t)
     (block-returns t)
     (block-enum-known-n t)
     (block-greater-requires-2 t)
@@ -617,8 +670,9 @@ pub +behind+block+bullet+item+member+nested+property-spec : {M : Type 1} → sta
     (block-enum-known-p-2 t)
     (block-enclose-requires t)
     (block-greater-requires-3 t)
-    (block-same-length-3 t)
     (block-same-length-4 t)
+    (block-same-length-5 t)
+    (block-same-length-6 t)
     (block-returns-2 t)
     (block-enum-known-m t)
     (block-loop-less t)
@@ -627,7 +681,7 @@ pub +behind+block+bullet+item+member+nested+property-spec : {M : Type 1} → sta
     (member-below t, member.Post, enclose-reads.Asked, enclose-reads.Learnt)
     (bullet-at t)
     bullet.Post
-    (bullet-add-t14 t)
+    (bullet-add-t15 t)
     (bullet-cast-member t)
     (bullet-member-requires t)
     (bullet-enum-known-p t)
@@ -635,9 +689,11 @@ pub +behind+block+bullet+item+member+nested+property-spec : {M : Type 1} → sta
     (bullet-enclose-requires t)
     (bullet-same-length t)
     (bullet-same-length-2 t)
-    (bullet-returns t)
     (bullet-same-length-3 t)
+    (bullet-returns t)
     (bullet-same-length-4 t)
+    (bullet-same-length-5 t)
+    (bullet-same-length-6 t)
     (bullet-returns-2 t))
     (λ t. item-lts.spec (
       opener-reads.Asked,
@@ -659,6 +715,7 @@ pub +behind+block+bullet+item+member+nested+property-spec : {M : Type 1} → sta
     (item-anew-requires t)
     (item-same-length t)
     (item-same-length-2 t)
+    (item-same-length-3 t)
     (item-returns t)
     (item-starts-requires t)
     (item-enum-told t)
@@ -671,14 +728,17 @@ pub +behind+block+bullet+item+member+nested+property-spec : {M : Type 1} → sta
     (item-enum-known-p t)
     (item-opener-requires-2 t)
     (item-kept-requires t)
-    (item-same-length-3 t)
     (item-same-length-4 t)
-    (item-returns-2 t)
     (item-same-length-5 t)
     (item-same-length-6 t)
-    (item-returns-3 t)
+    (item-returns-2 t)
     (item-same-length-7 t)
     (item-same-length-8 t)
+    (item-same-length-9 t)
+    (item-returns-3 t)
+    (item-same-length-10 t)
+    (item-same-length-11 t)
+    (item-same-length-12 t)
     (item-returns-4 t))
     (λ t. member-lts.spec (
       property-below t,
@@ -693,6 +753,7 @@ pub +behind+block+bullet+item+member+nested+property-spec : {M : Type 1} → sta
     (member-property-requires t)
     (member-same-length t)
     (member-same-length-2 t)
+    (member-same-length-3 t)
     (member-returns t)
     (member-pass-requires t)
     (member-enum-known-p t)
@@ -700,8 +761,9 @@ pub +behind+block+bullet+item+member+nested+property-spec : {M : Type 1} → sta
     (member-add-item t)
     (member-item-requires t)
     (member-returns-2 t)
-    (member-same-length-3 t)
     (member-same-length-4 t)
+    (member-same-length-5 t)
+    (member-same-length-6 t)
     (member-returns-3 t))
     (λ t. nested-lts.spec (
       indent-reads.Asked,
@@ -742,18 +804,22 @@ pub +behind+block+bullet+item+member+nested+property-spec : {M : Type 1} → sta
     (nested-kept-requires t)
     (nested-same-length-3 t)
     (nested-same-length-4 t)
-    (nested-returns-3 t)
     (nested-same-length-5 t)
+    (nested-returns-3 t)
     (nested-same-length-6 t)
-    (nested-returns-4 t)
     (nested-same-length-7 t)
     (nested-same-length-8 t)
+    (nested-returns-4 t)
+    (nested-same-length-9 t)
+    (nested-same-length-10 t)
     (nested-returns-5 t))
     λ t. property-lts.spec (
       key-row-reads.Asked,
       key-row-reads.Learnt,
       take-reads.Asked,
       take-reads.Learnt,
+      note-reads.Asked,
+      note-reads.Learnt,
       behind-below t,
       behind.Post,
     )
@@ -765,6 +831,7 @@ pub +behind+block+bullet+item+member+nested+property-spec : {M : Type 1} → sta
     (property-take-requires t)
     (property-enum-known-p-2 t)
     (property-enum-known-m t)
+    (property-note-requires t)
     (property-behind-requires t)
     (property-same-length t)
     (property-same-length-2 t)
@@ -774,4 +841,5 @@ pub +behind+block+bullet+item+member+nested+property-spec : {M : Type 1} → sta
     (property-returns-2 t)
     (property-same-length-5 t)
     (property-same-length-6 t)
+    (property-same-length-7 t)
     (property-returns-3 t)

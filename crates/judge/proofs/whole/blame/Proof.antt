@@ -7,6 +7,9 @@ use Rattle.judge.proofs.whole.blame.Tie as tie
 returns : tie.Need-returns
 returns c = (search blaming, search blaming)
 
+slice-aggregate-check : tie.Need-slice-aggregate-check
+slice-aggregate-check c = search needs
+
 add-check : tie.Need-add-check
 add-check c = search needs
 
@@ -63,6 +66,7 @@ blame-spec =
     tie.close
     (tie.spec
     returns
+    slice-aggregate-check
     add-check
     check-requires
     enum-told

@@ -25,11 +25,14 @@ same-length c = search needs
 same-length-2 : tie.Need-same-length-2
 same-length-2 c = search needs
 
+same-length-3 : tie.Need-same-length-3
+same-length-3 c = search needs
+
 returns : tie.Need-returns
 returns c =
-    let s = c .before .before .before .before .before .before .before .before .before .before .args in
-    let p = c .before .before .before .before .pass in
-    (p .ensures .0, (empty-kept (s .rows .now) (p .last .1 .0) (p .kept .1 .0), empty-kept (s .text .now) (p .last .1 .1 .0) (p .kept .1 .1 .0)))
+    let s = c .before .before .before .before .before .before .before .before .before .before .before .before .before .before .args in
+    let p = c .before .before .before .before .before .before .pass in
+    (p .ensures .0, ((empty-kept (s .rows .now) (p .last .1 .0) (p .kept .1 .0), empty-kept (s .text .now) (p .last .1 .1 .0) (p .kept .1 .1 .0)), p .ensures .1 .1))
 
 pub check-spec : {M : Type 1} → statement M
 check-spec =
@@ -42,4 +45,5 @@ check-spec =
     pass-requires
     same-length
     same-length-2
+    same-length-3
     returns)

@@ -1,5 +1,6 @@
 -- `root` meets its contract: how it begins decides.
 use Rattle.judge.proofs.Documents.{rooting}
+use Rattle.judge.proofs.NotingWhole.{root-noting}
 use borrow.Author.Needs.{needs}
 use Rattle.judge.proofs.whole.root.Statement.{statement}
 use Rattle.judge.proofs.whole.root.Tie as tie
@@ -13,8 +14,11 @@ same-length c = search needs
 same-length-2 : tie.Need-same-length-2
 same-length-2 c = search needs
 
+same-length-3 : tie.Need-same-length-3
+same-length-3 c = search needs
+
 returns : tie.Need-returns
-returns c = search rooting
+returns c = (search rooting, search root-noting)
 
 starts-requires : tie.Need-starts-requires
 starts-requires c κs = search needs
@@ -46,14 +50,8 @@ opener-requires-2 c κs = search needs
 kept-requires : tie.Need-kept-requires
 kept-requires c κs = search needs
 
-same-length-3 : tie.Need-same-length-3
-same-length-3 c = search needs
-
 same-length-4 : tie.Need-same-length-4
 same-length-4 c = search needs
-
-returns-2 : tie.Need-returns-2
-returns-2 c = search rooting
 
 same-length-5 : tie.Need-same-length-5
 same-length-5 c = search needs
@@ -61,8 +59,8 @@ same-length-5 c = search needs
 same-length-6 : tie.Need-same-length-6
 same-length-6 c = search needs
 
-returns-3 : tie.Need-returns-3
-returns-3 c = search rooting
+returns-2 : tie.Need-returns-2
+returns-2 c = (search rooting, search root-noting)
 
 same-length-7 : tie.Need-same-length-7
 same-length-7 c = search needs
@@ -70,8 +68,23 @@ same-length-7 c = search needs
 same-length-8 : tie.Need-same-length-8
 same-length-8 c = search needs
 
+same-length-9 : tie.Need-same-length-9
+same-length-9 c = search needs
+
+returns-3 : tie.Need-returns-3
+returns-3 c = (search rooting, search root-noting)
+
+same-length-10 : tie.Need-same-length-10
+same-length-10 c = search needs
+
+same-length-11 : tie.Need-same-length-11
+same-length-11 c = search needs
+
+same-length-12 : tie.Need-same-length-12
+same-length-12 c = search needs
+
 returns-4 : tie.Need-returns-4
-returns-4 c = search rooting
+returns-4 c = (search rooting, search root-noting)
 
 pub root-spec : {M : Type 1} → statement M
 root-spec =
@@ -80,6 +93,7 @@ root-spec =
     opener-requires
     same-length
     same-length-2
+    same-length-3
     returns
     starts-requires
     enum-told
@@ -91,12 +105,15 @@ root-spec =
     enum-known-p
     opener-requires-2
     kept-requires
-    same-length-3
     same-length-4
-    returns-2
     same-length-5
     same-length-6
-    returns-3
+    returns-2
     same-length-7
     same-length-8
+    same-length-9
+    returns-3
+    same-length-10
+    same-length-11
+    same-length-12
     returns-4)

@@ -1,10 +1,9 @@
--- `among_all` starts with chains that have no key in them. Assumes nothing.
+-- `among_most` starts with chains that have no key in them. Assumes nothing.
 use mathlib.Core.Path.{refl}
 use borrow.Author.Needs.{needs}
-use Rattle.repeats.specs.Later
-use Rattle.repeats.proofs.among_all.Statement.{statement}
-use Rattle.repeats.proofs.among_all.Tie as tie
-use Rattle.language.specs.Answered.{limit}
+use Rattle.repeats.specs.Turns
+use Rattle.repeats.proofs.among_most.Statement.{statement}
+use Rattle.repeats.proofs.among_most.Tie as tie
 
 slice-aggregate-repeated : tie.Need-slice-aggregate-repeated
 slice-aggregate-repeated c = search needs
@@ -15,12 +14,12 @@ slice-aggregate-repeated-2 c = search needs
 repeated-requires : tie.Need-repeated-requires
 repeated-requires c κs =
     let s = c .before .before .before .before in
-    Later.starting (s .args .rows .now) (s .args .text .now) 4096 limit (s .args .n) refl (s .pre .few) (s .pre)
+    Turns.starting (s .args .rows .now) (s .args .text .now) 4096 2048 (s .args .n) refl (s .pre .1) (s .pre .0)
 
 returns : tie.Need-returns
 returns c = search needs
 
-pub among-all-spec : {M : Type 1} → statement M
-among-all-spec =
+pub among-most-spec : {M : Type 1} → statement M
+among-most-spec =
     tie.close
     (tie.spec slice-aggregate-repeated slice-aggregate-repeated-2 repeated-requires returns)

@@ -1,0 +1,128 @@
+-- READERS THAT GIVE NO KEY, and the reader of one: what their answers note. Assumes nothing.
+use mathlib.Core.Path.{_≡_, refl, sym, ap, subst, _∙_}
+use mathlib.Core.List.{List, [], _∷_}
+use mathlib.Core.Bool.{Bool, true, false}
+use Prim.Native.Nat.{ℕ, _≤_, _<_}
+use native.Mathlib.Omega.{arith}
+use lib.ListN.{drop}
+use Rattle.language.specs.Kind.{KEY}
+use Rattle.language.specs.Tree.{Tree, leaf, forest}
+use Rattle.exact.specs.Class.{pick}
+use Rattle.exact.specs.Out.{Out, Reader, raise, bind, ok, soft, bad, Tamed, t-ok, Moves, forward, rest-of, Firm}
+use Rattle.exact.specs.Comb.{altR}
+use Rattle.exact.specs.Lines.{reached}
+use Rattle.strings.specs.Spans.{spannedR}
+use Rattle.strings.specs.Keys.{nameR, keyR, key-ll}
+use Rattle.notes.specs.Flat.{flat, flats, flats-one}
+use Rattle.notes.specs.Noted.{noted, noteds}
+use Rattle.notes.specs.Lie.{KeyAt, keys-none, keys-more}
+use Rattle.notes.specs.Notes.{Gives, gives-ok, gives-soft, gives-none, gives-reached, Kept, kept-none, Notes, one, notes-known}
+
+-- ---- every value that an answer gives is such a one
+
+pub record Every {X : Type 0} (P : X → Type 0) (o : Out X) : Type 0 where
+  pub holds : (v : X) (a : ℕ) → Gives o v a → P v
+
+module _ {X : Type 0} {P : X → Type 0} where
+  pub every-ok : {v : X} {a : ℕ} {s : List ℕ} → P v → Every P (ok v a s)
+  every-ok {v} {a} {s} h = record { holds = go }
+    where
+      go : (w : X) (b : ℕ) → Gives (ok v a s) w b → P w
+      go w b gives-ok = h
+
+  pub every-bad : {p : ℕ} → Every P (bad p)
+  every-bad = record { holds = λ v a x. absurd (gives-none x) }
+
+  pub every-raise : (p : ℕ) (o : Out X) → Every P o → Every P (raise p o)
+  every-raise p (ok v a s) h = record { holds = go }
+    where
+      go : (w : X) (b : ℕ) → Gives (soft p v a s) w b → P w
+      go w b gives-soft = h .holds v a gives-ok
+  every-raise p (soft q v a s) h = record { holds = go }
+    where
+      go : (w : X) (b : ℕ) → Gives (raise p (soft q v a s)) w b → P w
+      go w b gives-soft = h .holds v a gives-soft
+  every-raise p (bad q) h = every-bad
+
+  pub every-pick : (y : Bool) {o o′ : Out X} → Every P o → Every P o′ → Every P (pick y o o′)
+  every-pick true x z = x
+  every-pick false x z = z
+
+  pub every-alt : (f : ℕ → Bool) (r q : Reader X) (at : ℕ) (s : List ℕ) → ((at : ℕ) (s : List ℕ) → Every P (r at s)) → ((at : ℕ) (s : List ℕ) → Every P (q at s)) → Every P (altR f r q at s)
+  every-alt f r q at [] x z = z at []
+  every-alt f r q at (b ∷ s) x z = every-pick (f b) (x at (b ∷ s)) (z at (b ∷ s))
+
+-- by what comes last
+pub every-bind : {X Y : Type 0} {P : Y → Type 0} (o : Out X) (k : X → Reader Y) → ((v : X) (a : ℕ) (s : List ℕ) → Every P (k v a s)) → Every P (bind o k)
+every-bind (ok v a s) k h = h v a s
+every-bind (soft p v a s) k h = every-raise p (k v a s) (h v a s)
+every-bind (bad p) k h = every-bad
+
+-- .. or by what comes first too
+pub every-with : {X Y : Type 0} {P : X → Type 0} {Q : Y → Type 0} (o : Out X) (k : X → Reader Y) → Every P o → ((v : X) → P v → (a : ℕ) (s : List ℕ) → Every Q (k v a s)) → Every Q (bind o k)
+every-with (ok v a s) k x h = h v (x .holds v a gives-ok) a s
+every-with (soft p v a s) k x h = every-raise p (k v a s) (h v (x .holds v a gives-soft) a s)
+every-with (bad p) k x h = every-bad
+
+-- ---- a tree with no key in it
+
+pub record Bare (t : Tree) : Type 0 where
+  pub none : (r p : ℕ) → flat r p t ≡ []
+
+pub spanned-bare : (kind : ℕ) (r : Reader (List ℕ)) (at : ℕ) (s : List ℕ) → ((a e : ℕ) (w : List ℕ) → Bare (leaf kind a e w)) → Every Bare (spannedR kind r at s)
+unfolding spannedR
+spanned-bare kind r at s h = every-bind (r at s) _ (λ w e t. every-ok (h at e w))
+
+module _ {doc : List ℕ} {at row parent : ℕ} {o : Out Tree} {S : List ℕ} where
+  pub notes-bare : Every Bare o → (far : ℕ) (w : Tree) (b : ℕ) (s : List ℕ) → o ≡ reached far w b s → at ≤ b → Notes one doc at row parent o S S
+  notes-bare h far w b s e l =
+      let z = h .holds w b (subst (λ (u : Out Tree). Gives u w b) (sym e) (gives-reached far w b s)) in
+      notes-known far w b s e (rw (flats-one row parent w, z .none row parent) (kept-none doc at b S l))
+
+-- ---- the reader of a key
+
+pub data KeyIs (doc : List ℕ) (at : ℕ) : Type 0 where
+  key-read : (m : ℕ) (s : List ℕ) → keyR at (drop at doc) ≡ ok (leaf KEY at m s) m (drop m doc) → at < m → KeyIs doc at
+  key-not : (p : ℕ) → keyR at (drop at doc) ≡ bad p → KeyIs doc at
+
+tamed-ok : {X : Type 0} {d at : ℕ} {s : List ℕ} {v : X} {a : ℕ} {t : List ℕ} → Tamed d at s (ok v a t) → Moves d at s a t
+tamed-ok (t-ok m) = m
+
+firm-soft : {X : Type 0} {p : ℕ} {v : X} {a : ℕ} {t : List ℕ} → Firm (soft p v a t) → ⊥
+firm-soft x = elim x [ ]
+
+pub key-is : (doc : List ℕ) (at : ℕ) → KeyIs doc at
+unfolding keyR spannedR
+key-is doc at = go (nameR at (drop at doc)) refl
+  where
+    go : (o : Out (List ℕ)) → nameR at (drop at doc) ≡ o → KeyIs doc at
+    go (ok s m t) e =
+        let k : keyR at (drop at doc) ≡ ok (leaf KEY at m s) m t = ap (λ (u : Out (List ℕ)). bind u (λ s e. ok (leaf KEY at e s) e)) e in
+        let v = tamed-ok (subst (Tamed 1 at (drop at doc)) k (key-ll .exact .moves .tame at (drop at doc))) in
+        key-read m s (k ∙ ap (ok (leaf KEY at m s) m) (rest-of doc v)) (omega (arith, forward v))
+    go (soft p s m t) e =
+        let k : keyR at (drop at doc) ≡ soft p (leaf KEY at m s) m t = ap (λ (u : Out (List ℕ)). bind u (λ s e. ok (leaf KEY at e s) e)) e in
+        absurd (firm-soft (subst Firm k (key-ll .firm at (drop at doc))))
+    go (bad p) e = key-not p (ap (λ (u : Out (List ℕ)). bind u (λ s e. ok (leaf KEY at e s) e)) e)
+
+-- a key and what is behind it
+pub record Keyed {X : Type 0} (doc : List ℕ) (at : ℕ) (k : Tree → Reader X) (v : X) (a : ℕ) : Type 0 where
+  pub ends : ℕ
+  pub text : List ℕ
+  pub is : keyR at (drop at doc) ≡ ok (leaf KEY at ends text) ends (drop ends doc)
+  pub ahead : at < ends
+  pub behind : Gives (k (leaf KEY at ends text) ends (drop ends doc)) v a
+
+pub keyed : {X : Type 0} (doc : List ℕ) (at : ℕ) (k : Tree → Reader X) {v : X} {a : ℕ} → Gives (bind (keyR at (drop at doc)) k) v a → Keyed doc at k v a
+keyed {X} doc at k {v} {a} g = go (key-is doc at)
+  where
+    go : KeyIs doc at → Keyed doc at k v a
+    go (key-read m s e l) = record { ends = m; text = s; is = e; ahead = l; behind = subst (λ (u : Out Tree). Gives (bind u k) v a) e g }
+    go (key-not p e) = absurd (gives-none (subst (λ (u : Out Tree). Gives (bind u k) v a) e g))
+
+-- the key of a member is noted
+pub kept-key : {doc : List ℕ} {at m a : ℕ} (row parent : ℕ) (s : List ℕ) {S S' : List ℕ} → KeyAt doc at s m → m ≤ a → S' ≡ noted S parent at → Kept doc at (flats row parent (forest (leaf KEY at m s ∷ []))) a S S'
+unfolding flat noteds
+kept-key {at = at} {m} {a} row parent s k h e =
+    let z : at ≤ at = omega arith in
+    record { log = e; lie = keys-more {q = parent} z k (keys-none {a = m} {e = a} h) }

@@ -1,0 +1,83 @@
+-- THE LOG OF A DOCUMENT (`Log`), and what is told of it (`Told`): its keys stand at their places, and the first that has an earlier one is the first that the tree repeats. Assumes nothing.
+use mathlib.Core.Path.{_≡_, refl, sym, subst}
+use mathlib.Core.List.{List}
+use mathlib.Core.Logic.{_⊎_, inl, inr}
+use Prim.Native.Nat.{ℕ, _+_, _*_, _≤_, _<_}
+use native.Mathlib.Omega.{arith}
+use lib.ListN.{length, getD, replicate, length-replicate}
+use Rattle.language.specs.Tree.{Tree, count, size, Repeats}
+use Rattle.language.specs.Document.{Document}
+use Rattle.language.specs.Answered.{limit, deepest}
+use Rattle.spans.specs.Document.{few-rows}
+use Rattle.notes.specs.Flat.{Named, flat}
+use Rattle.notes.specs.Notes.{Kept}
+use Rattle.repeats.specs.declared.Repeat.{Repeat}
+use Rattle.repeats.specs.Flat.{Below, object}
+use Rattle.repeats.specs.Repeating.{repeats-twice, twice-repeats}
+use Rattle.repeats.specs.Later.{Names, names-map, Later}
+use Rattle.repeats.specs.Twice.{later-twice, twice-later-key}
+use Rattle.places.specs.Places.{placeKeys, Placed}
+use Rattle.places.specs.Words.{Counted, words-of}
+use Rattle.places.specs.Spots.{Low, lists-words, spots, spots-order}
+
+-- the keys of the document's tree are noted in a room of 8,193 words
+pub record Log (doc keys : List ℕ) : Type 0 where
+  pub tree : Tree
+  pub short : length doc ≤ limit
+  pub word : Document deepest doc tree
+  pub kept : Kept doc 0 (flat 0 0 tree) (length doc) (replicate 8193 0) keys
+  pub few : 4 * count (flat 0 0 tree) ≤ length doc
+
+-- "the smallest start of a later equal key" (01, Numbers of refusal), if the tree has one
+pub record Told (doc : List ℕ) (r : Repeat) : Type 0 where
+  pub tree : Tree
+  pub word : Document deepest doc tree
+  pub names : Names (λ p. Repeats p tree) r
+
+module _ (doc keys : List ℕ) (g : Log doc keys) where
+  abbrev ns : List Named
+  ns = flat 0 0 (g .tree)
+
+  counted : Counted (replicate 8193 0) 0 ns keys
+  counted = subst (Counted (replicate 8193 0) 0 ns) (sym (g .kept .log)) (words-of (replicate 8193 0) ns refl (length-replicate {A = ℕ} 8193 0) (omega (arith, g .few, g .short)))
+
+  low : Low ns
+  low q a s i = by (object 0 0 (g .tree) i)
+    where
+      by : (q ≡ 0) ⊎ Below 0 (size (g .tree)) q → q < 32768
+      by (inl h) = omega arith
+      by (inr h) = omega (arith, h .most, few-rows deepest doc (g .tree) (g .word), g .short)
+
+  abbrev n : ℕ
+  n = 0 + count ns
+
+  pub log-room : 0 < length keys
+  log-room = omega (arith, counted .long)
+
+  placed : Placed doc keys n
+  placed =
+      record {
+        short = g .short;
+        room = omega (arith, counted .long, g .few, g .short);
+        few = omega (arith, g .few, g .short);
+        key = λ i l. spots doc keys (g .short) n (length doc) 0 0 ns low (counted .words) (g .kept .lie) i (omega arith) l .key;
+        order = λ k i h l. spots-order doc keys (g .short) n (length doc) 0 0 ns low (counted .words) (g .kept .lie) k i (omega arith) h l;
+      }
+
+  pub log-placed : Placed doc keys (getD keys 0 0)
+  log-placed = subst (Placed doc keys) (sym (counted .count-is)) placed
+
+  pub log-told : (r : Repeat) → Names (Later (placeKeys doc keys) (getD keys 0 0)) r → Told doc r
+  log-told r x =
+      let l = lists-words doc keys (g .short) n (length doc) 0 0 ns low (counted .words) (g .kept .lie) in
+      let y : Names (Later (placeKeys doc keys) n) r = subst (λ (m : ℕ). Names (Later (placeKeys doc keys) m) r) (counted .count-is) x in
+      record {
+        tree = g .tree;
+        word = g .word;
+        names =
+            names-map
+            (λ p v. twice-repeats 0 0 (g .tree) (omega arith) (later-twice (placeKeys doc keys) n ns l p v))
+            (λ p v. twice-later-key (placeKeys doc keys) n ns l p (repeats-twice 0 0 (g .tree) v))
+            r
+            y;
+      }

@@ -1,0 +1,82 @@
+-- THE KEYS NOTED, BY NUMBER: for each the row of its object and its place, as its word has them, and its text, as it is read there. Assumes nothing.
+use mathlib.Core.Path.{_≡_, ap}
+use mathlib.Core.List.{List, []}
+use Prim.Native.Nat.{ℕ, _+_, _/_, _%_, _≤_, _<_}
+use native.Mathlib.Omega.{arith}
+use lib.ListN.{length, getD, drop}
+use Rattle.language.specs.Tree.{Tree, textOf}
+use Rattle.language.specs.Answered.{limit}
+use Rattle.exact.specs.Out.{Out, ok, soft, bad}
+use Rattle.strings.specs.Keys.{keyR}
+use Rattle.notes.specs.Lie.{KeyAt}
+use Rattle.repeats.specs.Numbering.{Numbering}
+
+abbrev pub objectAt : List ℕ → ℕ → ℕ
+objectAt keys i = getD keys (i + 1) 0 / 32768
+
+abbrev pub placeAt : List ℕ → ℕ → ℕ
+placeAt keys i = getD keys (i + 1) 0 % 32768
+
+-- the text of a tree that is read, and the place behind it
+abbrev pub textIn : Out Tree → List ℕ
+textIn (ok t m s) = textOf t
+textIn (soft p t m s) = textOf t
+textIn (bad p) = []
+
+abbrev pub endIn : Out Tree → ℕ
+endIn (ok t m s) = m
+endIn (soft p t m s) = m
+endIn (bad p) = p
+
+-- .. of the key at a place
+unfoldable pub spelled : List ℕ → ℕ → List ℕ
+spelled doc a = textIn (keyR a (drop a doc))
+
+unfoldable pub ends : List ℕ → ℕ → ℕ
+ends doc a = endIn (keyR a (drop a doc))
+
+module _ (doc : List ℕ) (t : Tree) (a m : ℕ) (u : List ℕ) (e : keyR a (drop a doc) ≡ ok t m u) where
+  pub spelled-is : spelled doc a ≡ textOf t
+  unfolding spelled
+  spelled-is = ap textIn e
+
+  pub ends-is : ends doc a ≡ m
+  unfolding ends
+  ends-is = ap endIn e
+
+module _ (doc : List ℕ) (a m : ℕ) (s : List ℕ) (k : KeyAt doc a s m) where
+  pub key-text : spelled doc a ≡ s
+  unfolding textOf
+  key-text = spelled-is doc _ a m _ (k .is)
+
+  pub key-end : ends doc a ≡ m
+  key-end = ends-is doc _ a m _ (k .is)
+
+  pub key-own : KeyAt doc a (spelled doc a) (ends doc a)
+  key-own = rw (key-text, key-end) k
+
+abbrev pub placeKeys : List ℕ → List ℕ → Numbering
+placeKeys doc keys =
+    record { Key = λ i. Unit; start = λ i. placeAt keys i; object = λ i. objectAt keys i; text = λ i. spelled doc (placeAt keys i) }
+
+-- as many keys as there are links for
+abbrev pub most-keys : ℕ
+most-keys = 8192
+
+-- n keys stand at their places, one behind another
+pub record Placed (doc keys : List ℕ) (n : ℕ) : Type 0 where
+  pub short : length doc ≤ limit
+  pub room : n < length keys
+  pub few : n ≤ most-keys
+  pub key : (i : ℕ) → i < n → KeyAt doc (placeAt keys i) (spelled doc (placeAt keys i)) (ends doc (placeAt keys i))
+  pub order : (k i : ℕ) → k < i → i < n → ends doc (placeAt keys k) ≤ placeAt keys i
+
+pub placed-first : {doc keys : List ℕ} (n i : ℕ) → Placed doc keys n → i < n → Placed doc keys (i + 1)
+placed-first n i x l =
+    record {
+      short = x .short;
+      room = omega (arith, x .room);
+      few = omega (arith, x .few);
+      key = λ j m. x .key j (omega arith);
+      order = λ k j h m. x .order k j h (omega arith);
+    }

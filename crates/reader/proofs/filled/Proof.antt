@@ -1,0 +1,78 @@
+-- `filled` answers as the log of the keys and the rooms lent allow, and reads the document into them.
+use borrow.Author.Needs.{needs}
+use Rattle.reader.specs.Lent.{filled-repeat, filled-rows, filled-bytes, filled-all}
+use Rattle.reader.proofs.filled.Statement.{statement}
+use Rattle.reader.proofs.filled.Tie as tie
+
+first-again-requires : tie.Need-first-again-requires
+first-again-requires c κs = search needs
+
+enum-known-p : tie.Need-enum-known-p
+enum-known-p c = search needs
+
+same-length : tie.Need-same-length
+same-length c = search needs
+
+returns : tie.Need-returns
+returns c = search (filled-repeat, needs)
+
+enum-told : tie.Need-enum-told
+enum-told c = search needs
+
+mul-if1 : tie.Need-mul-if1
+mul-if1 c = search needs
+
+same-length-2 : tie.Need-same-length-2
+same-length-2 c = search needs
+
+returns-2 : tie.Need-returns-2
+returns-2 c = search (filled-rows, needs)
+
+same-length-3 : tie.Need-same-length-3
+same-length-3 c = search needs
+
+returns-3 : tie.Need-returns-3
+returns-3 c = search (filled-bytes, needs)
+
+slice-relend-prefix-pass : tie.Need-slice-relend-prefix-pass
+slice-relend-prefix-pass c = search needs
+
+slice-aggregate-pass : tie.Need-slice-aggregate-pass
+slice-aggregate-pass c = search needs
+
+pass-requires : tie.Need-pass-requires
+pass-requires c κs = search needs
+
+same-length-4 : tie.Need-same-length-4
+same-length-4 c = search needs
+
+same-length-5 : tie.Need-same-length-5
+same-length-5 c = search needs
+
+same-length-6 : tie.Need-same-length-6
+same-length-6 c = search needs
+
+returns-4 : tie.Need-returns-4
+returns-4 c = search (filled-all, needs)
+
+pub filled-spec : {M : Type 1} → statement M
+filled-spec =
+    tie.close
+    (tie.spec
+    first-again-requires
+    enum-known-p
+    same-length
+    returns
+    enum-told
+    mul-if1
+    same-length-2
+    returns-2
+    same-length-3
+    returns-3
+    slice-relend-prefix-pass
+    slice-aggregate-pass
+    pass-requires
+    same-length-4
+    same-length-5
+    same-length-6
+    returns-4)

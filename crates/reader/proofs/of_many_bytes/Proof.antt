@@ -1,0 +1,63 @@
+-- `of_many_bytes` answers as the pass over the document says.
+use borrow.Author.Needs.{needs}
+use Rattle.reader.specs.Judged.{stopped-at, answer-stop-same, answer-same}
+use Rattle.reader.specs.Lent.{passes}
+use Rattle.reader.proofs.of_many_bytes.Statement.{statement}
+use Rattle.reader.proofs.of_many_bytes.Tie as tie
+
+slice-aggregate-check : tie.Need-slice-aggregate-check
+slice-aggregate-check c = search needs
+
+check-requires : tie.Need-check-requires
+check-requires c κs = search needs
+
+enum-known-p : tie.Need-enum-known-p
+enum-known-p c = search needs
+
+blame-requires : tie.Need-blame-requires
+blame-requires c κs = (search needs, search (stopped-at, needs))
+
+enum-known-c : tie.Need-enum-known-c
+enum-known-c c = search needs
+
+slice-aggregate-filled : tie.Need-slice-aggregate-filled
+slice-aggregate-filled c = search needs
+
+filled-requires : tie.Need-filled-requires
+filled-requires c κs = search (passes, needs)
+
+same-length : tie.Need-same-length
+same-length c = search needs
+
+same-length-2 : tie.Need-same-length-2
+same-length-2 c = search needs
+
+returns : tie.Need-returns
+returns c = search (answer-stop-same, needs)
+
+same-length-3 : tie.Need-same-length-3
+same-length-3 c = search needs
+
+same-length-4 : tie.Need-same-length-4
+same-length-4 c = search needs
+
+returns-2 : tie.Need-returns-2
+returns-2 c = search (answer-same, needs)
+
+pub of-many-bytes-spec : {M : Type 1} → statement M
+of-many-bytes-spec =
+    tie.close
+    (tie.spec
+    slice-aggregate-check
+    check-requires
+    enum-known-p
+    blame-requires
+    enum-known-c
+    slice-aggregate-filled
+    filled-requires
+    same-length
+    same-length-2
+    returns
+    same-length-3
+    same-length-4
+    returns-2)

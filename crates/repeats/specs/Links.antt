@@ -1,0 +1,244 @@
+-- CHAINS OF KEYS BY NUMBER, one for each mark: a head, and links that each lead to an earlier key. Assumes nothing.
+use mathlib.Core.Path.{_≡_, sym, subst, _∙_}
+use mathlib.Core.List.{List}
+use mathlib.Core.Bool.{Bool, true, false}
+use Prim.Native.Nat.{ℕ, zero, suc, _+_, _-_, _≤_, _<_}
+use native.Mathlib.Omega.{arith}
+use native.Mathlib.Decide.{ℕ-discrete}
+use native.Mathlib.Numerals.{add-one}
+use lib.ListN.{length, getD, set, length-set}
+use lib.Seq.{getD-set-same, getD-set-other}
+use Rattle.repeats.specs.Tells.{Tells, tells-map}
+use Rattle.repeats.specs.Numbering.{Numbering, Same, markOf, mark-low, same-mark}
+
+-- the key k is before n
+pub record Before (N : Numbering) (n k : ℕ) : Type 0 where
+  pub before : k < n
+  pub key : N .Key k
+
+pub before-more : {N : Numbering} {n k : ℕ} (m : ℕ) → n ≤ m → Before N n k → Before N m k
+before-more m l x = record { before = omega (arith, x .before); key = x .key }
+
+-- a word of a chain: 0 for none, or one more than a key
+pub data Points (N : Numbering) (n : ℕ) : ℕ → Type 0 where
+  to-none : Points N n zero
+  to-key : {k : ℕ} → Before N n k → Points N n (suc k)
+
+points-more : {N : Numbering} {n h : ℕ} (m : ℕ) → n ≤ m → Points N n h → Points N m h
+points-more m l to-none = to-none
+points-more m l (to-key x) = to-key (before-more m l x)
+
+-- each link leads to an earlier key
+abbrev pub Linked : Numbering → List ℕ → Type 0
+Linked N links = (j : ℕ) → Points N j (getD links j 0)
+
+-- key k is in the chain from h
+pub data Chained (links : List ℕ) (k : ℕ) : ℕ → Type 0 where
+  chained-here : Chained links k (suc k)
+  chained-later : {h : ℕ} → Chained links k (getD links h 0) → Chained links k (suc h)
+
+-- .. so it is a key, before what h is before
+chained-key : {N : Numbering} {links : List ℕ} {n k h : ℕ} → Linked N links → Chained links k h → Points N n h → Before N n k
+chained-key l chained-here (to-key x) = x
+chained-key {n = n} l (chained-later {h} c) (to-key x) = before-more n (omega (arith, x .before)) (chained-key l c (l h))
+
+-- .. and it stays there when the link of a number i is set that the chain has not come to
+chained-kept : {N : Numbering} {links : List ℕ} {k h : ℕ} (i v : ℕ) → Linked N links → Chained links k h → Points N i h → Chained (set links i v) k h
+chained-kept i v l chained-here p = chained-here
+chained-kept {links = links} i v l (chained-later {h} c) (to-key x) =
+    chained-later
+    {h = h}
+    (rw (getD-set-other links i h v 0 (λ e. omega (arith, x .before))) (chained-kept i v l c (points-more i (omega (arith, x .before)) (l h))))
+
+-- ---- a walk along a chain
+
+-- a key of the chain from h is the same as key i
+pub record Met (N : Numbering) (links : List ℕ) (h i : ℕ) : Type 0 where
+  pub other : ℕ
+  pub chained : Chained links other h
+  pub same : Same N i other
+
+pub record Walkable (N : Numbering) (links : List ℕ) (head i : ℕ) : Type 0 where
+  pub points : Points N i head
+  pub linked : Linked N links
+  pub there : i ≤ length links
+
+-- the walk from head has come to h, and met none
+pub record Walked (N : Numbering) (links : List ℕ) (head i h : ℕ) : Type 0 where
+  pub points : Points N i h
+  pub to : Met N links head i → Met N links h i
+  pub from : Met N links h i → Met N links head i
+
+module _ (N : Numbering) (links : List ℕ) (head i : ℕ) (w : Walkable N links head i) where
+  pub walk-first : Walked N links head i head
+  walk-first = record { points = w .points; to = λ m. m; from = λ m. m }
+
+  pub walk-none : (h : ℕ) → Walked N links head i h → h ≤ 0 → Tells (Met N links head i) false
+  walk-none h x l m = go h (x .to m .chained) l
+    where
+      go : {k : ℕ} (h : ℕ) → Chained links k h → h ≤ 0 → ⊥
+      go _ chained-here l = omega arith
+      go _ (chained-later c) l = omega arith
+
+  pub walk-key : (h : ℕ) → Walked N links head i h → 0 < h → Before N i (h - 1)
+  walk-key h x l = go h (x .points) l
+    where
+      go : (h : ℕ) → Points N i h → 0 < h → Before N i (h - 1)
+      go _ to-none l = absurd (omega arith)
+      go _ (to-key {k} y) l = let e : suc k - 1 ≡ k = omega arith in rw e y
+
+  pub walk-room : (h : ℕ) → Walked N links head i h → 0 < h → h - 1 < length links
+  walk-room h x l = omega (arith, walk-key h x l .before, w .there)
+
+  pub walk-less : (h : ℕ) → 0 < h → getD links (h - 1) 0 < h
+  walk-less h l = omega (arith, low (w .linked (h - 1)))
+    where
+      low : {j v : ℕ} → Points N j v → v ≤ j
+      low to-none = omega arith
+      low (to-key y) = omega (arith, y .before)
+
+  pub walk-same : (h : ℕ) → Walked N links head i h → 0 < h → Same N i (h - 1) → Tells (Met N links head i) true
+  walk-same h x l s =
+      let e : suc (h - 1) ≡ h = omega arith in
+      let c : Chained links (h - 1) (suc (h - 1)) = chained-here in
+      x .from (record { other = h - 1; chained = subst (Chained links (h - 1)) e c; same = s })
+
+  pub walk-more : (h : ℕ) → Walked N links head i h → 0 < h → (Same N i (h - 1) → ⊥) → Walked N links head i (getD links (h - 1) 0)
+  walk-more h x l n =
+      let e : suc (h - 1) ≡ h = omega arith in
+      record {
+        points = points-more i (omega (arith, walk-key h x l .before)) (w .linked (h - 1));
+        to = λ m. on (subst (λ (j : ℕ). Met N links j i) (sym e) (x .to m));
+        from = λ m. x .from (subst (λ (j : ℕ). Met N links j i) e (back m));
+      }
+    where
+      back : Met N links (getD links (h - 1) 0) i → Met N links (suc (h - 1)) i
+      back m = record { other = m .other; chained = chained-later (m .chained); same = m .same }
+
+      past : {k : ℕ} (j : ℕ) → (Same N i j → ⊥) → Same N i k → Chained links k (suc j) → Chained links k (getD links j 0)
+      past j n s chained-here = absurd (n s)
+      past j n s (chained-later c) = c
+
+      on : Met N links (suc (h - 1)) i → Met N links (getD links (h - 1) 0) i
+      on m = record { other = m .other; chained = past (h - 1) n (m .same) (m .chained); same = m .same }
+
+-- ---- the chains of the keys before n
+
+pub record Chains (N : Numbering) (heads links : List ℕ) (n : ℕ) : Type 0 where
+  pub marks : length heads ≡ 4096
+  pub heads-point : (m : ℕ) → Points N n (getD heads m 0)
+  pub linked : Linked N links
+  pub all : (k : ℕ) → Before N n k → Chained links k (getD heads (markOf N k) 0)
+
+-- key i is the same as one before it
+pub record Earlier (N : Numbering) (i : ℕ) : Type 0 where
+  pub other : ℕ
+  pub key : Before N i other
+  pub same : Same N i other
+
+-- key i takes its place in its chain
+pub record Noting (N : Numbering) (heads links : List ℕ) (i : ℕ) : Type 0 where
+  pub room : i < length links
+  pub chains : Chains N heads links i
+  pub key : N .Key i
+
+pub record Noted (N : Numbering) (heads links : List ℕ) (i : ℕ) (r : Bool) : Type 0 where
+  pub tells : Tells (Earlier N i) r
+  pub chains : Chains N heads links (i + 1)
+
+-- no key is seen yet
+pub chains-none : (N : Numbering) (heads links : List ℕ) → length heads ≡ 4096 → ((m : ℕ) → getD heads m 0 ≡ 0) → ((j : ℕ) → getD links j 0 ≡ 0) → Chains N heads links 0
+chains-none N heads links l h k =
+    record {
+      marks = l;
+      heads-point = λ m. rw (h m) to-none;
+      linked = λ j. rw (k j) to-none;
+      all = λ j x. absurd (omega (arith, x .before));
+    }
+
+module _ (N : Numbering) (heads links : List ℕ) (i : ℕ) (x : Chains N heads links i) where
+  -- the number i is no key
+  pub chains-other : (N .Key i → ⊥) → Chains N heads links (i + 1)
+  chains-other n =
+      record {
+        marks = x .marks;
+        heads-point = λ m. points-more (i + 1) (omega arith) (x .heads-point m);
+        linked = x .linked;
+        all = λ k y. x .all k (record { before = before k y (ℕ-discrete k i); key = y .key });
+      }
+    where
+      before : (k : ℕ) → Before N (i + 1) k → Dec (k ≡ i) → k < i
+      before k y (yes e) = absurd (n (subst (N .Key) e (y .key)))
+      before k y (no e) = omega (arith, y .before)
+
+module _ (N : Numbering) (heads links : List ℕ) (i : ℕ) (w : Noting N heads links i) where
+  abbrev x : Chains N heads links i
+  x = w .chains
+
+  abbrev head : ℕ
+  head = getD heads (markOf N i) 0
+
+  walkable : Walkable N links head i
+  walkable =
+      record {
+        points = x .heads-point (markOf N i);
+        linked = x .linked;
+        there = omega (arith, w .room);
+      }
+
+  chains-met : (r : Bool) → Tells (Met N links head i) r → Tells (Earlier N i) r
+  chains-met = tells-map to from
+    where
+      to : Met N links head i → Earlier N i
+      to m = record { other = m .other; key = chained-key (x .linked) (m .chained) (x .heads-point (markOf N i)); same = m .same }
+
+      from : Earlier N i → Met N links head i
+      from e = record { other = e .other; chained = rw (same-mark N i (e .other) (e .same)) (x .all (e .other) (e .key)); same = e .same }
+
+  chains-key : Chains N (set heads (markOf N i) (i + 1)) (set links i head) (i + 1)
+  chains-key =
+      record {
+        marks = length-set heads (markOf N i) (i + 1) ∙ x .marks;
+        heads-point = λ m. points m (ℕ-discrete m (markOf N i));
+        linked = λ j. links-point j (ℕ-discrete j i);
+        all = λ k y. chained k y (ℕ-discrete k i) (ℕ-discrete (markOf N k) (markOf N i));
+      }
+    where
+      here : getD (set heads (markOf N i) (i + 1)) (markOf N i) 0 ≡ suc i
+      here = getD-set-same heads (markOf N i) (i + 1) 0 (omega (arith, mark-low N i, x .marks)) ∙ add-one i
+
+      linked-here : getD (set links i head) i 0 ≡ head
+      linked-here = getD-set-same links i head 0 (w .room)
+
+      points : (m : ℕ) → Dec (m ≡ markOf N i) → Points N (i + 1) (getD (set heads (markOf N i) (i + 1)) m 0)
+      points m (yes e) = rw (e, here) (to-key {k = i} (record { before = omega arith; key = w .key }))
+      points m (no e) = rw (getD-set-other heads (markOf N i) m (i + 1) 0 e) (points-more (i + 1) (omega arith) (x .heads-point m))
+
+      links-point : (j : ℕ) → Dec (j ≡ i) → Points N j (getD (set links i head) j 0)
+      links-point j (yes e) = rw (e, linked-here) (x .heads-point (markOf N i))
+      links-point j (no e) = rw (getD-set-other links i j head 0 e) (x .linked j)
+
+      chained : (k : ℕ) → Before N (i + 1) k → Dec (k ≡ i) → Dec (markOf N k ≡ markOf N i)
+          → Chained (set links i head) k (getD (set heads (markOf N i) (i + 1)) (markOf N k) 0)
+      chained k y (yes e) d = rw (e, here) chained-here
+      chained k y (no e) (yes f) =
+          let z : Chained links k head = rw f at (x .all k (record { before = omega (arith, y .before); key = y .key })) in
+          rw (f, here) (chained-later {h = i} (rw linked-here (chained-kept i head (x .linked) z (x .heads-point (markOf N i)))))
+      chained k y (no e) (no f) =
+          rw
+          (getD-set-other heads (markOf N i) (markOf N k) (i + 1) 0 f)
+          (chained-kept i head (x .linked) (x .all k (record { before = omega (arith, y .before); key = y .key })) (x .heads-point (markOf N k)))
+
+  -- .. where the mark is m
+  module _ (m : ℕ) (e : m ≡ markOf N i) where
+    pub note-walkable : Walkable N links (getD heads m 0) i
+    note-walkable = rw e walkable
+
+    pub note-low : m < length heads
+    note-low = omega (arith, mark-low N i, x .marks)
+
+    pub note-small : m < 4096
+    note-small = omega (arith, mark-low N i)
+
+    pub noted : (r : Bool) → Tells (Met N links (getD heads m 0) i) r → Noted N (set heads m (i + 1)) (set links i (getD heads m 0)) i r
+    noted r t = rw e (record { tells = chains-met r (rw e at t); chains = chains-key })
