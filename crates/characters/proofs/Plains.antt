@@ -1,4 +1,4 @@
--- Laws of runs of bytes of a class, as the loops over them meet them: the plain bytes of a string, and the bytes of a bare key.
+-- Laws of runs of bytes of a class, as the loops over them meet them: the plain bytes of a string, the bytes of a bare key, and digits.
 use mathlib.Core.Path.{_≡_, refl, sym, _∙_}
 use mathlib.Core.List.{List}
 use mathlib.Core.Bool.{Bool, true, false}

@@ -1,7 +1,6 @@
 pub mod Reads
 pub mod Takes
 pub mod Runs
-pub mod DigitRuns
 pub mod Going
 pub mod Rest
 pub mod Value

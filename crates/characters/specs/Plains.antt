@@ -1,4 +1,4 @@
--- Runs of bytes of a class, passed at once: the plain bytes of a string, and the bytes of a bare key. Assumes nothing.
+-- Runs of bytes of a class, passed at once, which are as many steps (`Runs`): the plain bytes of a string, the bytes of a bare key, and digits. Assumes nothing.
 use mathlib.Core.Path.{_≡_, refl}
 use mathlib.Core.List.{List, [], _∷_}
 use mathlib.Core.Bool.{false}

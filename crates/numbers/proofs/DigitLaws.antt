@@ -9,15 +9,15 @@ use lib.ListN.{length, getD, drop, length-drop}
 use lib.Seq.{drop-drop, getD-drop}
 use borrow.Author.Needs.{needs}
 use Rattle.exact.specs.Class.{pick, and-of, clash, is, only, none, only-no, only-yes, only-eq}
-use Rattle.exact.specs.Lang.{byteR}
 use Rattle.exact.specs.Place.{peek, run, runEnd, run-none, run-more, There, there, byte-there, none-there}
 use Rattle.language.specs.Scalars.{digit}
 use Rattle.characters.specs.declared.Reading.{Reading}
 use Rattle.characters.specs.declared.Skip.{Skip}
 use Rattle.characters.specs.declared.Skip.the-variants.{End, Bad}
-use Rattle.characters.specs.Reads.{Skips}
-use Rattle.characters.specs.Takes.{take-byte, take-next, take-inside, take-other}
-use Rattle.characters.specs.DigitRuns.{Ran}
+use Rattle.characters.specs.declared.Took.{Took}
+use Rattle.characters.specs.declared.Took.the-variants.{Byte, Over}
+use Rattle.characters.specs.Reads.{ByteRead, byte-inside, byte-there as byte-taken, byte-next, byte-over}
+use Rattle.characters.specs.Plains.{RunTo}
 use Rattle.numbers.specs.declared.digits.Stretch.{Stretch}
 use Rattle.numbers.specs.Digits.{next}
 use Rattle.numbers.specs.Places.{tail, tail-digit, tail-false, tailEnd, gapAt}
@@ -142,85 +142,95 @@ pub record Going (doc : List ℕ) (at e : ℕ) (dense : Bool) : Type 0 where
   pub solid : peek doc (e - 1) ≡ 32 → ⊥
 
 module _ (doc : List ℕ) (at : ℕ) where
-  -- A GAP: the space was taken, and n is the place behind the digits that follow it
-  module _ (t : Skip) (h : Skips doc at (byteR (is (only 32)) at (drop at doc)) t) where
-    pub gap-none : (p : ℕ) → t ≡ Bad p → PastGap doc at at
-    gap-none p e = no-gap (rw (only-no 32 (peek doc at) (take-other doc at 32 (omega arith) t h p e)) refl)
+  -- A GAP: a byte was taken, and behind a space n is the place behind the digits that follow it
+  module _ (t : Took) (h : ByteRead doc at t) where
+    pub gap-over : t ≡ Over → PastGap doc at (Bad at)
+    gap-over e = no-gap (rw (byte-over doc at t h e) refl)
 
-    module _ (d : ℕ) (e : t ≡ End d) where
-      pub gap-inside : d ≤ length doc
-      gap-inside = let i = take-inside doc at 32 (omega arith) t h d e in omega (arith, take-next doc at 32 (omega arith) t h d e)
+    module _ (b : ℕ) (d : Reading) (e : t ≡ Byte b d) where
+      pub gap-other : (b ≡ 32 → ⊥) → PastGap doc at (Bad at)
+      gap-other k = no-gap (rw (only-no 32 (peek doc at) (λ z. k (byte-taken doc at t h b d e ∙ z))) refl)
 
-      gap-is : (y : Bool) → is digit (peek doc d) ≡ y → gapAt doc at ≡ y
-      gap-is y k = rw (only-yes 32 (peek doc at) (sym (take-byte doc at 32 (omega arith) t h d e)), ← take-next doc at 32 (omega arith) t h d e) k
+      pub gap-inside : d .at ≤ length doc
+      gap-inside = let i = byte-inside doc at t h b d e in omega (arith, byte-next doc at t h b d e)
 
-      pub gap-ends : (n : ℕ) → Ran doc d n → n ≡ d → PastGap doc at at
-      gap-ends n r k = no-gap (gap-is false (rw (← k) (ran-stops doc d n (r .end))))
+      gap-is : (y : Bool) → b ≡ 32 → is digit (peek doc (d .at)) ≡ y → gapAt doc at ≡ y
+      gap-is y z k = rw (only-yes 32 (peek doc at) (sym (byte-taken doc at t h b d e) ∙ z), ← byte-next doc at t h b d e) k
 
-      pub gap-goes : (n : ℕ) → Ran doc d n → (n ≡ d → ⊥) → PastGap doc at n
-      gap-goes n r k = some-gap n (gap-is true (ran-digit doc d n (r .end) k)) (rw (take-next doc at 32 (omega arith) t h d e) at r)
+      pub gap-ends : (n : ℕ) → b ≡ 32 → RunTo digit doc (d .at) n → n ≡ d .at → PastGap doc at (Bad at)
+      gap-ends n z r k = no-gap (gap-is false z (rw (← k) (ran-stops doc (d .at) n (r .is))))
+
+      pub gap-goes : (n : ℕ) → b ≡ 32 → RunTo digit doc (d .at) n → (n ≡ d .at → ⊥) → PastGap doc at (End n)
+      gap-goes n z r k = some-gap n (gap-is true z (ran-digit doc (d .at) n (r .is) k)) (rw (byte-next doc at t h b d e) at r)
 
   module _ (e : ℕ) where
-    pub going-first : Ran doc at e → (e ≡ at → ⊥) → Going doc at e true
+    pub going-first : RunTo digit doc at e → (e ≡ at → ⊥) → Going doc at e true
     going-first r k =
         record {
-          from = tail-ran true doc at e (r .end);
-          begun = ran-digit doc at e (r .end) k;
-          over = ran-stops doc at e (r .end);
-          ahead = r .ahead;
+          from = tail-ran true doc at e (r .is);
+          begun = ran-digit doc at e (r .is) k;
+          over = ran-stops doc at e (r .is);
+          ahead = r .from;
           inside = r .inside;
-          one-run = λ _. r .end;
-          solid = ran-solid doc at e (r .end) (omega (arith, r .ahead));
+          one-run = λ _. r .is;
+          solid = ran-solid doc at e (r .is) (omega (arith, r .from));
         }
 
-    pub going-more : (d : Bool) (n : ℕ) → Going doc at e d → PastGap doc e n → e < n → Going doc at n false
-    going-more d _ g (no-gap z) l = absurd (omega arith)
-    going-more d n g (some-gap _ z r) l =
-        let k : is digit (peek doc (e + 1)) ≡ true = and-of (is (only 32) (peek doc e)) (is digit (peek doc (e + 1))) z .1 in
-        record {
-          from = g .from ∙ (tail-gap doc e z ∙ tail-ran true doc (e + 1) n (r .end));
-          begun = g .begun;
-          over = ran-stops doc (e + 1) n (r .end);
-          ahead = omega (arith, g .ahead, r .ahead);
-          inside = r .inside;
-          one-run = λ z. absurd (clash z refl);
-          solid = ran-solid doc (e + 1) n (r .end) (ran-some doc (e + 1) n (r .end) k);
-        }
+    pub going-more : (d : Bool) (s : Skip) (n : ℕ) → Going doc at e d → PastGap doc e s → s ≡ End n → Going doc at n false
+    going-more d s n g x q = go (rw q at x)
+      where
+        go : PastGap doc e (End n) → Going doc at n false
+        go (some-gap _ z r) =
+            let k : is digit (peek doc (e + 1)) ≡ true = and-of (is (only 32) (peek doc e)) (is digit (peek doc (e + 1))) z .1 in
+            record {
+              from = g .from ∙ (tail-gap doc e z ∙ tail-ran true doc (e + 1) n (r .is));
+              begun = g .begun;
+              over = ran-stops doc (e + 1) n (r .is);
+              ahead = omega (arith, g .ahead, r .from);
+              inside = r .inside;
+              one-run = λ z. absurd (clash z refl);
+              solid = ran-solid doc (e + 1) n (r .is) (ran-some doc (e + 1) n (r .is) k);
+            }
 
-  pub going-less : (e n : ℕ) (d : Bool) → Going doc at e d → PastGap doc e n → e < n → length doc - n < length doc - e
-  going-less e n d g x l = let i = going-more e d n g x l .inside in omega arith
+    pub going-less : (s : Skip) (n : ℕ) → PastGap doc e s → s ≡ End n → length doc - n < length doc - e
+    going-less s n x q = go (rw q at x)
+      where
+        go : PastGap doc e (End n) → length doc - n < length doc - e
+        go (some-gap _ z r) = omega (arith, r .from, r .inside)
 
   module _ (e : Reading) where
-    pub going-done : (d : Bool) (n : ℕ) → Going doc at (e .at) d → PastGap doc (e .at) n → n ≤ e .at → Grouped true doc at (record { end = e; dense = d })
-    going-done d _ g (no-gap z) l =
-        record { end = sym (rw (g .begun) (g .from ∙ tail-stop doc (e .at) (g .over) z)); ahead = g .ahead; inside = g .inside; dense = g .one-run; solid = λ _. g .solid }
-    going-done d n g (some-gap _ z r) l = absurd (omega (arith, r .ahead))
+    pub going-done : (d : Bool) (s : Skip) (p : ℕ) → Going doc at (e .at) d → PastGap doc (e .at) s → s ≡ Bad p → Grouped true doc at (record { end = e; dense = d })
+    going-done d s p g x q = go p (rw q at x)
+      where
+        go : (p : ℕ) → PastGap doc (e .at) (Bad p) → Grouped true doc at (record { end = e; dense = d })
+        go _ (no-gap z) =
+            record { end = sym (rw (g .begun) (g .from ∙ tail-stop doc (e .at) (g .over) z)); ahead = g .ahead; inside = g .inside; dense = g .one-run; solid = λ _. g .solid }
 
-    pub group-none : Ran doc at (e .at) → e .at ≡ at → Grouped true doc at (record { end = e; dense = true })
+    pub group-none : RunTo digit doc at (e .at) → e .at ≡ at → Grouped true doc at (record { end = e; dense = true })
     group-none r k =
-        let z : is digit (peek doc at) ≡ false = rw (← k) (ran-stops doc at (e .at) (r .end)) in
-        record { end = rw (z, k); ahead = r .ahead; inside = r .inside; dense = λ _. r .end; solid = λ n. absurd (n k) }
+        let z : is digit (peek doc at) ≡ false = rw (← k) (ran-stops doc at (e .at) (r .is)) in
+        record { end = rw (z, k); ahead = r .from; inside = r .inside; dense = λ _. r .is; solid = λ n. absurd (n k) }
 
-    group-false : Ran doc at (e .at) → Grouped false doc at (record { end = e; dense = true })
+    group-false : RunTo digit doc at (e .at) → Grouped false doc at (record { end = e; dense = true })
     group-false r =
         record {
-          end = r .end ∙ go (is digit (peek doc at)) refl;
-          ahead = r .ahead;
+          end = r .is ∙ go (is digit (peek doc at)) refl;
+          ahead = r .from;
           inside = r .inside;
-          dense = λ _. r .end;
-          solid = λ n. ran-solid doc at (e .at) (r .end) (omega (arith, r .ahead));
+          dense = λ _. r .is;
+          solid = λ n. ran-solid doc at (e .at) (r .is) (omega (arith, r .from));
         }
       where
         go : (y : Bool) → is digit (peek doc at) ≡ y → runEnd digit doc at ≡ pick y (tailEnd false doc at) at
         go true z = ap (λ n. at + n) (sym (tail-false (drop at doc)))
         go false z = run-none digit doc at refl z
 
-    pub group-plain : (spaced : Bool) → spaced ≡ false → Ran doc at (e .at) → Grouped spaced doc at (record { end = e; dense = true })
+    pub group-plain : (spaced : Bool) → spaced ≡ false → RunTo digit doc at (e .at) → Grouped spaced doc at (record { end = e; dense = true })
     group-plain spaced h r = rw h (group-false r)
 
 pub group-spaced : (doc : List ℕ) (at : ℕ) (spaced : Bool) (g : Stretch) → spaced ≡ true → Grouped true doc at g → Grouped spaced doc at g
 group-spaced doc at spaced g h x = rw h x
 
-pub ruleset gap-laws = (gap-none, gap-inside, gap-ends, gap-goes, needs)
+pub ruleset gap-laws = (gap-over, gap-other, gap-inside, gap-ends, gap-goes, needs)
 
 pub ruleset digit-laws = (going-first, going-more, going-less, going-done, group-none, group-plain, group-spaced, needs)

@@ -11,7 +11,9 @@ use Rattle.exact.specs.Place.{peek, runEnd}
 use Rattle.language.specs.Kind.{INTEGER, FLOAT}
 use Rattle.language.specs.Tree.{width, rowList}
 use Rattle.rooms.specs.declared.Cursor.{Cursor}
-use Rattle.characters.specs.DigitRuns.{Ran}
+use Rattle.characters.specs.declared.Skip.{Skip}
+use Rattle.characters.specs.declared.Skip.the-variants.{End, Bad}
+use Rattle.characters.specs.Plains.{RunTo}
 use Rattle.language.specs.Scalars.{digit, plain, signed}
 use Rattle.language.specs.Answered.{limit}
 use Rattle.numbers.specs.declared.digits.Stretch.{Stretch}
@@ -23,10 +25,10 @@ use Rattle.numbers.specs.Plain.{unsignedR}
 use Rattle.numbers.specs.Places.{groupEnd, gapAt, squeezed, farAt}
 use Rattle.numbers.specs.Numbers.{afterSign, exponentAt}
 
--- the place behind a space and digits at a place, which is that place where no such stand
-pub data PastGap (doc : List ℕ) (at : ℕ) : ℕ → Type 0 where
-  no-gap : gapAt doc at ≡ false → PastGap doc at at
-  some-gap : (n : ℕ) → gapAt doc at ≡ true → Ran doc (at + 1) n → PastGap doc at n
+-- the place behind a space and digits at a place; refused, where no such stand
+pub data PastGap (doc : List ℕ) (at : ℕ) : Skip → Type 0 where
+  no-gap : gapAt doc at ≡ false → PastGap doc at (Bad at)
+  some-gap : (n : ℕ) → gapAt doc at ≡ true → RunTo digit doc (at + 1) n → PastGap doc at (End n)
 
 -- digits, spaced or not
 pub record Grouped (spaced : Bool) (doc : List ℕ) (at : ℕ) (g : Stretch) : Type 0 where

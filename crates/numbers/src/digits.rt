@@ -5,6 +5,7 @@ ghost use lib.ListN.{length};
 ghost use Rattle.numbers.specs.Contract.{PastGap, Grouped};
 use characters::Reading;
 use characters::Skip;
+use characters::Took;
 
 // Digits: the place behind them, and whether no space stands between them.
 pub struct Stretch {
@@ -12,23 +13,26 @@ pub struct Stretch {
     pub dense: bool,
 }
 
-// The place behind a space and the digits that follow it; the same place, where no such stand.
-fn after_gap(doc: &[u8], r: Reading) -> Reading
-    ensures { λ n. ⌜ PastGap (now (doc .entry)) (r .at) (n .at) ⌝ }
+// A space and the digits that follow it, passed over; refused here, where no such stand.
+fn after_gap(doc: &[u8], r: Reading) -> Skip
+    ensures { λ s. ⌜ PastGap (now (doc .entry)) (r .at) s ⌝ }
 {
-    match r.take(&*doc, 32) {
-        Skip::Bad(p) => r,
-        Skip::End(d) => {
-            let n = (Reading { at: d }).digits(&*doc);
-            if n.at == d {
-                return r;
+    match r.byte(&*doc) {
+        Took::Over => Skip::Bad(r.at),
+        Took::Byte(b, n) => {
+            if b == 32 {
+                let e = n.digits(&*doc);
+                if e.at == n.at {
+                    return Skip::Bad(r.at);
+                }
+                return Skip::End(e.at);
             }
-            n
+            Skip::Bad(r.at)
         }
     }
 }
 
-// Digits, with single spaces between them.
+// Digits, with single spaces between them. A gap is passed or ends the loop: the next place waits for no comparison of places.
 fn spaced_group(doc: &[u8], r: Reading) -> Stretch
     requires { ⌜ r .at ≤ length (now doc) ⌝ }
     ensures { λ g. ⌜ Grouped true (now (doc .entry)) (r .at) g ⌝ }
@@ -39,13 +43,17 @@ fn spaced_group(doc: &[u8], r: Reading) -> Stretch
     if end.at == at {
         return Stretch { end, dense };
     }
-    let mut next = after_gap(&*doc, end);
-    while end.at < next.at {
-        dense = false;
-        end = next;
-        next = after_gap(&*doc, end);
+    loop {
+        match after_gap(&*doc, end) {
+            Skip::Bad(p) => {
+                return Stretch { end, dense };
+            }
+            Skip::End(n) => {
+                dense = false;
+                end = Reading { at: n };
+            }
+        }
     }
-    Stretch { end, dense }
 }
 
 // Digits, with single spaces between them where `spaced` holds. There are none if they end where they begin.

@@ -1,12 +1,14 @@
 -- `Reading::digits` hands back the place behind the digits here.
 use Prim.Native.Nat.{_-_}
 use lib.ListN.{length}
-use Rattle.characters.proofs.DigitPassing.{Passing, passing}
+use Rattle.language.specs.Scalars.{digit}
+use Rattle.characters.specs.Plains.{Passing}
+use Rattle.characters.proofs.DigitPassing.{passing}
 use Rattle.characters.proofs.Reading.digits.Statement.{statement}
 use Rattle.characters.proofs.Reading.digits.Tie as tie
 
 abbrev Inv-loop : tie.InvT-loop
-Inv-loop doc at₀ at = Passing doc at₀ at
+Inv-loop doc at₀ at = Passing digit doc at₀ at
 
 abbrev μ-loop : tie.MeasureT-loop
 μ-loop doc at₀ at = length doc - at
