@@ -1,5 +1,5 @@
-//! The second reader: the whole answer of `read`, written from document 01 and
-//! apart from the proved reader. One pass from left to right over a padded copy
+//! The second reader: the whole answer of `read`, written from documents 01 and 02
+//! and apart from the proved reader. One pass from left to right over a padded copy
 //! of the document gathers rows and text on the heap; only an accepted document
 //! reaches the lent rooms.
 

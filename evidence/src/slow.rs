@@ -1,4 +1,4 @@
-//! A slow checker of places: document 01's grammar followed literally, with all
+//! A slow checker of places: the papers' grammar followed literally, with all
 //! alternatives kept, so that a prefix begins a document exactly if one is alive.
 
 mod characters;

@@ -1,4 +1,4 @@
-//! The borders of document 01, by the second reader and the slow checker of places; and the questions.
+//! The borders of documents 01 and 02, by the second reader and the slow checker of places; and the questions.
 
 use evidence::documents::borders::borders;
 use evidence::second::questions::{compare_integers, Lent, BADROW, NONE, NOTINT};

@@ -109,7 +109,7 @@ b₇ : ends (openBytesR 0) 0 (62 ∷ 32 ∷ 98 ∷ 48 ∷ 32 ∷ 32 ∷ 98 ∷ 5
 unfolding openBytesR hexRestR contentR commentedR hexLinesR pairsR pairR furtherR
 b₇ = refl
 
--- JOINED STRINGS: `"a"⏎␠␠'b'⏎` at column 2, from the first quote to the last; one line is too few
+-- JOINED STRINGS: `"a"⏎␠␠'b'⏎` at column 2, from the first quote to the last; one line is too few; `'C:\a'⏎␠␠'\b'⏎` is `C:\a\b`
 j₁ : ends (joinedR 2) 0 (34 ∷ 97 ∷ 34 ∷ 10 ∷ 32 ∷ 32 ∷ 39 ∷ 98 ∷ 39 ∷ 10 ∷ []) ≡ acc (leaf STRING 0 9 (97 ∷ 98 ∷ []))
 unfolding joinedR joinedLineR quotedR betweenR escapeR singleEscapeR
 j₁ = refl
@@ -117,3 +117,7 @@ j₁ = refl
 j₂ : ends (joinedR 2) 0 (34 ∷ 97 ∷ 34 ∷ 10 ∷ []) ≡ stop 4
 unfolding joinedR joinedLineR quotedR betweenR escapeR singleEscapeR
 j₂ = refl
+
+j₃ : ends (joinedR 2) 0 (39 ∷ 67 ∷ 58 ∷ 92 ∷ 97 ∷ 39 ∷ 10 ∷ 32 ∷ 32 ∷ 39 ∷ 92 ∷ 98 ∷ 39 ∷ 10 ∷ []) ≡ acc (leaf STRING 0 13 (67 ∷ 58 ∷ 92 ∷ 97 ∷ 92 ∷ 98 ∷ []))
+unfolding joinedR joinedLineR quotedR betweenR escapeR singleEscapeR
+j₃ = refl

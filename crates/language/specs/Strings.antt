@@ -39,12 +39,11 @@ Escape = do
   Byte (is (only 92))
   Alt (do b ← Byte (is lettered); Ret (standsFor b ∷ [])) (do Word (117 ∷ 123 ∷ []); ds ← Code; Byte (is (only 125)); Ret (utf8 (hexNumber 0 ds)))
 
--- "Single-quoted: .. escapes `\'` and `\\`. Settled by the production: no other backslash."
+-- "Single-quoted: .. escapes `\'` and `\\`" (01); "a backslash before any other allowed character but LF stays as itself, that character too" (02, Ticket 3)
 abbrev pub SingleEscape : Lang (List ℕ)
 SingleEscape = do
   Byte (is (only 92))
-  b ← Byte (is ((39 to 39) ∷ (92 to 92) ∷ []))
-  Ret (b ∷ [])
+  Alt (do b ← Byte (is ((39 to 39) ∷ (92 to 92) ∷ [])); Ret (b ∷ [])) (do c ← Char ((32 to 38) ∷ (40 to 91) ∷ (93 to 126) ∷ []); Ret (92 ∷ c))
 
 -- a quote, escapes and characters, the same quote
 abbrev pub Between : ℕ → Lang (List ℕ) → Class → Lang (List ℕ)

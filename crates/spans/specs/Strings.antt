@@ -24,7 +24,8 @@ escape-fits at =
     (word-then (117 ∷ 123 ∷ []) (λ m h. bind-every (code-steps m) (λ ds n k. byte-then (λ c. ret-every (omega (arith, utf8-four (hexNumber 0 ds))))))))
 
 single-escape-fits : (at : ℕ) → Every SingleEscape at (Fits at)
-single-escape-fits at = byte-then (λ b. byte-then (λ c. ret-every (omega arith)))
+single-escape-fits at =
+    byte-then (λ b. alt-every (byte-then (λ c. ret-every (omega arith))) (bind-every (char-fits (suc at)) (λ s m h. ret-every (omega arith))))
 
 between-some : (quote : ℕ) {E : Lang (List ℕ)} (others : Class) → ((at : ℕ) → Every E at (Fits at)) → (at : ℕ) → Every (Between quote E others) at (Some at)
 between-some quote others g at =

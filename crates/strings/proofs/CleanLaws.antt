@@ -40,10 +40,10 @@ first-byte doc at v n s l =
     cc
 
 module _ (c : Class) (doc : List ℕ) (at v n : ℕ) (s : Stands doc at v n) where
-  stands-char : character c v ≡ true → Char c doc at v n
+  pub stands-char : character c v ≡ true → Char c doc at v n
   stands-char x = record { is = s .taken c ∙ rw x refl; bytes = s .bytes; ahead = s .ahead; inside = s .inside }
 
-  stands-not : character c v ≡ false → charR c at (drop at doc) ≡ bad at
+  pub stands-not : character c v ≡ false → charR c at (drop at doc) ≡ bad at
   stands-not x = s .taken c ∙ rw x refl
 
   -- one of several bytes is of every class

@@ -1,7 +1,7 @@
--- What escapes have to show at each return, from what taking a byte tells.
+-- What escapes of double quotes have to show at each return, from what taking a byte tells.
 use mathlib.Core.Path.{_≡_, refl, sym, _∙_}
 use mathlib.Core.List.{List, [], _∷_}
-use mathlib.Core.Logic.{_⊎_, inl, inr, ⊎-elim}
+use mathlib.Core.Logic.{_⊎_, inl, inr}
 use mathlib.Core.Bool.{Bool, true, false}
 use Prim.Native.Nat.{ℕ, suc, _+_, _<_}
 use native.Mathlib.Numerals.{add-one}
@@ -21,7 +21,6 @@ use Rattle.characters.specs.declared.Reading.{Reading}
 use Rattle.characters.specs.declared.Skip.{Skip}
 use Rattle.characters.specs.declared.Skip.the-variants.{End, Bad}
 use Rattle.characters.specs.Reads.{Skips, ends-of, bad-of}
-use Rattle.characters.specs.Plains.{other}
 use Rattle.rooms.specs.declared.Cursor.{Cursor}
 use Rattle.rooms.specs.declared.Step.{Step}
 use Rattle.rooms.specs.declared.Step.the-variants.{Byte, Over}
@@ -32,7 +31,7 @@ use Rattle.rooms.specs.Laws.{step-byte, step-next, step-inside, step-over}
 use Rattle.strings.specs.declared.escapes.Coded.{Coded}
 use Rattle.strings.specs.declared.escapes.Coded.the-variants.{Named, Unnamed}
 use Rattle.strings.specs.Code.{codeR}
-use Rattle.strings.specs.Quoted.{letterR, bracedR, codedR, behindR, escapeR, singled, itselfR, singleEscapeR}
+use Rattle.strings.specs.Quoted.{letterR, bracedR, codedR, behindR, escapeR}
 use Rattle.strings.specs.Contract.{lettering, Letter, Naming, CodeAt, Stored, Texts}
 use Rattle.strings.proofs.TextLaws.{text-refused, spelling, front-not, front-ready, front-read}
 
@@ -148,18 +147,10 @@ module _ (doc : List ℕ) (c : Cursor) (t : Ans) where
     unfolding escapeR
     escape-on n a T T' e x = front-read doc c 92 (omega arith) t h n e behindR a T T' x
 
-    pub single-not : (T : List ℕ) (p : ℕ) → t ≡ No p → Texts doc c (singleEscapeR (c .at) (drop (c .at) doc)) (No p) T T
-    unfolding singleEscapeR
-    single-not T p e = front-not doc c 92 (omega arith) t h itselfR T p e
-
-    pub single-on : (n : Cursor) (a : Ans) (T T' : List ℕ) → t ≡ Ok n → Texts doc n (itselfR (n .at) (drop (n .at) doc)) a T T' → Texts doc c (singleEscapeR (c .at) (drop (c .at) doc)) a T T'
-    unfolding singleEscapeR
-    single-on n a T T' e x = front-read doc c 92 (omega arith) t h n e itselfR a T T' x
-
     pub back-ready : (n : Cursor) → t ≡ Ok n → Ready doc c → Ready doc n
     back-ready n e ready = front-ready doc c 92 (omega arith) t h n e ready
 
-pub ruleset escapes = (escape-not, escape-on, single-not, single-on, back-ready, needs)
+pub ruleset escapes = (escape-not, escape-on, back-ready, needs)
 
 -- `u{` is `u`, and then `{`
 abbrev openR : Reader (List ℕ)
@@ -192,30 +183,3 @@ module _ (doc : List ℕ) (c : Cursor) (t : Ans) (h : Takes doc c 117 t) where
           (front-read doc c 117 (omega arith) t h u e openR a T T' (front-read doc u 123 (omega arith) s k n x bracedR a T T' y))
 
 pub ruleset bracings = (letter-u-not, brace-not, brace-ready, brace-on, needs)
-
--- ---- single quotes
-
-module _ (doc : List ℕ) (c : Cursor) (t : Step) (h : Stepped doc c t) where
-  abbrev Itself : Ans → List ℕ → List ℕ → Type 0
-  Itself a T T' = Texts doc c (itselfR (c .at) (drop (c .at) doc)) a T T'
-
-  pub itself-over : (T : List ℕ) → t ≡ Over → Itself (No (c .at)) T T
-  itself-over T e =
-      let z : peek doc (c .at) ≡ 256 = step-over doc c t h e in
-      text-refused doc c _ T T (c .at) (rw (byte-peek doc (c .at) singled refl, z) refl)
-
-  module _ (b : ℕ) (n : Cursor) (e : t ≡ Byte b n) where
-    pub itself-read : (T T' : List ℕ) → (b ≡ 39) ⊎ (b ≡ 92) → T' ≡ set T (c .text) b → Itself (Ok (record { at = n .at; row = c .row; text = c .text + 1 })) T T'
-    itself-read T T' z k =
-        let s : is singled b ≡ true = ⊎-elim (λ x. rw x refl) (λ x. rw x refl) z in
-        let here : b ≡ peek doc (c .at) = step-byte doc c t h b n e in
-        let i = step-inside doc c t h b n e in
-        rw (step-next doc c t h b n e)
-        (spelling doc c _ T T' (b ∷ []) (c .at + 1) (c .text + 1) (rw (byte-peek doc (c .at) singled refl, ← here, s, add-one) refl) (omega arith) (omega arith) refl (omega arith) k)
-
-    pub itself-not : (T : List ℕ) → ((b ≡ 39) ⊎ (b ≡ 92) → ⊥) → Itself (No (c .at)) T T
-    itself-not T k =
-        let here : b ≡ peek doc (c .at) = step-byte doc c t h b n e in
-        text-refused doc c _ T T (c .at) (rw (byte-peek doc (c .at) singled refl, ← here, other 39 b (λ x. k (inl x)), other 92 b (λ x. k (inr x))) refl)
-
-pub ruleset selves = (itself-over, itself-read, itself-not, needs)

@@ -4,6 +4,7 @@ pub mod TextLaws
 pub mod EscapeLaws
 pub mod SpecialLaws
 pub mod CleanLaws
+pub mod SingleLaws
 pub mod StringLaws
 pub mod LeafLaws
 pub mod KeyLaws

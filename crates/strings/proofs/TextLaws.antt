@@ -115,7 +115,7 @@ module _ (doc : List ℕ) (c : Cursor) (b : ℕ) (small : b < 256) (t : Ans) (h 
         rw (take-next doc c b t h n e)
         (record { small = ready .small; inside = omega arith; fewRows = omega (arith, ready .fewRows); fewText = omega (arith, ready .fewText) })
 
-    front-is : (q : Reader (List ℕ)) → seqR (byteR (is (only b))) (λ _. q) (c .at) (drop (c .at) doc) ≡ q (n .at) (drop (n .at) doc)
+    pub front-is : (q : Reader (List ℕ)) → seqR (byteR (is (only b))) (λ _. q) (c .at) (drop (c .at) doc) ≡ q (n .at) (drop (n .at) doc)
     front-is q = rw (take-next doc c b t h n e, byte-is doc (c .at) b b small (take-byte doc c b t h n e) refl) refl
 
     pub front-read : (q : Reader (List ℕ)) (a : Ans) (T T' : List ℕ) → Texts doc n (q (n .at) (drop (n .at) doc)) a T T'

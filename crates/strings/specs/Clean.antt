@@ -8,9 +8,9 @@ use Rattle.language.specs.Kind.{STRING, BYTES, KEY}
 use Rattle.language.specs.Tree.{leaf}
 use Rattle.language.specs.Characters.{utf8, ascii}
 use Rattle.language.specs.Strings.{hexdigit, hexval, hexNumber, Code, lettered, standsFor, Escape, SingleEscape, Between, Quoted, Spanned, String, keybyte, Key, lowhex, Pair, Pairs, InlineBytes}
-use Rattle.exact.specs.Class.{Class, only, sub, _to_}
+use Rattle.exact.specs.Class.{Class, only, sub}
 use Rattle.utf8.specs.Clean.{Clean, ret-clean, here-clean, byte-clean, char-clean, seq-clean, alt-clean, star-clean, plus-clean, such-clean, word-clean}
-use Rattle.strings.specs.Quoted.{unquoted, unsingle}
+use Rattle.strings.specs.Quoted.{singled, unquoted, unsingle}
 
 spanned-clean : (kind : ℕ) {A : Lang (List ℕ)} → Clean A → Clean (Spanned kind A)
 spanned-clean kind c = seq-clean here-clean λ a. seq-clean c λ s. seq-clean here-clean λ e. ret-clean (leaf kind a e s)
@@ -26,7 +26,11 @@ escape-clean =
     (seq-clean (word-clean (117 ∷ 123 ∷ []) refl) λ _. seq-clean code-clean λ ds. seq-clean (byte-clean (only 125) refl) λ _. ret-clean (utf8 (hexNumber 0 ds)))
 
 pub singleEscape-clean : Clean SingleEscape
-singleEscape-clean = seq-clean (byte-clean (only 92) refl) λ _. seq-clean (byte-clean ((39 to 39) ∷ (92 to 92) ∷ []) refl) λ b. ret-clean (b ∷ [])
+singleEscape-clean =
+    seq-clean (byte-clean (only 92) refl) λ _.
+    alt-clean
+    (seq-clean (byte-clean singled refl) λ b. ret-clean (b ∷ []))
+    (seq-clean (char-clean unsingle refl) λ c. ret-clean (92 ∷ c))
 
 between-clean : (quote : ℕ) {E : Lang (List ℕ)} (others : Class) → sub (only quote) ascii ≡ true → sub others ascii ≡ true → Clean E → Clean (Between quote E others)
 between-clean quote others q h c =

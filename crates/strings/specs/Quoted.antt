@@ -40,8 +40,21 @@ singled = (39 to 39) ∷ (92 to 92) ∷ []
 abbrev pub itselfR : Reader (List ℕ)
 itselfR = seqR (byteR (is singled)) λ b. retR (b ∷ [])
 
+abbrev pub unsingle : Class
+unsingle = (32 to 38) ∷ (40 to 91) ∷ (93 to 126) ∷ []
+
+abbrev pub unescapedR : Reader (List ℕ)
+unescapedR = seqR (charR unsingle) λ c. retR (92 ∷ c)
+
+-- a backslash that stays as itself, read from itself on: its text is as long as it is
+abbrev pub keptR : Reader (List ℕ)
+keptR = seqR (byteR (is (only 92))) λ _. unescapedR
+
+abbrev pub singledR : Reader (List ℕ)
+singledR = altR (is singled) itselfR unescapedR
+
 unfoldable pub singleEscapeR : Reader (List ℕ)
-singleEscapeR = seqR (byteR (is (only 92))) λ _. itselfR
+singleEscapeR = seqR (byteR (is (only 92))) λ _. singledR
 
 abbrev pub escapeS : Shape
 escapeS = solid (only 92) []
@@ -63,7 +76,13 @@ escape-ll =
 
 pub singleEscape-ll : Ll escapeS SingleEscape singleEscapeR
 unfolding singleEscapeR
-singleEscape-ll = relax escapeS refl refl refl (seq-ll refl (byte₁ 92) λ _. seq-ll refl (byte-ll singled 39 refl) λ b. ret-ll (b ∷ []))
+singleEscape-ll =
+    relax
+    escapeS
+    refl
+    refl
+    refl
+    (seq-ll refl (byte₁ 92) λ _. alt-ll refl refl (seq-ll refl (byte-ll singled 39 refl) λ b. ret-ll (b ∷ [])) (seq-ll refl (char-ll unsingle) λ c. ret-ll (92 ∷ c)))
 
 -- BETWEEN QUOTES
 abbrev pub pieceR : Reader (List ℕ) → Class → Reader (List ℕ)
@@ -93,9 +112,6 @@ between-ll quote others e f l =
 
 abbrev pub unquoted : Class
 unquoted = (32 to 33) ∷ (35 to 91) ∷ (93 to 126) ∷ []
-
-abbrev pub unsingle : Class
-unsingle = (32 to 38) ∷ (40 to 91) ∷ (93 to 126) ∷ []
 
 abbrev pub doubleR : Reader (List ℕ)
 doubleR = betweenR 34 escapeR unquoted

@@ -53,21 +53,55 @@ unclosed : line stringR (34 ∷ 97 ∷ []) ≡ stop 2
 unfolding escapeR singleEscapeR betweenR quotedR stringR spannedR hexNumber
 unclosed = refl
 
--- `'\'"\\'` is `'"\`; `'\n'` at 2
+-- `'\'"\\'` is `'"\`
 single : line stringR (39 ∷ 92 ∷ 39 ∷ 34 ∷ 92 ∷ 92 ∷ 39 ∷ 10 ∷ []) ≡ acc (leaf STRING 0 7 (39 ∷ 34 ∷ 92 ∷ []))
 unfolding escapeR singleEscapeR betweenR quotedR stringR spannedR hexNumber
 single = refl
 
-single-letter : line stringR (39 ∷ 92 ∷ 110 ∷ 39 ∷ 10 ∷ []) ≡ stop 2
+-- Ticket 3: `'C:\img'` is `C:\img`; `'\n'` and `'\é'` have their backslashes too; LF behind one is refused at 3, a tab at 2
+path : line stringR (39 ∷ 67 ∷ 58 ∷ 92 ∷ 105 ∷ 109 ∷ 103 ∷ 39 ∷ 10 ∷ []) ≡ acc (leaf STRING 0 8 (67 ∷ 58 ∷ 92 ∷ 105 ∷ 109 ∷ 103 ∷ []))
+unfolding escapeR singleEscapeR betweenR quotedR stringR spannedR hexNumber
+path = refl
+
+single-letter : line stringR (39 ∷ 92 ∷ 110 ∷ 39 ∷ 10 ∷ []) ≡ acc (leaf STRING 0 4 (92 ∷ 110 ∷ []))
 unfolding escapeR singleEscapeR betweenR quotedR stringR spannedR hexNumber
 single-letter = refl
+
+single-wide : line stringR (39 ∷ 92 ∷ 195 ∷ 169 ∷ 39 ∷ 10 ∷ []) ≡ acc (leaf STRING 0 5 (92 ∷ 195 ∷ 169 ∷ []))
+unfolding escapeR singleEscapeR betweenR quotedR stringR spannedR hexNumber
+single-wide = refl
+
+back-line : line stringR (39 ∷ 97 ∷ 92 ∷ 10 ∷ []) ≡ stop 3
+unfolding escapeR singleEscapeR betweenR quotedR stringR spannedR hexNumber
+back-line = refl
+
+back-tab : line stringR (39 ∷ 92 ∷ 9 ∷ 39 ∷ 10 ∷ []) ≡ stop 2
+unfolding escapeR singleEscapeR betweenR quotedR stringR spannedR hexNumber
+back-tab = refl
+
+-- `'\'` and `'\\\'` are not closed; `'\\'` is one backslash; `'\\\''` a backslash and a single quote
+back-quote : line stringR (39 ∷ 92 ∷ 39 ∷ 10 ∷ []) ≡ stop 3
+unfolding escapeR singleEscapeR betweenR quotedR stringR spannedR hexNumber
+back-quote = refl
+
+back-open : line stringR (39 ∷ 92 ∷ 92 ∷ 92 ∷ 39 ∷ 10 ∷ []) ≡ stop 5
+unfolding escapeR singleEscapeR betweenR quotedR stringR spannedR hexNumber
+back-open = refl
+
+back-back : line stringR (39 ∷ 92 ∷ 92 ∷ 39 ∷ 10 ∷ []) ≡ acc (leaf STRING 0 4 (92 ∷ []))
+unfolding escapeR singleEscapeR betweenR quotedR stringR spannedR hexNumber
+back-back = refl
+
+back-back-quote : line stringR (39 ∷ 92 ∷ 92 ∷ 92 ∷ 39 ∷ 39 ∷ 10 ∷ []) ≡ acc (leaf STRING 0 6 (92 ∷ 39 ∷ []))
+unfolding escapeR singleEscapeR betweenR quotedR stringR spannedR hexNumber
+back-back-quote = refl
 
 -- the end of plane 1 is refused at its last byte
 plane-end : line stringR (34 ∷ 240 ∷ 159 ∷ 191 ∷ 190 ∷ 34 ∷ 10 ∷ []) ≡ stop 4
 unfolding escapeR singleEscapeR betweenR quotedR stringR spannedR hexNumber
 plane-end = refl
 
--- keys: `-5`, `""`, and `a b` refused at 1
+-- keys: `-5`, `""`, `'a\b'` with its backslash, and `a b` refused at 1
 bare : line keyR (45 ∷ 53 ∷ 10 ∷ []) ≡ acc (leaf KEY 0 2 (45 ∷ 53 ∷ []))
 unfolding escapeR singleEscapeR betweenR quotedR bareR nameR keyR spannedR hexNumber
 bare = refl
@@ -75,6 +109,10 @@ bare = refl
 empty-key : line keyR (34 ∷ 34 ∷ 10 ∷ []) ≡ acc (leaf KEY 0 2 [])
 unfolding escapeR singleEscapeR betweenR quotedR bareR nameR keyR spannedR hexNumber
 empty-key = refl
+
+back-key : line keyR (39 ∷ 97 ∷ 92 ∷ 98 ∷ 39 ∷ 10 ∷ []) ≡ acc (leaf KEY 0 5 (97 ∷ 92 ∷ 98 ∷ []))
+unfolding escapeR singleEscapeR betweenR quotedR bareR nameR keyR spannedR hexNumber
+back-key = refl
 
 two-words : line keyR (97 ∷ 32 ∷ 98 ∷ 10 ∷ []) ≡ stop 1
 unfolding escapeR singleEscapeR betweenR quotedR bareR nameR keyR spannedR hexNumber

@@ -3,16 +3,21 @@ ghost use mathlib.Core.Path.{_≡_};
 ghost use Prim.Native.Nat.{_+_, _%_, _≤_, _<_};
 ghost use lib.ListN.{length, drop, set};
 ghost use Rattle.language.specs.Strings.{scalar};
+ghost use Rattle.characters.specs.Plains.{plainOf};
 ghost use Rattle.rooms.specs.Contract.{ample, Ready};
 ghost use Rattle.strings.specs.Contract.{Letter, Digits, Halts, CodeAt, Stored, Texts};
-ghost use Rattle.strings.specs.Quoted.{bracedR, codedR, behindR, escapeR, itselfR, singleEscapeR};
+ghost use Rattle.strings.specs.Inside.{CharAt};
+ghost use Rattle.strings.specs.Quoted.{bracedR, codedR, behindR, escapeR, keptR, singleEscapeR};
 use super::digits::Digit;
 use super::digits::hex;
+use characters::Read;
 use characters::Reading;
 use characters::Skip;
+use characters::is_plain;
 use rooms::Ans;
 use rooms::Cursor;
 use rooms::Step;
+use rooms::copy;
 use rooms::put_byte;
 
 // The digits of `\u{..}`: the scalar value that they name and the place behind them, or the place where they are refused.
@@ -227,34 +232,67 @@ pub fn escape(doc: &[u8], text: &mut [u8], c: Cursor) -> Ans
     }
 }
 
-// What stands behind a backslash in single quotes, for itself: a single quote, or a backslash.
-fn itself(doc: &[u8], text: &mut [u8], c: Cursor) -> Ans
-    requires { ⌜ Ready (now doc) c ⌝ }
-    ensures { λ r. ⌜ Texts (now (doc .entry)) c (itselfR (c .at) (drop (c .at) (now (doc .entry)))) r (now (text .entry)) (now (text .exit)) ⌝ }
+// The character here, where it stands as it is in single quotes. It answers as `character` of clean.rt does: called from here too, that one would no longer be inlined in the loop over clean characters.
+fn unescaped(doc: &[u8], n: Reading) -> Read
+    ensures { λ r. ⌜ CharAt (plainOf 39) (now (doc .entry)) (n .at) r ⌝ }
 {
-    match c.step(&*doc) {
-        Step::Over => Ans::No(c.at),
-        Step::Byte(b, n) => match b {
-            39 | 92 => {
-                put_byte(text, c.text, b);
+    match n.scalar(&*doc) {
+        Read::Not(p) => Read::Not(p),
+        Read::Scalar(v, m) => {
+            if 127 < v {
+                return Read::Scalar(v, m);
+            }
+            if is_plain(v as u8, 39) {
+                return Read::Scalar(v, m);
+            }
+            Read::Not(n.at)
+        }
+    }
+}
+
+// A backslash that stays as itself in single quotes, and the character behind it: copied as they stand.
+fn kept(doc: &[u8], text: &mut [u8], c: Cursor) -> Ans
+    requires { ⌜ Ready (now doc) c ⌝ }
+    ensures { λ r. ⌜ Texts (now (doc .entry)) c (keptR (c .at) (drop (c .at) (now (doc .entry)))) r (now (text .entry)) (now (text .exit)) ⌝ }
+{
+    match c.take(&*doc, 92) {
+        Ans::No(p) => Ans::No(p),
+        Ans::Ok(n) => match unescaped(&*doc, Reading { at: n.at }) {
+            Read::Not(p) => Ans::No(p),
+            Read::Scalar(_, m) => {
+                let at = c.at;
+                let e = m.at;
+                copy(&*doc, at, e, text, c.text);
                 Ans::Ok(Cursor {
-                    at: n.at,
+                    at: e,
                     row: c.row,
-                    text: c.text + 1,
+                    text: c.text + (e - at),
                 })
             }
-            _ => Ans::No(c.at),
         },
     }
 }
 
-// An escape in single quotes.
+// A backslash in single quotes: an escape of a single quote or a backslash, or one that stays as itself.
 pub fn single_escape(doc: &[u8], text: &mut [u8], c: Cursor) -> Ans
     requires { ⌜ Ready (now doc) c ⌝ }
     ensures { λ r. ⌜ Texts (now (doc .entry)) c (singleEscapeR (c .at) (drop (c .at) (now (doc .entry)))) r (now (text .entry)) (now (text .exit)) ⌝ }
 {
     match c.take(&*doc, 92) {
         Ans::No(p) => Ans::No(p),
-        Ans::Ok(n) => itself(&*doc, text, n),
+        Ans::Ok(n) => match n.step(&*doc) {
+            Step::Over => Ans::No(n.at),
+            Step::Byte(b, m) => match b {
+                39 | 92 => {
+                    put_byte(text, c.text, b);
+                    Ans::Ok(Cursor {
+                        at: m.at,
+                        row: c.row,
+                        text: c.text + 1,
+                    })
+                }
+                _ => kept(&*doc, text, c),
+            },
+        },
     }
 }

@@ -162,7 +162,10 @@ fn main() -> ExitCode {
             checker.wrong
         );
     }
-    checker.characters(&mut b"\"".to_vec(), 0);
+    // Also behind a backslash that stays, where any character may stand as well.
+    for string in [&b"\""[..], b"'\\"] {
+        checker.characters(&mut string.to_vec(), 0);
+    }
     println!("{} documents with all characters, {} differences so far", checker.documents, checker.wrong);
     for _ in 0..documents {
         checker.random();

@@ -20,7 +20,7 @@ impl Reader for Faulty {
     }
 }
 
-const FAULTS: [(&str, Read); 16] = [
+const FAULTS: [(&str, Read); 18] = [
     ("one container more is let in", |_, doc, table, room| Second::with_nesting(33).read(doc, table, room)),
     ("a document without its last LF is let in", without_last_lf),
     ("a character broken off is SYNTAX", |second, doc, table, room| {
@@ -44,6 +44,15 @@ const FAULTS: [(&str, Read); 16] = [
             }
         })
     }),
+    ("a backslash that stays is no part of the text", |second, doc, table, room| {
+        rows(second, doc, table, room, |doc, table, row| {
+            let from = table[row + 1] as usize;
+            if doc[from..].starts_with(b"'\\") && !matches!(doc[from + 2], b'\'' | b'\\') {
+                table[row + 3] += 1
+            }
+        })
+    }),
+    ("LF behind a backslash is let in", lf_behind_backslash),
     ("the longest document is LONG", |second, doc, table, room| {
         if doc.len() == LONGEST {
             Err(Refusal { number: LONG, place: 0 })
@@ -151,6 +160,17 @@ fn without_last_lf(second: &mut Second, doc: &[u8], table: &mut [u32], room: &mu
     }
     let ended = [doc, b"\n"].concat();
     second.read(&ended, table, room).or_else(|_| second.read(doc, table, room))
+}
+
+/// Reads an LF that is refused behind a backslash as a space, which may stand there in single quotes.
+fn lf_behind_backslash(second: &mut Second, doc: &[u8], table: &mut [u32], room: &mut [u8]) -> Answer {
+    let no = match second.read(doc, table, room) {
+        Err(no) if no.number == SYNTAX && doc[..=no.place].ends_with(b"\\\n") => no,
+        answer => return answer,
+    };
+    let mut let_in = doc.to_vec();
+    let_in[no.place] = b' ';
+    second.read(&let_in, table, room)
 }
 
 /// Spoils each row of an accepted document, the last first.

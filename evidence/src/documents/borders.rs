@@ -1,10 +1,10 @@
-//! The borders of document 01 and the examples of the readings, with their answers.
+//! The borders of documents 01 and 02 and the examples of the readings, with their answers.
 
 use super::grow::Meant;
 use crate::second::{Refusal, LONG, LONGEST};
 use crate::vectors;
 
-const ANSWERS: [(&str, &str); 45] = [
+const ANSWERS: [(&str, &str); 63] = [
     ("", "no 5 0"),
     ("1", "no 5 1"),
     ("[1, 22]\n", "ok 3 3 8,0,7,0,2,0,3,4,1,2,0,1,0,2,4,4,6,1,3,0,3 313232"),
@@ -50,6 +50,24 @@ const ANSWERS: [(&str, &str); 45] = [
     ("\n", "no 3 0"),
     ("#\n", "no 5 2"),
     ("#", "no 5 1"),
+    ("'C:\\img'\n", "ok 1 6 6,0,8,0,6,0,1 433a5c696d67"),
+    ("'\\u{41}'\n", "ok 1 6 6,0,8,0,6,0,1 5c757b34317d"),
+    ("'\\é'\n", "ok 1 3 6,0,5,0,3,0,1 5cc3a9"),
+    ("'\\😀'\n", "ok 1 5 6,0,7,0,5,0,1 5cf09f9880"),
+    ("'\\\\'\n", "ok 1 1 6,0,4,0,1,0,1 5c"),
+    ("'\\\\\\''\n", "ok 1 2 6,0,6,0,2,0,1 5c27"),
+    ("'\\\\\\'\n", "no 3 5"),
+    ("'C:\\'\n", "no 3 5"),
+    ("'\\'\n", "no 3 3"),
+    ("'a\\\n", "no 3 3"),
+    ("'a\\", "no 5 3"),
+    ("'\\\t'\n", "no 2 2"),
+    ("'\\\u{7F}'\n", "no 2 2"),
+    ("'\\a': 1\n", "ok 3 3 9,0,7,0,1,0,3,10,0,4,0,2,0,2,4,6,7,2,3,0,3 5c6131"),
+    ("{'\\a': '\\\\'}\n", "ok 3 3 9,0,12,0,1,0,3,10,1,5,0,2,0,2,6,7,11,2,3,0,3 5c615c"),
+    ("'\\a': 1\n\"\\\\a\": 2\n", "no 6 8"),
+    ("a:\n  'x\\y'\n  '\\z'\n", "ok 3 6 9,0,17,0,1,0,3,10,0,1,0,1,0,2,6,5,17,1,6,0,3 61785c795c7a"),
+    ("a:\n  'x\\y'\n  '\\\n", "no 3 15"),
 ];
 
 /// Each border with its answer.

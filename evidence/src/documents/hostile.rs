@@ -3,7 +3,7 @@
 /// A shape's name and how a document of about so many bytes is made.
 type Shape = (&'static str, fn(usize) -> Vec<u8>);
 
-pub const HOSTILE: [Shape; 43] = [
+pub const HOSTILE: [Shape; 44] = [
     ("32 KB of `- `", |size| filled("", "- ", "", size)),
     ("32 KB of `[`", |size| filled("", "[", "", size)),
     ("all spaces", |size| filled("", " ", "", size)),
@@ -16,6 +16,7 @@ pub const HOSTILE: [Shape; 43] = [
     ("one long string", |size| filled("\"", "s", "\"\n", size)),
     ("one long string of escapes", |size| filled("\"", "\\u{1F600}", "\"\n", size)),
     ("one long single-quoted string of escapes", |size| filled("'", "\\\\", "'\n", size)),
+    ("one long single-quoted string of backslashes that stay", |size| filled("'", "\\n", "'\n", size)),
     ("one long integer", |size| filled("", "7", "\n", size)),
     ("one long integer with spaces", |size| filled("", "7 ", "7\n", size)),
     ("one long integer of zeros", |size| filled("", "0", "\n", size)),

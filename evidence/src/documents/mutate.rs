@@ -1,5 +1,5 @@
-//! Changed documents: bytes changed, dropped, doubled, put in, lines swapped,
-//! doubled, dropped or joined, indentation shifted, ends cut.
+//! Changed documents: bytes changed, dropped, doubled, put in, also just behind a backslash,
+//! lines swapped, doubled, dropped or joined, indentation shifted, ends cut.
 
 use super::Rng;
 
@@ -22,7 +22,7 @@ fn change(rng: &mut Rng, doc: &mut Vec<u8>) {
         return;
     }
     let at = rng.below(doc.len());
-    match rng.below(12) {
+    match rng.below(13) {
         0 | 1 => doc[at] = byte(rng),
         2 => doc[at] ^= 1 << rng.below(8),
         3 => drop(doc.remove(at)),
@@ -30,12 +30,23 @@ fn change(rng: &mut Rng, doc: &mut Vec<u8>) {
         5 | 6 => doc.insert(at, byte(rng)),
         7 => doc.truncate(at),
         8 | 9 => shift(rng, doc, at),
+        10 => change_behind_backslash(rng, doc, at),
         _ => change_lines(rng, doc),
     }
 }
 
 fn byte(rng: &mut Rng) -> u8 {
     BYTES[rng.below(BYTES.len())]
+}
+
+/// Changes or puts in a byte behind the first backslash from `at` on, or ends the document there.
+fn change_behind_backslash(rng: &mut Rng, doc: &mut Vec<u8>, at: usize) {
+    let Some(behind) = doc[at..].iter().position(|&byte| byte == b'\\').map(|found| at + found + 1) else { return };
+    match rng.below(3) {
+        0 => doc.truncate(behind),
+        1 if behind < doc.len() => doc[behind] = byte(rng),
+        _ => doc.insert(behind, byte(rng)),
+    }
 }
 
 /// Puts in or takes away one to three spaces at the start of the line around `at`.

@@ -107,9 +107,9 @@ pub fn quoted(rng: &mut Rng) -> (String, Vec<u8>) {
     let mut written = String::from(quote);
     let mut meant = String::new();
     for _ in 0..length(rng) {
-        let (form, scalar) = if double { double_piece(rng) } else { single_piece(rng) };
+        let (form, text) = if double { double_piece(rng) } else { single_piece(rng) };
         written.push_str(&form);
-        meant.push(scalar);
+        meant.push_str(&text);
     }
     written.push(quote);
     (written, meant.into_bytes())
@@ -130,44 +130,48 @@ pub fn written_anew(rng: &mut Rng, key: &[u8]) -> String {
     format!("\"{}\"", text.chars().map(piece).collect::<String>())
 }
 
-fn single_piece(rng: &mut Rng) -> (String, char) {
+/// A piece of a single-quoted string as written, and its text: an escape, a character, or one with a backslash before it
+/// that stays.
+fn single_piece(rng: &mut Rng) -> (String, String) {
     match character(rng) {
-        scalar @ ('\'' | '\\') => (format!("\\{scalar}"), scalar),
-        scalar => (scalar.to_string(), scalar),
+        scalar @ ('\'' | '\\') => (format!("\\{scalar}"), scalar.to_string()),
+        scalar if rng.once_in(6) => (format!("\\{scalar}"), format!("\\{scalar}")),
+        scalar => (scalar.to_string(), scalar.to_string()),
     }
 }
 
-fn double_piece(rng: &mut Rng) -> (String, char) {
-    const ESCAPES: [(&str, char); 8] = [
-        ("\\\"", '"'),
-        ("\\\\", '\\'),
-        ("\\/", '/'),
-        ("\\b", '\u{8}'),
-        ("\\f", '\u{C}'),
-        ("\\n", '\n'),
-        ("\\r", '\r'),
-        ("\\t", '\t'),
+/// A piece of a double-quoted string as written, and its text: an escape or a character.
+fn double_piece(rng: &mut Rng) -> (String, String) {
+    const ESCAPES: [(&str, &str); 8] = [
+        ("\\\"", "\""),
+        ("\\\\", "\\"),
+        ("\\/", "/"),
+        ("\\b", "\u{8}"),
+        ("\\f", "\u{C}"),
+        ("\\n", "\n"),
+        ("\\r", "\r"),
+        ("\\t", "\t"),
     ];
     match rng.below(8) {
         0 => {
-            let (form, scalar) = ESCAPES[rng.below(8)];
-            (form.to_string(), scalar)
+            let (form, text) = ESCAPES[rng.below(8)];
+            (form.to_string(), text.to_string())
         }
         1 => scalar_escape(rng),
         _ => match character(rng) {
-            scalar @ ('"' | '\\') => (format!("\\{scalar}"), scalar),
-            scalar => (scalar.to_string(), scalar),
+            scalar @ ('"' | '\\') => (format!("\\{scalar}"), scalar.to_string()),
+            scalar => (scalar.to_string(), scalar.to_string()),
         },
     }
 }
 
-fn scalar_escape(rng: &mut Rng) -> (String, char) {
+fn scalar_escape(rng: &mut Rng) -> (String, String) {
     const SOME: [u32; 10] = [0, 0x7F, 0x80, 0xD7FF, 0xE000, 0xFFFE, 0xFFFF, 0xD8000, 0x10FFFF, 0x61];
     let point = if rng.once_in(2) { SOME[rng.below(10)] } else { rng.below(0x110000) as u32 };
     let scalar = char::from_u32(point).unwrap_or('\u{FFFD}');
     let short = if rng.once_in(2) { format!("{:x}", scalar as u32) } else { format!("{:X}", scalar as u32) };
     let zeros = rng.below(7 - short.len());
-    (format!("\\u{{{}{short}}}", "0".repeat(zeros)), scalar)
+    (format!("\\u{{{}{short}}}", "0".repeat(zeros)), scalar.to_string())
 }
 
 /// Hex pairs as written with single spaces between some, and the bytes.

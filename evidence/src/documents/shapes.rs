@@ -5,7 +5,7 @@ use super::{pieces, Rng};
 /// A shape's name and how a document of about so many bytes is made.
 type Shape = (&'static str, fn(&mut Rng, usize) -> String);
 
-pub const SHAPES: [Shape; 11] = [
+pub const SHAPES: [Shape; 12] = [
     ("flat object of short keys", flat_short),
     ("flat object of mixed values", flat_mixed),
     ("array of small records", records),
@@ -14,6 +14,7 @@ pub const SHAPES: [Shape; 11] = [
     ("floats", floats),
     ("long ASCII strings", ascii),
     ("non-ASCII strings", non_ascii),
+    ("single-quoted Windows paths", windows_paths),
     ("block strings", block_strings),
     ("block bytes", block_bytes),
     ("realistic profile", profile),
@@ -83,6 +84,13 @@ fn non_ascii(rng: &mut Rng, size: usize) -> String {
     fill(size, |_| {
         let word = rng.pick(&["größe ", "日本語の文字列 ", "Ελληνικά ", "😀 emoji ", "кириллица "]);
         format!("- \"{}\"\n", word.repeat(6))
+    })
+}
+
+fn windows_paths(rng: &mut Rng, size: usize) -> String {
+    fill(size, |i| {
+        let folder = rng.pick(&["img", "Program Files", "Users\\Lager", "Größe"]);
+        format!("- 'C:\\{folder}\\halle {}\\image-{i}.bin'\n", rng.below(20))
     })
 }
 

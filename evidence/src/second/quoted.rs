@@ -28,17 +28,17 @@ impl Pass<'_> {
             if doc[to] != b'\\' {
                 return Err(Stop::At(to));
             }
-            from = if quote == b'"' { self.escape(to + 1)? } else { self.single_escape(to + 1)? };
+            from = if quote == b'"' { self.escape(to + 1)? } else { self.single_escape(to + 1) };
         }
     }
 
-    fn single_escape(&mut self, at: usize) -> Step<usize> {
+    /// What stands after a backslash in single quotes: `'` or `\` for itself. Before anything else the backslash stays,
+    /// and what it stands before is read like the rest of the string, of which LF is no part.
+    fn single_escape(&mut self, at: usize) -> usize {
         let byte = self.doc[at];
-        if byte != b'\'' && byte != b'\\' {
-            return Err(Stop::At(at));
-        }
-        self.tree.text.push(byte);
-        Ok(at + 1)
+        let escaped = byte == b'\'' || byte == b'\\';
+        self.tree.text.push(if escaped { byte } else { b'\\' });
+        at + usize::from(escaped)
     }
 
     /// What stands after a backslash in double quotes.

@@ -1,4 +1,4 @@
-//! Document 01's grammar: for each symbol its alternatives, in the paper's order.
+//! Document 01's grammar, as document 02 mends it: for each symbol its alternatives, in the paper's order.
 
 use super::characters::Part;
 use super::symbols::Symbol::{self, *};
@@ -113,6 +113,8 @@ fn of_strings(symbol: Symbol) -> Rules {
             vec![Byte(b'\'')],
             vec![but(But::Single), SingleRest],
             vec![bar, OneOf(Class::SingleEscape), SingleRest],
+            // Ticket 3: "a backslash before any other allowed character but LF stays as itself, that character too".
+            vec![bar, but(But::Single), SingleRest],
         ],
         Key => vec![vec![OneOf(Class::Key), BareRest], vec![Quoted]],
         BareRest => vec![vec![], vec![OneOf(Class::Key), BareRest]],

@@ -19,7 +19,7 @@ fn check_says_ok() {
 fn every_example_is_good() {
     let folder = std::fs::read_dir(example("")).expect("examples/");
     let files: Vec<_> = folder.map(|entry| entry.expect("listed").path().to_str().unwrap().to_owned()).collect();
-    assert!(files.len() >= 4);
+    assert!(files.len() >= 5);
     let words: Vec<_> = ["check"].into_iter().chain(files.iter().map(String::as_str)).collect();
     let out = good(&words, b"");
     assert_eq!(out.lines().last(), Some(format!("{} ok, 0 refused", files.len()).as_str()));
@@ -59,6 +59,23 @@ fn get_follows_keys_and_numbers() {
         assert_eq!(good(&words, b""), value, "{keys:?}");
     }
     assert_eq!(good(&["get", "-"], b"null\n"), "null\n");
+}
+
+#[test]
+fn windows_paths_stay_as_they_are() {
+    let forklift = example("forklift.yay");
+    for (keys, value) in [
+        (&["image-folder"][..], "C:\\img\n"),
+        (&["folders", "maps"], "D:\\Halle 3\\Größe XL\n"),
+        (&["folders", "log"], "D:\\log\\\n"),
+        (&["folders", "share"], "\\\\store-7\\images\n"),
+        (&["registry", "HKLM\\Software\\Terminal\\Beeps"], "false\n"),
+        (&["start"], "C:\\Program Files\\Terminal\\start.exe --operator 'night shift'\n"),
+    ] {
+        let words: Vec<_> = ["get", &forklift].into_iter().chain(keys.iter().copied()).collect();
+        assert_eq!(good(&words, b""), value, "{keys:?}");
+    }
+    assert_eq!(good(&["get", "-j", &forklift, "image-folder"], b""), "\"C:\\\\img\"\n");
 }
 
 #[test]

@@ -14,6 +14,11 @@ pub fn leaves_quote_open(at: &At) -> bool {
     opened(at).is_some_and(|(_, byte)| matches!(byte, b'"' | b'\''))
 }
 
+/// Whether a path's last backslash escapes the quote that was to close it, as in `'C:\'`.
+pub fn ends_in_escaped_quote(at: &At) -> bool {
+    leaves_quote_open(at) && at.before().ends_with(b"\\'") && at.helps(at.place - 1..at.place, b"\\'")
+}
+
 pub fn leaves_bracket_open(at: &At) -> bool {
     opened(at).is_some()
 }
@@ -36,30 +41,29 @@ pub fn is_behind_quote(at: &At) -> bool {
     scan(at.before()).ended.is_some() && at.byte().is_some_and(|byte| byte.is_ascii_alphanumeric() || byte >= 0x80)
 }
 
-/// What stands behind the backslash of an escape up to the place, and the quote that it stands in.
-fn escape<'d>(at: &At<'d>) -> Option<(&'d [u8], u8)> {
+/// What stands behind the backslash of an escape in double quotes up to the place. In single quotes no backslash is
+/// refused for what stands behind it, but for a line's end, which leaves the quote open.
+fn escape<'d>(at: &At<'d>) -> Option<&'d [u8]> {
     let before = at.before();
-    let quote = scan(before).quote()?;
+    scan(before).quote().filter(|quote| *quote == b'"')?;
     let slash = before.iter().rposition(|byte| *byte == b'\\')?;
     // A backslash that is itself escaped begins nothing.
     let slashes = before[..=slash].iter().rev().take_while(|byte| **byte == b'\\').count();
-    (slashes % 2 == 1).then_some((&before[slash + 1..], quote))
+    (slashes % 2 == 1).then_some(&before[slash + 1..])
 }
 
-pub fn is_escape(at: &At, quote: u8) -> bool {
-    escape(at).is_some_and(|(begun, inside)| begun.is_empty() && inside == quote)
+pub fn is_escape(at: &At) -> bool {
+    escape(at).is_some_and(<[u8]>::is_empty)
 }
 
 /// The digits of `\x41` or `\u0041`, which would stand in braces.
 pub fn unbraced<'d>(at: &At<'d>) -> Option<&'d [u8]> {
-    let (begun, quote) = escape(at)?;
-    let (digits, count) = match (begun, at.rest()) {
+    let (digits, count) = match (escape(at)?, at.rest()) {
         (b"", [b'x', digits @ ..]) => (digits, 2),
         (b"u", digits) => (digits, 4),
         _ => return None,
     };
-    let digits = digits.get(..count).filter(|digits| digits.iter().all(u8::is_ascii_hexdigit));
-    digits.filter(|_| quote == b'"')
+    digits.get(..count).filter(|digits| digits.iter().all(u8::is_ascii_hexdigit))
 }
 
 pub fn is_unbraced(at: &At) -> bool {
@@ -67,7 +71,7 @@ pub fn is_unbraced(at: &At) -> bool {
 }
 
 pub fn is_number_escape(at: &At) -> bool {
-    escape(at).is_some_and(|(begun, _)| begun.starts_with(b"u"))
+    escape(at).is_some_and(|begun| begun.starts_with(b"u"))
 }
 
 /// Whether a hex digit may stand here, and no other letter.

@@ -105,6 +105,10 @@ pub const TABLE: &[Row] = &[
     syntax(is_spaced_number, "$here; in brackets a number has no spaces, and \",\" and one space stand between two"),
     syntax(lacks_comma, "$here; \",\" and one space must stand between two"),
     // What is not closed.
+    syntax(
+        ends_in_escaped_quote,
+        "$here; $opened is not closed; \\' stands for a quote, and a backslash at a string's end is \\\\",
+    ),
     syntax(leaves_quote_open, "$here; $opened is not closed"),
     syntax(leaves_bracket_open, "$here; $opened is not closed on this line"),
     // Bytes, and lines that stand at the wrong column.
@@ -118,11 +122,7 @@ pub const TABLE: &[Row] = &[
     // Quotes and escapes.
     syntax(is_unbraced, "$here; write $braced"),
     syntax(is_number_escape, "$here; \\u{…} holds 1 to 6 hex digits, up to 10FFFF and none of D800 to DFFF"),
-    syntax(
-        |at| is_escape(at, b'"'),
-        "$here; behind a backslash stands one of \" \\ / b f n r t u, and a backslash itself is \\\\",
-    ),
-    syntax(|at| is_escape(at, b'\''), "$here; in single quotes ' or \\ alone may stand behind a backslash"),
+    syntax(is_escape, "$here; behind a backslash stands one of \" \\ / b f n r t u, and a backslash itself is \\\\"),
     syntax(has_comma_at_end, "$here; no \",\" may end a property or an item"),
     syntax(is_pair_without_value, "$here; the key before it has no value"),
     syntax(is_pair_in_array, "$here; pairs stand in { and }"),
