@@ -137,13 +137,16 @@ fn row_at(b: u8) -> bool {
     }
 }
 
-// Whether the first bytes promise more rows than rooms of our own have. A wrong guess costs time alone.
+// Whether the first bytes promise more rows than rooms of our own have; short documents have no more than a row for two bytes. A wrong guess costs time alone.
 fn dense(doc: &[u8]) -> bool
     requires { ⌜ length (now doc) ≤ limit ⌝ }
 {
     let n = doc.len();
     let mut ends = 0;
     let mut i = 0;
+    if n <= 2 * ROWS {
+        return false;
+    }
     while i < FEW && i < n {
         if row_at(doc[i]) {
             ends += 1;

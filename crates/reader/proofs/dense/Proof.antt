@@ -14,6 +14,12 @@ Inv-loop doc n ends₀ i₀ ends i = (ends ≤ i) × (i ≤ 1024)
 abbrev μ-loop : tie.MeasureT-loop
 μ-loop doc n ends₀ i₀ ends i = 1024 - i
 
+mul-if1 : tie.Need-mul-if1 Inv-loop μ-loop
+mul-if1 c = search needs
+
+returns : tie.Need-returns Inv-loop μ-loop
+returns c = search needs
+
 loop-holds : tie.Need-loop-holds Inv-loop μ-loop
 loop-holds c = search needs
 
@@ -33,16 +39,16 @@ loop-less : tie.Need-loop-less Inv-loop μ-loop
 loop-less c = search needs
 
 loop-again : tie.Need-loop-again Inv-loop μ-loop
-loop-again c = ⊎-elim (λ w. search needs) (λ w. search needs) (c .if2 .came)
+loop-again c = ⊎-elim (λ w. search needs) (λ w. search needs) (c .if3 .came)
 
 mul-result : tie.Need-mul-result Inv-loop μ-loop
 mul-result c = search needs
 
 mul-result-2 : tie.Need-mul-result-2 Inv-loop μ-loop
-mul-result-2 c = omega (arith, mul-le-mul {n₁ = c .before .loop .ends} {m₁ = length (c .before .before .before .args .doc .now)} {n₂ = 1024} {m₂ = 32768} (omega arith) (omega arith))
+mul-result-2 c = omega (arith, mul-le-mul {n₁ = c .before .loop .ends} {m₁ = length (c .before .before .before .before .args .doc .now)} {n₂ = 1024} {m₂ = 32768} (omega arith) (omega arith))
 
-returns : tie.Need-returns Inv-loop μ-loop
-returns c = search needs
+returns-2 : tie.Need-returns-2 Inv-loop μ-loop
+returns-2 c = search needs
 
 pub dense-spec : {M : Type 1} → statement M
 dense-spec =
@@ -50,6 +56,8 @@ dense-spec =
     (tie.spec
     Inv-loop
     μ-loop
+    mul-if1
+    returns
     loop-holds
     shared-slice-read-row-at
     row-at-requires
@@ -59,4 +67,4 @@ dense-spec =
     loop-again
     mul-result
     mul-result-2
-    returns)
+    returns-2)
