@@ -10,7 +10,7 @@ use Rattle.language.specs.Tree.{Tree, Field, field, leaf, forest, sizes, count}
 use Rattle.language.specs.Kind.{KEY}
 use Rattle.language.specs.Answered.{limit}
 use Rattle.exact.specs.Class.{is}
-use Rattle.exact.specs.Out.{Out, Reader, bind, ok, soft, bad, Tamed, t-ok, t-soft, forward}
+use Rattle.exact.specs.Out.{Out, Reader, bind}
 use Rattle.exact.specs.Lang.{retR}
 use Rattle.exact.specs.Comb.{seqR}
 use Rattle.exact.specs.Ll.{wordR, word-ll}
@@ -26,8 +26,8 @@ use Rattle.rooms.specs.Laws
 use Rattle.numbers.specs.Plain.{plainR}
 use Rattle.notes.specs.Flat.{flats}
 use Rattle.notes.specs.Noted.{noted}
-use Rattle.notes.specs.Notes.{Gives, gives-ok, gives-soft, gives-none, gives-fmap, Kept, Notes, one, kept-wide, kept-trees, kept-node, notes-known, notes-bad}
-use Rattle.notes.specs.Bare.{Every, Bare, notes-bare, keyed, kept-key}
+use Rattle.notes.specs.Notes.{Gives, gives-ok, gives-fmap, gives-behind, Kept, Notes, one, kept-wide, kept-trees, kept-node, notes-known, notes-bad}
+use Rattle.notes.specs.Bare.{Always, Bare, notes-bare, keyed, kept-key}
 use Rattle.inline.specs.declared.Sep.{Sep}
 use Rattle.inline.specs.declared.Sep.the-variants.{Last, Bad}
 use Rattle.inline.specs.Lists.{inlinePairR}
@@ -41,7 +41,7 @@ use Rattle.inline.proofs.Choices.{chosen-deep, chosen-scalar, chosen-di
 
 -- ---- a scalar
 
-module _ (doc : List ℕ) (c : Cursor) (p row parent : ℕ) (o : Out Tree) (R R' T T' S : List ℕ) (b : Every Bare o) where
+module _ (doc : List ℕ) (c : Cursor) (p row parent : ℕ) (o : Out Tree) (R R' T T' S : List ℕ) (b : Always Bare o) where
   taken-noted : (n : Cursor) (far : ℕ) → Taken doc c p o n far R R' T T' → Notes one doc (c .at) row parent o S S
   taken-noted n far t = notes-bare b far (t .tree) (n .at) (drop (n .at) doc) (t .is) (omega (arith, t .span .ahead))
 
@@ -133,12 +133,7 @@ element-noted doc at row parent o S S' x = record { kept = x .kept }
 
 -- the key before a colon
 colon-gives : (m : ℕ) (s : List ℕ) (k : Tree) {v : Tree} {a : ℕ} → Gives (bind (wordR (58 ∷ 32 ∷ []) m s) (λ _. retR k)) v a → (v ≡ k) × (m ≤ a)
-colon-gives m s k x = go (wordR (58 ∷ 32 ∷ []) m s) (word-ll (58 ∷ 32 ∷ []) .exact .moves .tame m s) x
-  where
-    go : (o : Out ℕ) → Tamed 1 m s o → {v : Tree} {a : ℕ} → Gives (bind o (λ _. retR k)) v a → (v ≡ k) × (m ≤ a)
-    go (ok w b t) (t-ok n) gives-ok = (refl, omega (arith, forward n))
-    go (soft p w b t) (t-soft _ n l) gives-soft = (refl, omega (arith, forward n))
-    go (bad p) n y = absurd (gives-none y)
+colon-gives m s k x = gives-behind (wordR (58 ∷ 32 ∷ []) m s) (word-ll (58 ∷ 32 ∷ []) .exact .moves .tame m s) k x
 
 module _ (doc : List ℕ) (c : Cursor) (p : ℕ) (r : Reader Tree) (a : Ans) (R R' T T' : List ℕ) (w : Answers doc c p (labelR (c .at) (drop (c .at) doc)) a R R' T T') (S S' : List ℕ) where
   pub label-bad : (q : ℕ) → a ≡ No q → Notes (members true) doc (c .at) (c .row) p (inlinePairR r (c .at) (drop (c .at) doc)) S S'

@@ -1,23 +1,23 @@
 -- What lines and leaves note: block strings, block bytes and joined strings have no keys; a line has those of its value. Assumes nothing.
-use mathlib.Core.Path.{_≡_, refl, sym, ap, subst, _∙_}
-use mathlib.Core.List.{List, [], _∷_, _++_}
+use mathlib.Core.Path.{_≡_, refl, subst}
+use mathlib.Core.List.{List, [], _∷_}
 use mathlib.Core.Bool.{Bool, true, false}
-use Prim.Native.Nat.{ℕ, suc, _+_, _≤_}
+use Prim.Native.Nat.{ℕ, _≤_}
 use native.Mathlib.Omega.{arith}
-use lib.ListN.{length, drop}
+use lib.ListN.{drop}
 use borrow.Author.Needs.{needs}
-use Rattle.language.specs.Kind.{KEY}
-use Rattle.language.specs.Tree.{Tree, leaf, forest}
-use Rattle.exact.specs.Out.{Out, Reader, Tamed, Tame, forward, bind, fmap, ok, soft, bad, t-ok, t-soft, t-bad}
+use Rattle.language.specs.Tree.{Tree}
+use Rattle.exact.specs.Out.{Out, Reader, Tamed, Tame, ok, soft, bad}
 use Rattle.exact.specs.Comb.{seqR, mapR}
-use Rattle.exact.specs.Ll.{wordR}
+use Rattle.exact.specs.Ll.{wordR, seq-ll, byte₁}
 use Rattle.exact.specs.Block.{indentedR}
 use Rattle.exact.specs.Class.{is, only}
 use Rattle.exact.specs.Lang.{retR, byteR}
 use Rattle.exact.specs.Place.{peek, alt-is, alt-not}
-use Rattle.notes.specs.Flat.{flat, flats, flats-one}
-use Rattle.notes.specs.Bare.{Every, every-ok, every-bind, every-alt, Bare}
-use Rattle.notes.specs.Notes.{Gives, gives-ok, gives-soft, gives-none, Kept, kept-none, kept-wide, Notes, one}
+use Rattle.characters.specs.Comments.{optionalComment-ll}
+use Rattle.notes.specs.Flat.{flat, flats-one}
+use Rattle.notes.specs.Bare.{Always, every-ok, every-bind, every-alt, Bare}
+use Rattle.notes.specs.Notes.{Gives, gives-ok, gives-soft, gives-none, gives-forward, gives-bind, gives-behind, kept-none, kept-wide, Notes, one}
 use Rattle.language.specs.BlockText.{Line}
 use Rattle.blocktext.specs.Led.{ledR}
 use Rattle.blocktext.specs.Plus.{plusR}
@@ -26,40 +26,18 @@ use Rattle.blocktext.specs.TextLines.{bodyR}
 use Rattle.blocktext.specs.HexLines.{hexRestR, hexLineR, hexLinesR}
 use Rattle.blocktext.specs.BlockStrings.{belowR, leaderTextR, openStringTree, openStringRestR, openStringR, openString-exact, propertyStringTree, propertyStringR, propertyString-exact}
 use Rattle.blocktext.specs.BlockBytes.{bytesTree, leaderCommentR, openBytesRestR, openBytesR, openBytes-exact, propertyBytesRestR, propertyBytesR, propertyBytes-exact}
-use Rattle.blocktext.specs.Joined.{quotes, joinedTree, joinedLineR, joinedMoreR, joinedR, joined-exact}
+use Rattle.blocktext.specs.Joined.{quotes, joinedTree, joinedLineR, joinedMoreR, joinedR}
 use Rattle.inline.specs.Values.{valueR}
 use Rattle.blocks.specs.Or.{merge}
-use Rattle.blocks.specs.ValueLine.{lineR, feed-ending, comment-ending}
+use Rattle.blocks.specs.ValueLine.{lineR}
 use Rattle.blocks.specs.Property.{onR}
 use Rattle.blocks.specs.Openers.{openerR, nestedLineR, nestedLine-exact}
-use Rattle.judge.specs.Contract.{endsR, endR}
+use Rattle.judge.specs.Contract.{feedR, endsR, endR}
 use Rattle.judge.proofs.Lining.{end-is}
 
 -- ---- answers that give a value
 
--- it ends no earlier than it begins
-pub gives-forward : {X : Type 0} {d at : ℕ} {s : List ℕ} {o : Out X} {v : X} {a : ℕ} → Tamed d at s o → Gives o v a → at ≤ a
-gives-forward (t-ok m) gives-ok = omega (arith, forward m)
-gives-forward (t-soft p m l) gives-soft = omega (arith, forward m)
-
--- by a reader behind another
-record Bound {X Y : Type 0} (o : Out X) (q : X → Reader Y) (w : Y) (a : ℕ) : Type 0 where
-  value : X
-  middle : ℕ
-  left : List ℕ
-  first : Gives o value middle
-  second : Gives (q value middle left) w a
-
-gives-raise : {X : Type 0} (p : ℕ) (o : Out X) {v : X} {a : ℕ} → Gives (bind (soft p 0 0 []) (λ (_ n : ℕ) (s : List ℕ). o)) v a → Gives o v a
-gives-raise p (ok v a s) gives-soft = gives-ok
-gives-raise p (soft q v a s) gives-soft = gives-soft
-gives-raise p (bad q) x = absurd (gives-none x)
-
-gives-bind : {X Y : Type 0} (o : Out X) (q : X → Reader Y) {w : Y} {a : ℕ} → Gives (bind o q) w a → Bound o q w a
-gives-bind (ok v m t) q x = record { value = v; middle = m; left = t; first = gives-ok; second = x }
-gives-bind (soft p v m t) q x = record { value = v; middle = m; left = t; first = gives-soft; second = gives-raise p (q v m t) x }
-gives-bind (bad p) q x = absurd (gives-none x)
-
+-- of two readers of which the other is refused
 pub gives-merge : {X : Type 0} (o : Out X) (p : ℕ) {v : X} {a : ℕ} → Gives (merge o (bad p)) v a → Gives o v a
 gives-merge (ok v a s) p gives-ok = gives-ok
 gives-merge (soft q v a s) p gives-soft = gives-soft
@@ -67,7 +45,7 @@ gives-merge (bad q) p x = absurd (gives-none x)
 
 -- ---- leaves
 
-leaf-notes : {d : ℕ} (q : Reader Tree) → Tame d q → ((at : ℕ) (s : List ℕ) → Every Bare (q at s))
+leaf-notes : {d : ℕ} (q : Reader Tree) → Tame d q → ((at : ℕ) (s : List ℕ) → Always Bare (q at s))
     → (doc : List ℕ) (at row p : ℕ) (S : List ℕ) → Notes one doc at row p (q at (drop at doc)) S S
 leaf-notes q t h doc at row p S =
     record {
@@ -76,33 +54,33 @@ leaf-notes q t h doc at row p S =
           (kept-none doc at a S (gives-forward (t .tame at (drop at doc)) g));
     }
 
-map-bare : {X : Type 0} (g : X → Tree) (r : Reader X) → ((x : X) → Bare (g x)) → (at : ℕ) (s : List ℕ) → Every Bare (mapR g r at s)
+map-bare : {X : Type 0} (g : X → Tree) (r : Reader X) → ((x : X) → Bare (g x)) → (at : ℕ) (s : List ℕ) → Always Bare (mapR g r at s)
 map-bare g r h at s = every-bind (r at s) (λ x. retR (g x)) (λ x a t. every-ok (h x))
 
-led-bare : {X : Type 0} (r : Reader X) (k : ℕ → X → Reader Tree) → ((a : ℕ) (x : X) (at : ℕ) (s : List ℕ) → Every Bare (k a x at s)) → (at : ℕ) (s : List ℕ) → Every Bare (ledR r k at s)
+led-bare : {X : Type 0} (r : Reader X) (k : ℕ → X → Reader Tree) → ((a : ℕ) (x : X) (at : ℕ) (s : List ℕ) → Always Bare (k a x at s)) → (at : ℕ) (s : List ℕ) → Always Bare (ledR r k at s)
 led-bare r k h at s = every-bind (r at s) (k at) (λ x a t. h at x a t)
 
-below-bare : (tree : ℕ → List Line → Tree) (n : ℕ) → ((e : ℕ) (ls : List Line) → Bare (tree e ls)) → (at : ℕ) (s : List ℕ) → Every Bare (belowR tree n at s)
+below-bare : (tree : ℕ → List Line → Tree) (n : ℕ) → ((e : ℕ) (ls : List Line) → Bare (tree e ls)) → (at : ℕ) (s : List ℕ) → Always Bare (belowR tree n at s)
 below-bare tree n h = led-bare (byteR (is (only 10))) (λ e _. mapR (tree e) (bodyR n)) (λ e _ at s. map-bare (tree e) (bodyR n) (h e) at s)
 
-open-string-bare : (n at : ℕ) (s : List ℕ) → Every Bare (openStringR n at s)
+open-string-bare : (n at : ℕ) (s : List ℕ) → Always Bare (openStringR n at s)
 unfolding openStringR flat
 open-string-bare n =
     led-bare (byteR (is (only 96))) (λ a _. openStringRestR n a)
     (λ a _ at s. every-bind (leaderTextR at s) (λ t. belowR (openStringTree a t) n) (λ t b u. below-bare (openStringTree a t) n (λ e ls. record { none = λ r p. refl }) b u))
 
-property-string-bare : (n at : ℕ) (s : List ℕ) → Every Bare (propertyStringR n at s)
+property-string-bare : (n at : ℕ) (s : List ℕ) → Always Bare (propertyStringR n at s)
 unfolding propertyStringR flat
 property-string-bare n =
     led-bare (byteR (is (only 96))) (λ a _. belowR (propertyStringTree a) n) (λ a _ at s. below-bare (propertyStringTree a) n (λ e ls. record { none = λ r p. refl }) at s)
 
-open-bytes-bare : (n at : ℕ) (s : List ℕ) → Every Bare (openBytesR n at s)
+open-bytes-bare : (n at : ℕ) (s : List ℕ) → Always Bare (openBytesR n at s)
 unfolding openBytesR flat
 open-bytes-bare n =
     led-bare (wordR (62 ∷ 32 ∷ [])) (λ a _. openBytesRestR n a)
     (λ a _ at s. every-bind (hexRestR at s) (λ h. mapR (λ hs. bytesTree a (h ∷ hs)) (hexLinesR n)) (λ h b u. map-bare (λ hs. bytesTree a (h ∷ hs)) (hexLinesR n) (λ x. record { none = λ r p. refl }) b u))
 
-property-bytes-bare : (n at : ℕ) (s : List ℕ) → Every Bare (propertyBytesR n at s)
+property-bytes-bare : (n at : ℕ) (s : List ℕ) → Always Bare (propertyBytesR n at s)
 unfolding propertyBytesR flat
 property-bytes-bare n =
     led-bare (byteR (is (only 62))) (λ a _. propertyBytesRestR n a)
@@ -110,13 +88,13 @@ property-bytes-bare n =
     (λ c b u. every-bind (byteR (is (only 10)) b u) (λ _. mapR (bytesTree a) (plusR (hexLineR n) (hexLinesR n)))
     (λ d b u. map-bare (bytesTree a) (plusR (hexLineR n) (hexLinesR n)) (λ x. record { none = λ r p. refl }) b u)))
 
-joined-bare : (n at : ℕ) (s : List ℕ) → Every Bare (joinedR n at s)
+joined-bare : (n at : ℕ) (s : List ℕ) → Always Bare (joinedR n at s)
 unfolding joinedR flat
 joined-bare n =
     led-bare joinedLineR (joinedMoreR n)
     (λ a q at s. map-bare (joinedTree a q) (plusR (indentedR n joinedLineR) (furtherR quotes n joinedLineR)) (λ x. record { none = λ r p. refl }) at s)
 
-nested-bare : (n at : ℕ) (s : List ℕ) → Every Bare (nestedLineR n at s)
+nested-bare : (n at : ℕ) (s : List ℕ) → Always Bare (nestedLineR n at s)
 unfolding nestedLineR
 nested-bare n at s = every-alt _ (openStringR n) (joinedR n) at s (open-string-bare n) (joined-bare n)
 
@@ -138,19 +116,15 @@ module _ (doc : List ℕ) (at row p n : ℕ) (S : List ℕ) where
 
 -- ---- a line
 
+-- a line's end goes forward
+ends-tame : (root : Bool) (m : ℕ) (t : List ℕ) → Tamed 1 m t (endsR root m t)
+unfolding endsR feedR
+ends-tame true m t = byte₁ 10 .exact .moves .tame m t
+ends-tame false m t = seq-ll refl optionalComment-ll (λ _. byte₁ 10) .exact .moves .tame m t
+
 -- behind a value its line's end
 end-gives : (root : Bool) (v : Tree) (m : ℕ) (t : List ℕ) {w : Tree} {a : ℕ} → Gives (endR root v m t) w a → (w ≡ v) × (m ≤ a)
-end-gives root v m t {w} {a} g = (same (gives-bind (endsR root m t) (λ _. retR v) (subst (λ (o : Out Tree). Gives o w a) (end-is root v m t) g)), on root g)
-  where
-    same : Bound (endsR root m t) (λ _. retR v) w a → w ≡ v
-    same b = go (b .second)
-      where
-        go : {n : ℕ} {s : List ℕ} {u : Tree} {c : ℕ} → Gives (ok v n s) u c → u ≡ v
-        go gives-ok = refl
-
-    on : (root : Bool) → Gives (endR root v m t) w a → m ≤ a
-    on true g = gives-forward (feed-ending .ending-ll v .exact .moves .tame m t) g
-    on false g = gives-forward (comment-ending .ending-ll v .exact .moves .tame m t) g
+end-gives root v m t {w} {a} g = gives-behind (endsR root m t) (ends-tame root m t) v (subst (λ (o : Out Tree). Gives o w a) (end-is root v m t) g)
 
 pub line-notes : (root : Bool) (k : ℕ) (doc : List ℕ) (at row p : ℕ) (S S' : List ℕ) → Notes one doc at row p (valueR true k at (drop at doc)) S S'
     → Notes one doc at row p (lineR (endR root) k at (drop at doc)) S S'

@@ -8,7 +8,7 @@ use lib.ListN.{drop}
 use Rattle.language.specs.Kind.{KEY}
 use Rattle.language.specs.Tree.{Tree, leaf, forest}
 use Rattle.exact.specs.Class.{pick}
-use Rattle.exact.specs.Out.{Out, Reader, raise, bind, ok, soft, bad, Tamed, t-ok, Moves, forward, rest-of, Firm}
+use Rattle.exact.specs.Out.{Out, Reader, bind, ok, soft, bad, Tamed, t-ok, Moves, forward, rest-of, Firm}
 use Rattle.exact.specs.Comb.{altR}
 use Rattle.exact.specs.Lines.{reached}
 use Rattle.strings.specs.Spans.{spannedR}
@@ -16,35 +16,25 @@ use Rattle.strings.specs.Keys.{nameR, keyR, key-ll}
 use Rattle.notes.specs.Flat.{flat, flats, flats-one}
 use Rattle.notes.specs.Noted.{noted, noteds}
 use Rattle.notes.specs.Lie.{KeyAt, keys-none, keys-more}
-use Rattle.notes.specs.Notes.{Gives, gives-ok, gives-soft, gives-none, gives-reached, Kept, kept-none, Notes, one, notes-known}
+use Rattle.notes.specs.Notes.{Gives, gives-ok, gives-none, gives-reached, gives-bind, Kept, kept-none, Notes, one, notes-known}
 
--- ---- every value that an answer gives is such a one
+-- ---- every value that an answer gives is such a one, with the place where it ends
 
-pub record Every {X : Type 0} (P : X → Type 0) (o : Out X) : Type 0 where
-  pub holds : (v : X) (a : ℕ) → Gives o v a → P v
+pub record Every {X : Type 0} (P : X → ℕ → Type 0) (o : Out X) : Type 0 where
+  pub holds : (v : X) (a : ℕ) → Gives o v a → P v a
 
-module _ {X : Type 0} {P : X → Type 0} where
-  pub every-ok : {v : X} {a : ℕ} {s : List ℕ} → P v → Every P (ok v a s)
+-- .. wherever it ends
+abbrev pub Always : {X : Type 0} → (X → Type 0) → Out X → Type 0
+Always P o = Every (λ v a. P v) o
+
+module _ {X : Type 0} {P : X → ℕ → Type 0} where
+  pub every-ok : {v : X} {a : ℕ} {s : List ℕ} → P v a → Every P (ok v a s)
   every-ok {v} {a} {s} h = record { holds = go }
     where
-      go : (w : X) (b : ℕ) → Gives (ok v a s) w b → P w
+      go : (w : X) (b : ℕ) → Gives (ok v a s) w b → P w b
       go w b gives-ok = h
 
-  pub every-bad : {p : ℕ} → Every P (bad p)
-  every-bad = record { holds = λ v a x. absurd (gives-none x) }
-
-  pub every-raise : (p : ℕ) (o : Out X) → Every P o → Every P (raise p o)
-  every-raise p (ok v a s) h = record { holds = go }
-    where
-      go : (w : X) (b : ℕ) → Gives (soft p v a s) w b → P w
-      go w b gives-soft = h .holds v a gives-ok
-  every-raise p (soft q v a s) h = record { holds = go }
-    where
-      go : (w : X) (b : ℕ) → Gives (raise p (soft q v a s)) w b → P w
-      go w b gives-soft = h .holds v a gives-soft
-  every-raise p (bad q) h = every-bad
-
-  pub every-pick : (y : Bool) {o o′ : Out X} → Every P o → Every P o′ → Every P (pick y o o′)
+  every-pick : (y : Bool) {o o′ : Out X} → Every P o → Every P o′ → Every P (pick y o o′)
   every-pick true x z = x
   every-pick false x z = z
 
@@ -52,31 +42,31 @@ module _ {X : Type 0} {P : X → Type 0} where
   every-alt f r q at [] x z = z at []
   every-alt f r q at (b ∷ s) x z = every-pick (f b) (x at (b ∷ s)) (z at (b ∷ s))
 
--- by what comes last
-pub every-bind : {X Y : Type 0} {P : Y → Type 0} (o : Out X) (k : X → Reader Y) → ((v : X) (a : ℕ) (s : List ℕ) → Every P (k v a s)) → Every P (bind o k)
-every-bind (ok v a s) k h = h v a s
-every-bind (soft p v a s) k h = every-raise p (k v a s) (h v a s)
-every-bind (bad p) k h = every-bad
+  -- by what comes last
+  pub every-bind : {Y : Type 0} (o : Out Y) (k : Y → Reader X) → ((v : Y) (a : ℕ) (s : List ℕ) → Every P (k v a s)) → Every P (bind o k)
+  every-bind o k h = record { holds = λ w b x. let g = gives-bind o k x in h (g .value) (g .middle) (g .left) .holds w b (g .second) }
 
--- .. or by what comes first too
-pub every-with : {X Y : Type 0} {P : X → Type 0} {Q : Y → Type 0} (o : Out X) (k : X → Reader Y) → Every P o → ((v : X) → P v → (a : ℕ) (s : List ℕ) → Every Q (k v a s)) → Every Q (bind o k)
-every-with (ok v a s) k x h = h v (x .holds v a gives-ok) a s
-every-with (soft p v a s) k x h = every-raise p (k v a s) (h v (x .holds v a gives-soft) a s)
-every-with (bad p) k x h = every-bad
+  -- .. or by what comes first too
+  pub every-with : {Y : Type 0} {Q : Y → ℕ → Type 0} (o : Out Y) (k : Y → Reader X) → Every Q o → ((v : Y) (a : ℕ) → Q v a → (s : List ℕ) → Every P (k v a s)) → Every P (bind o k)
+  every-with o k y h =
+      record { holds = λ w b x. let g = gives-bind o k x in h (g .value) (g .middle) (y .holds (g .value) (g .middle) (g .first)) (g .left) .holds w b (g .second) }
+
+  pub every-reached : {o : Out X} → Every P o → (far : ℕ) (v : X) (a : ℕ) (s : List ℕ) → o ≡ reached far v a s → P v a
+  every-reached h far v a s e = h .holds v a (subst (λ (u : Out X). Gives u v a) (sym e) (gives-reached far v a s))
 
 -- ---- a tree with no key in it
 
 pub record Bare (t : Tree) : Type 0 where
   pub none : (r p : ℕ) → flat r p t ≡ []
 
-pub spanned-bare : (kind : ℕ) (r : Reader (List ℕ)) (at : ℕ) (s : List ℕ) → ((a e : ℕ) (w : List ℕ) → Bare (leaf kind a e w)) → Every Bare (spannedR kind r at s)
+pub spanned-bare : (kind : ℕ) (r : Reader (List ℕ)) (at : ℕ) (s : List ℕ) → ((a e : ℕ) (w : List ℕ) → Bare (leaf kind a e w)) → Always Bare (spannedR kind r at s)
 unfolding spannedR
 spanned-bare kind r at s h = every-bind (r at s) _ (λ w e t. every-ok (h at e w))
 
 module _ {doc : List ℕ} {at row parent : ℕ} {o : Out Tree} {S : List ℕ} where
-  pub notes-bare : Every Bare o → (far : ℕ) (w : Tree) (b : ℕ) (s : List ℕ) → o ≡ reached far w b s → at ≤ b → Notes one doc at row parent o S S
+  pub notes-bare : Always Bare o → (far : ℕ) (w : Tree) (b : ℕ) (s : List ℕ) → o ≡ reached far w b s → at ≤ b → Notes one doc at row parent o S S
   notes-bare h far w b s e l =
-      let z = h .holds w b (subst (λ (u : Out Tree). Gives u w b) (sym e) (gives-reached far w b s)) in
+      let z = every-reached h far w b s e in
       notes-known far w b s e (rw (flats-one row parent w, z .none row parent) (kept-none doc at b S l))
 
 -- ---- the reader of a key

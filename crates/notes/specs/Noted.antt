@@ -6,13 +6,14 @@ use native.Mathlib.Omega.{arith}
 use lib.ListN.{length, getD, set, length-set}
 use lib.Dec.{leb}
 use Rattle.notation.specs.Class.{pick}
+use Rattle.language.specs.Answered.{limit}
 use borrow.Author.Tests.{lt-leb}
 use Rattle.exact.specs.Class.{leb-yes}
 use Rattle.notes.specs.Flat.{Named, named}
 
 -- the row of an object and the first byte of its key, in one word
 unfoldable pub packed : ℕ → ℕ → ℕ
-packed q a = (q * 32768 + a) % 4294967296
+packed q a = (q * limit + a) % 4294967296
 
 -- one key more, where the room has a word for it
 unfoldable pub noted : List ℕ → ℕ → ℕ → List ℕ
@@ -27,7 +28,7 @@ module _ (S : List ℕ) (q a : ℕ) where
   unfolding noted
   note-empty h = rw (lt-leb (getD S 0 0 + 2) (length S) (omega arith)) refl
 
-  pub note-fits : (n : ℕ) → n ≡ getD S 0 0 + 1 → n < length S → set (set S n ((q * 32768 + a) % 4294967296)) 0 (n % 4294967296) ≡ noted S q a
+  pub note-fits : (n : ℕ) → n ≡ getD S 0 0 + 1 → n < length S → set (set S n ((q * limit + a) % 4294967296)) 0 (n % 4294967296) ≡ noted S q a
   unfolding noted packed
   note-fits n e h = rw (e, leb-yes (getD S 0 0 + 2) (length S) (omega arith)) refl
 

@@ -4,9 +4,9 @@ use mathlib.Core.List.{List, [], _∷_, _++_}
 use Prim.Native.Nat.{ℕ, zero, suc, _+_, _≤_}
 use native.Mathlib.Omega.{arith}
 use Rattle.language.specs.Tree.{Tree, node, Forest, forest, sizes}
-use Rattle.exact.specs.Out.{Out, raise, bind, fmap, ok, soft, bad}
-use Rattle.exact.specs.Lines.{reached, raised}
-use Rattle.notes.specs.Flat.{Named, flat, flats, flats-append, flats-one, flat-node}
+use Rattle.exact.specs.Out.{Out, Reader, raise, bind, fmap, ok, soft, bad, Tamed, t-ok, t-soft, forward}
+use Rattle.exact.specs.Lines.{reached}
+use Rattle.notes.specs.Flat.{Named, flats, flats-append, flats-one, flat-node}
 use Rattle.notes.specs.Noted.{noteds, noteds-append}
 use Rattle.notes.specs.Lie.{Keys, keys-none, keys-append, keys-from, keys-to}
 
@@ -41,11 +41,35 @@ module _ {X : Type 0} where
   pub gives-none : {p : ℕ} {v : X} {a : ℕ} → Gives (bad p) v a → ⊥
   gives-none x = elim x [ ]
 
-  pub gives-raised : (f : ℕ) (o : Out X) {v : X} {a : ℕ} → Gives (raised f o) v a → Gives o v a
-  gives-raised zero o x = x
-  gives-raised (suc f) (ok v a s) gives-soft = gives-ok
-  gives-raised (suc f) (soft p v a s) gives-soft = gives-soft
-  gives-raised (suc f) (bad p) x = absurd (gives-none x)
+  pub gives-raise : (p : ℕ) (o : Out X) {v : X} {a : ℕ} → Gives (raise p o) v a → Gives o v a
+  gives-raise p (ok v a s) gives-soft = gives-ok
+  gives-raise p (soft q v a s) gives-soft = gives-soft
+  gives-raise p (bad q) x = absurd (gives-none x)
+
+  -- the value ends no earlier than it begins
+  pub gives-forward : {d at : ℕ} {s : List ℕ} {o : Out X} {v : X} {a : ℕ} → Tamed d at s o → Gives o v a → at ≤ a
+  gives-forward (t-ok m) gives-ok = omega (arith, forward m)
+  gives-forward (t-soft p m l) gives-soft = omega (arith, forward m)
+
+-- by a reader behind another
+pub record Bound {X Y : Type 0} (o : Out X) (q : X → Reader Y) (w : Y) (a : ℕ) : Type 0 where
+  pub value : X
+  pub middle : ℕ
+  pub left : List ℕ
+  pub first : Gives o value middle
+  pub second : Gives (q value middle left) w a
+
+pub gives-bind : {X Y : Type 0} (o : Out X) (q : X → Reader Y) {w : Y} {a : ℕ} → Gives (bind o q) w a → Bound o q w a
+gives-bind (ok v m t) q x = record { value = v; middle = m; left = t; first = gives-ok; second = x }
+gives-bind (soft p v m t) q x = record { value = v; middle = m; left = t; first = gives-soft; second = gives-raise p (q v m t) x }
+gives-bind (bad p) q x = absurd (gives-none x)
+
+-- .. which only hands on a value known before
+pub gives-behind : {X Y : Type 0} {d at : ℕ} {s : List ℕ} (o : Out X) → Tamed d at s o → (v : Y) {w : Y} {a : ℕ} → Gives (bind o (λ _. ok v)) w a → (w ≡ v) × (at ≤ a)
+gives-behind o t v x =
+    let b = gives-bind o (λ _. ok v) x in
+    let e = reached-gives 0 v (b .middle) (b .left) (b .second) in
+    (e .0, omega (arith, gives-forward t (b .first), e .1))
 
 -- what gives a value behind another
 pub record Mapped {X Y : Type 0} (g : X → Y) (o : Out X) (w : Y) (a : ℕ) : Type 0 where

@@ -3,9 +3,10 @@ ghost use mathlib.Core.Path.{_≡_};
 ghost use Prim.Native.Nat.{_≤_};
 ghost use Rattle.language.specs.Answered.{limit};
 ghost use Rattle.notes.specs.Noted.{noted};
+use language::LIMIT;
 
-// A place takes fifteen bits, and so does a row.
-pub const PLACES: usize = 32768;
+// A key begins below this, and the rows of objects are below it too: so a row times this and a place are told apart again.
+pub const PLACES: usize = LIMIT;
 
 // A word has so many values.
 const WORDS: usize = 4294967296;

@@ -2,7 +2,7 @@
 use mathlib.Core.Path.{_≡_, refl, sym, subst}
 use mathlib.Core.List.{List}
 use mathlib.Core.Logic.{_⊎_, inl, inr}
-use Prim.Native.Nat.{ℕ, _+_, _*_, _≤_, _<_}
+use Prim.Native.Nat.{ℕ, suc, _+_, _*_, _≤_, _<_}
 use native.Mathlib.Omega.{arith}
 use lib.ListN.{length, getD, replicate, length-replicate}
 use Rattle.language.specs.Tree.{Tree, count, size, Repeats}
@@ -12,20 +12,21 @@ use Rattle.spans.specs.Document.{few-rows}
 use Rattle.notes.specs.Flat.{Named, flat}
 use Rattle.notes.specs.Notes.{Kept}
 use Rattle.repeats.specs.declared.Repeat.{Repeat}
+use Rattle.repeats.specs.declared.Repeat.the-variants.{Nowhere}
 use Rattle.repeats.specs.Flat.{Below, object}
 use Rattle.repeats.specs.Repeating.{repeats-twice, twice-repeats}
-use Rattle.repeats.specs.Later.{Names, names-map, Later}
+use Rattle.repeats.specs.Later.{Names, names-map, Later, names-few}
 use Rattle.repeats.specs.Twice.{later-twice, twice-later-key}
-use Rattle.places.specs.Places.{placeKeys, Placed}
+use Rattle.places.specs.Places.{placeKeys, most-keys, Placed}
 use Rattle.places.specs.Words.{Counted, words-of}
 use Rattle.places.specs.Spots.{Low, lists-words, spots, spots-order}
 
--- the keys of the document's tree are noted in a room of 8,193 words
+-- the keys of the document's tree are noted, in a room of a word for each that it can have and one for their number
 pub record Log (doc keys : List ℕ) : Type 0 where
   pub tree : Tree
   pub short : length doc ≤ limit
   pub word : Document deepest doc tree
-  pub kept : Kept doc 0 (flat 0 0 tree) (length doc) (replicate 8193 0) keys
+  pub kept : Kept doc 0 (flat 0 0 tree) (length doc) (replicate (suc most-keys) 0) keys
   pub few : 4 * count (flat 0 0 tree) ≤ length doc
 
 -- "the smallest start of a later equal key" (01, Numbers of refusal), if the tree has one
@@ -38,13 +39,13 @@ module _ (doc keys : List ℕ) (g : Log doc keys) where
   abbrev ns : List Named
   ns = flat 0 0 (g .tree)
 
-  counted : Counted (replicate 8193 0) 0 ns keys
-  counted = subst (Counted (replicate 8193 0) 0 ns) (sym (g .kept .log)) (words-of (replicate 8193 0) ns refl (length-replicate {A = ℕ} 8193 0) (omega (arith, g .few, g .short)))
+  counted : Counted (replicate (suc most-keys) 0) 0 ns keys
+  counted = subst (Counted (replicate (suc most-keys) 0) 0 ns) (sym (g .kept .log)) (words-of (replicate (suc most-keys) 0) ns refl (length-replicate {A = ℕ} (suc most-keys) 0) (omega (arith, g .few, g .short)))
 
   low : Low ns
   low q a s i = by (object 0 0 (g .tree) i)
     where
-      by : (q ≡ 0) ⊎ Below 0 (size (g .tree)) q → q < 32768
+      by : (q ≡ 0) ⊎ Below 0 (size (g .tree)) q → q < limit
       by (inl h) = omega arith
       by (inr h) = omega (arith, h .most, few-rows deepest doc (g .tree) (g .word), g .short)
 
@@ -81,3 +82,6 @@ module _ (doc keys : List ℕ) (g : Log doc keys) where
             r
             y;
       }
+
+  pub log-few : getD keys 0 0 < 2 → Told doc Nowhere
+  log-few l = log-told Nowhere (names-few (placeKeys doc keys) (getD keys 0 0) l)

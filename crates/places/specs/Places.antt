@@ -11,11 +11,12 @@ use Rattle.strings.specs.Keys.{keyR}
 use Rattle.notes.specs.Lie.{KeyAt}
 use Rattle.repeats.specs.Numbering.{Numbering}
 
+-- the row of the object of the i-th key noted, and the place where it begins
 abbrev pub objectAt : List ℕ → ℕ → ℕ
-objectAt keys i = getD keys (i + 1) 0 / 32768
+objectAt keys i = getD keys (i + 1) 0 / limit
 
 abbrev pub placeAt : List ℕ → ℕ → ℕ
-placeAt keys i = getD keys (i + 1) 0 % 32768
+placeAt keys i = getD keys (i + 1) 0 % limit
 
 -- the text of a tree that is read, and the place behind it
 abbrev pub textIn : Out Tree → List ℕ
@@ -59,9 +60,9 @@ abbrev pub placeKeys : List ℕ → List ℕ → Numbering
 placeKeys doc keys =
     record { Key = λ i. Unit; start = λ i. placeAt keys i; object = λ i. objectAt keys i; text = λ i. spelled doc (placeAt keys i) }
 
--- as many keys as there are links for
+-- as many keys as a document can have: four bytes or more belong to each (few-keys)
 abbrev pub most-keys : ℕ
-most-keys = 8192
+most-keys = limit / 4
 
 -- n keys stand at their places, one behind another
 pub record Placed (doc keys : List ℕ) (n : ℕ) : Type 0 where

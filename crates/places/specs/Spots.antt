@@ -16,9 +16,9 @@ use Rattle.places.specs.Words.{Words, words-none, words-more}
 
 -- the rows of all objects are low
 abbrev pub Low : List Named → Type 0
-Low ns = (q a : ℕ) (s : List ℕ) → In q a s ns → q < 32768
+Low ns = (q a : ℕ) (s : List ℕ) → In q a s ns → q < limit
 
-module _ (keys : List ℕ) (j q a : ℕ) (w : getD keys (j + 1) 0 ≡ packed q a) (l : q < 32768) (m : a < 32768) where
+module _ (keys : List ℕ) (j q a : ℕ) (w : getD keys (j + 1) 0 ≡ packed q a) (l : q < limit) (m : a < limit) where
   object-is : objectAt keys j ≡ q
   unfolding packed
   object-is = rw w (omega arith)
@@ -28,7 +28,7 @@ module _ (keys : List ℕ) (j q a : ℕ) (w : getD keys (j + 1) 0 ≡ packed q a
   place-is = rw w (omega arith)
 
 module _ (doc keys : List ℕ) (short : length doc ≤ limit) (e z : ℕ) where
-  low-place : {a m : ℕ} {s : List ℕ} → KeyAt doc a s m → a < 32768
+  low-place : {a m : ℕ} {s : List ℕ} → KeyAt doc a s m → a < limit
   low-place k = omega (arith, k .ahead, k .inside)
 
   pub lists-words : (j b : ℕ) (ns : List Named) → Low ns → Words keys e j ns → Keys doc b ns z → Lists (placeKeys doc keys) e j ns
@@ -47,7 +47,7 @@ module _ (doc keys : List ℕ) (short : length doc ≤ limit) (e z : ℕ) where
     pub from : b ≤ placeAt keys i
     pub key : KeyAt doc (placeAt keys i) (spelled doc (placeAt keys i)) (ends doc (placeAt keys i))
 
-  spot-here : (j b q a m : ℕ) (s : List ℕ) → q < 32768 → getD keys (j + 1) 0 ≡ packed q a → b ≤ a → KeyAt doc a s m → Spot b j
+  spot-here : (j b q a m : ℕ) (s : List ℕ) → q < limit → getD keys (j + 1) 0 ≡ packed q a → b ≤ a → KeyAt doc a s m → Spot b j
   spot-here j b q a m s l w h k =
       let p = place-is keys j q a w l (low-place k) in
       record { from = omega arith; key = rw p (key-own doc a m s k) }

@@ -11,7 +11,7 @@ use Rattle.repeats.specs.Tells.{tells-yes, tells-no}
 use Rattle.repeats.specs.Numbering.{markOf}
 use Rattle.repeats.specs.Links.{Chains, Noted, Walked, walk-key, note-walkable}
 use Rattle.repeats.specs.Links
-use Rattle.repeats.specs.Later.{Names, Later, names-none, names-same, names-first, chains-start}
+use Rattle.repeats.specs.Later.{Names, Later, names-few, names-same, names-first, chains-start}
 use Rattle.places.specs.Places.{placeAt, placeKeys, Placed, placed-first}
 
 -- a walk along the chain from head
@@ -61,7 +61,7 @@ pub record Passed (doc keys heads links text : List ℕ) (n i : ℕ) : Type 0 wh
 
 module _ (doc keys : List ℕ) (n : ℕ) where
   pub pass-first : (heads links text : List ℕ) → Starting doc keys heads links text n → Passed doc keys heads links text n 0
-  pass-first heads links text w = record { few = omega arith; long = w .long; room = w .room; chains = w .chains; names = names-none (placeKeys doc keys) }
+  pass-first heads links text w = record { few = omega arith; long = w .long; room = w .room; chains = w .chains; names = names-few (placeKeys doc keys) 0 (omega arith) }
 
   module _ (p : Placed doc keys n) (heads links text : List ℕ) (i : ℕ) (x : Passed doc keys heads links text n i) where
     pub pass-chaining : i < n → Chaining doc keys heads links text i

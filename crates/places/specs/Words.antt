@@ -11,6 +11,7 @@ use Rattle.language.specs.Tree.{count}
 use Rattle.exact.specs.Class.{leb-yes}
 use Rattle.notes.specs.Flat.{Named, named}
 use Rattle.notes.specs.Noted.{packed, noted, noteds}
+use Rattle.places.specs.Places.{most-keys}
 
 -- the words from number j up to e are those of the keys
 pub data Words (keys : List ℕ) (e : ℕ) : ℕ → List Named → Type 0 where
@@ -20,16 +21,16 @@ pub data Words (keys : List ℕ) (e : ℕ) : ℕ → List Named → Type 0 where
 -- a room that counts j keys
 record Counts (S : List ℕ) (j : ℕ) : Type 0 where
   count-is : getD S 0 0 ≡ j
-  long : length S ≡ 8193
+  long : length S ≡ suc most-keys
 
 -- .. once more are noted in it
 pub record Counted (S : List ℕ) (j : ℕ) (ns : List Named) (S' : List ℕ) : Type 0 where
   pub count-is : getD S' 0 0 ≡ j + count ns
-  pub long : length S' ≡ 8193
+  pub long : length S' ≡ suc most-keys
   pub words : Words S' (j + count ns) j ns
   pub before : (m : ℕ) → 0 < m → m ≤ j → getD S' m 0 ≡ getD S m 0
 
-module _ (S : List ℕ) (j q a : ℕ) (c : Counts S j) (f : j < 8192) where
+module _ (S : List ℕ) (j q a : ℕ) (c : Counts S j) (f : j < most-keys) where
   noted-is : noted S q a ≡ set (set S (j + 1) (packed q a)) 0 (j + 1)
   unfolding noted
   noted-is =
@@ -53,7 +54,7 @@ module _ (S : List ℕ) (j q a : ℕ) (c : Counts S j) (f : j < 8192) where
   noted-before m l h =
       rw noted-is (getD-set-other (set S (j + 1) (packed q a)) 0 m (j + 1) 0 (λ e. omega arith) ∙ getD-set-other S (j + 1) m (packed q a) 0 (λ e. omega arith))
 
-noteds-counted : (S : List ℕ) (j : ℕ) (ns : List Named) → Counts S j → j + count ns ≤ 8192 → Counted S j ns (noteds S ns)
+noteds-counted : (S : List ℕ) (j : ℕ) (ns : List Named) → Counts S j → j + count ns ≤ most-keys → Counted S j ns (noteds S ns)
 unfolding noteds
 noteds-counted S j [] c f =
     record { count-is = c .count-is ∙ sym (add-zero j); long = c .long; words = rw (add-zero j) words-none; before = λ m l h. refl }
@@ -70,5 +71,5 @@ noteds-counted S j (named q a s ∷ ns) c f =
     }
 
 -- from a room that counts none
-pub words-of : (S : List ℕ) (ns : List Named) → getD S 0 0 ≡ 0 → length S ≡ 8193 → count ns ≤ 8192 → Counted S 0 ns (noteds S ns)
+pub words-of : (S : List ℕ) (ns : List Named) → getD S 0 0 ≡ 0 → length S ≡ suc most-keys → count ns ≤ most-keys → Counted S 0 ns (noteds S ns)
 words-of S ns h l f = noteds-counted S 0 ns (record { count-is = h; long = l }) (omega arith)

@@ -263,10 +263,14 @@ fn by_class(doc: &[u8], keys: &[u32], n: usize, class: usize) -> Repeat
     }
 }
 
-// The least place of a key noted that is the same as an earlier one of its object.
+// The least place of a key noted that is the same as an earlier one of its object. One key alone is not marked, since its text would be read again for it.
 pub fn first_again(doc: &[u8], keys: &[u32]) -> Repeat
     requires { ⌜ Log (now doc) (now keys) ⌝ }
     ensures { λ r. ⌜ Told (now (doc .entry)) r ⌝ }
 {
-    by_class(&*doc, &*keys, keys[0] as usize, 0)
+    let n = keys[0] as usize;
+    if n < 2 {
+        return Repeat::Nowhere;
+    }
+    by_class(&*doc, &*keys, n, 0)
 }

@@ -1,7 +1,7 @@
 -- HOW THE ANSWER FOLLOWS where a document was passed over and its keys were noted, and it is read again into the rooms lent. Assumes nothing.
-use mathlib.Core.Path.{_≡_, sym, ap, subst, _∙_}
+use mathlib.Core.Path.{_≡_, subst}
 use mathlib.Core.List.{List}
-use Prim.Native.Nat.{ℕ, _*_, _≤_, _<_}
+use Prim.Native.Nat.{ℕ, suc, _*_, _≤_, _<_}
 use native.Mathlib.Omega.{arith}
 use lib.ListN.{length, replicate}
 use Rattle.rooms.specs.declared.Cursor.{Cursor}
@@ -14,6 +14,7 @@ use Rattle.spans.specs.Document.{few-rows}
 use Rattle.repeats.specs.declared.Repeat.{Repeat}
 use Rattle.repeats.specs.declared.Repeat.the-variants.{At, Nowhere}
 use Rattle.repeats.specs.Later.{Names}
+use Rattle.places.specs.Places.{most-keys}
 use Rattle.places.specs.Log.{Log, Told}
 use Rattle.answers.specs.Counted.{Counted, counted-repeat, counted-rows, counted-bytes, counted-all}
 use Rattle.judge.specs.Contract.{Known, Checked, Filled, Logged}
@@ -28,7 +29,7 @@ pub record Passed (doc keys : List ℕ) (n m : ℕ) : Type 0 where
   pub few : n ≤ limit
 
 -- so it is after a pass over the document with a room that had none
-pub passes : (doc keys : List ℕ) (a : Ans) (c : Cursor) → length doc ≤ limit → Checked deepest doc a → a ≡ Ok c → Logged deepest doc (replicate 8193 0) keys
+pub passes : (doc keys : List ℕ) (a : Ans) (c : Cursor) → length doc ≤ limit → Checked deepest doc a → a ≡ Ok c → Logged deepest doc (replicate (suc most-keys) 0) keys
     → Passed doc keys (c .row) (c .text)
 unfolding Checked
 passes doc keys a c l x e w =

@@ -43,8 +43,9 @@ pub record Later (N : Numbering) (n p : ℕ) : Type 0 where
   pub starts : N .start number ≡ p
   pub earlier : Earlier N number
 
-pub names-none : (N : Numbering) → Names (Later N 0) Nowhere
-names-none N q x = omega (arith, x .key .before)
+-- of fewer than two keys none has an earlier one
+pub names-few : (N : Numbering) (n : ℕ) → n < 2 → Names (Later N n) Nowhere
+names-few N n l q x = omega (arith, x .key .before, x .earlier .key .before)
 
 module _ (N : Numbering) (i : ℕ) where
   wider : (q : ℕ) → Later N i q → Later N (i + 1) q

@@ -12,7 +12,7 @@ use Rattle.repeats.specs.Tells.{tells-yes, tells-no}
 use Rattle.repeats.specs.Keys.{kindOf, startOf, rowKeys}
 use Rattle.repeats.specs.Links.{Chains, chains-other, Noted}
 use Rattle.repeats.specs.Chains.{Table, table-first, Noting}
-use Rattle.repeats.specs.Later.{Names, Later, lesser, names-none, names-same, names-more, chains-start}
+use Rattle.repeats.specs.Later.{Names, Later, lesser, names-few, names-same, names-more, chains-start}
 
 -- a turn of the loop over the rows
 pub record Turning (rows text heads links : List ℕ) (i : ℕ) (best : Repeat) : Type 0 where
@@ -62,7 +62,7 @@ module _ (rows text heads links : List ℕ) (i : ℕ) (best : Repeat) (w : Turni
 
 module _ (rows text : List ℕ) (n : ℕ) where
   pub pass-first : (heads links : List ℕ) → Starting rows text heads links n → Passed rows text heads links n 0 Nowhere
-  pass-first heads links w = record { few = omega arith; room = w .room; chains = w .chains; names = names-none (rowKeys rows text) }
+  pass-first heads links w = record { few = omega arith; room = w .room; chains = w .chains; names = names-few (rowKeys rows text) 0 (omega arith) }
 
   pub pass-turning : (heads links : List ℕ) (i : ℕ) (best : Repeat) → Table rows text n → Passed rows text heads links n i best → i < n
       → Turning rows text heads links i best

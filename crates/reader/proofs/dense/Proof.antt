@@ -5,6 +5,7 @@ use native.Mathlib.Nat.{mul-le-mul}
 use Prim.Native.Nat.{_-_, _≤_}
 use lib.ListN.{length}
 use borrow.Author.Needs.{needs}
+use Rattle.language.specs.Answered.{limit}
 use Rattle.reader.proofs.dense.Statement.{statement}
 use Rattle.reader.proofs.dense.Tie as tie
 
@@ -45,7 +46,7 @@ mul-result : tie.Need-mul-result Inv-loop μ-loop
 mul-result c = search needs
 
 mul-result-2 : tie.Need-mul-result-2 Inv-loop μ-loop
-mul-result-2 c = omega (arith, mul-le-mul {n₁ = c .before .loop .ends} {m₁ = length (c .before .before .before .before .args .doc .now)} {n₂ = 1024} {m₂ = 32768} (omega arith) (omega arith))
+mul-result-2 c = omega (arith, mul-le-mul {n₁ = c .before .loop .ends} {m₁ = length (c .before .before .before .before .args .doc .now)} {n₂ = 1024} {m₂ = limit} (omega arith) (omega arith))
 
 returns-2 : tie.Need-returns-2 Inv-loop μ-loop
 returns-2 c = search needs
