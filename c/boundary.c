@@ -44,7 +44,7 @@ static uint8_t *part(struct room room, size_t bytes, int at_end) {
 
 struct answer {
     uint32_t number;
-    size_t first, second;
+    size_t first, second, third;
 };
 
 /* Reads with rooms of exactly so many rows and text bytes; a refusal must leave both as they were. */
@@ -52,14 +52,15 @@ static struct answer read_in(const uint8_t *doc, size_t len, size_t rows, size_t
     uint8_t *lent = part(doc_room, len, at_end);
     uint8_t *words = part(table_room, rows * YAY_WORDS * 4, at_end);
     uint8_t *text = part(text_room, bytes, at_end);
-    struct answer answer = {0, 77, 77};
+    struct answer answer = {0, 77, 77, 77};
     memcpy(lent, doc, len);
     memset(words, 0xa5, rows * YAY_WORDS * 4);
     memset(text, 0xa5, bytes);
     answer.number = yay_read(lent, len, (uint32_t *)(void *)words, rows * YAY_WORDS, text, bytes, &answer.first,
-                             &answer.second);
+                             &answer.second, &answer.third);
     if (answer.number != YAY_OK) {
         expect(answer.second == 0, "a refusal's second number", answer.second);
+        expect(answer.third == 0, "a refusal's escapes", answer.third);
         for (size_t i = 0; i < rows * YAY_WORDS * 4; i++) {
             if (words[i] != 0xa5) expect(0, "the table was changed", i);
         }
@@ -100,6 +101,7 @@ static void try_document(const uint8_t *doc, size_t len) {
         }
         struct answer exact = read_in(doc, len, all.first, all.second, at_end);
         expect(exact.number == YAY_OK && exact.first == all.first && exact.second == all.second, "exact rooms", len);
+        expect(exact.third == all.third && all.third <= len / 2, "the escapes in exact rooms", exact.third);
         size_t words = all.first * YAY_WORDS;
         ask((uint32_t *)(void *)part(table_room, words * 4, at_end), words, all.first,
             part(text_room, all.second, at_end), all.second);
@@ -123,6 +125,11 @@ static void try_broken_tables(void) {
 static void expect_answer(const char *doc, uint32_t number, size_t first) {
     struct answer answer = read_in((const uint8_t *)doc, strlen(doc), strlen(doc), strlen(doc), 1);
     expect(answer.number == number && answer.first == first, doc, answer.first);
+}
+
+static void expect_escapes(const char *doc, size_t escapes) {
+    struct answer answer = read_in((const uint8_t *)doc, strlen(doc), strlen(doc), strlen(doc), 1);
+    expect(answer.number == YAY_OK && answer.third == escapes, doc, answer.third);
 }
 
 static void expect_order(const char *left, const char *right, uint32_t number, int32_t wanted) {
@@ -151,12 +158,25 @@ static void try_borders(void) {
     expect_order("1", "", YAY_NOTINT, 0);
 }
 
+/* Escapes of keys, values and joined lines are counted; a backslash that stays, and those outside quotes, are not. */
+static void try_escapes(void) {
+    expect_escapes("\"a\\n\\u{41}\"\n", 2);
+    expect_escapes("\"\\\"\\\\\\/\\b\\f\\n\\r\\t\\u{10FFFF}\"\n", 9);
+    expect_escapes("{\"\\t\": '\\\\', k: \"x\"}\n", 2);
+    expect_escapes("\"\\n\":\n  - \"\\n\"\n  - '\\'': 1\n", 3);
+    expect_escapes("k:\n  \"\\n\"\n  'x'\n  '\\'\\\\'\n", 3);
+    expect_escapes("'C:\\img'\n", 0);
+    expect_escapes("'\\n\\\\n\\u{41}\\''\n", 2);
+    expect_escapes("# \\n\n` \\n\n  \"\\n\"\n", 0);
+}
+
 int main(int count, char **args) {
     static uint8_t doc[YAY_LONGEST + 1];
     doc_room = make_room();
     table_room = make_room();
     text_room = make_room();
     try_borders();
+    try_escapes();
     try_broken_tables();
     memset(doc, ' ', sizeof doc);
     expect(read_in(doc, sizeof doc, 9, 9, 1).number == YAY_LONG, "a document too long", sizeof doc);

@@ -6,7 +6,7 @@
 static uint8_t doc[YAY_LONGEST + 1];
 static uint32_t table[YAY_TABLE_ROOM(YAY_LONGEST)];
 static uint8_t text[YAY_TEXT_ROOM(YAY_LONGEST)];
-static size_t rows, text_len;
+static size_t rows, text_len, escapes;
 
 static const size_t words = sizeof table / sizeof *table;
 
@@ -53,7 +53,7 @@ int main(int count, char **args) {
     }
     size_t doc_len = fread(doc, 1, sizeof doc, file);
     fclose(file);
-    uint32_t number = yay_read(doc, doc_len, table, words, text, sizeof text, &rows, &text_len);
+    uint32_t number = yay_read(doc, doc_len, table, words, text, sizeof text, &rows, &text_len, &escapes);
     if (number != YAY_OK) {
         size_t line, column;
         yay_position(doc, doc_len, rows, &line, &column);

@@ -68,9 +68,9 @@ static void try_children(void) {
     static const size_t counts[] = {6, 0, 3, 0, 2, 0, 0, 0, 0, 0, 0, 0};
     uint32_t table[YAY_TABLE_ROOM(sizeof doc)];
     uint8_t text[YAY_TEXT_ROOM(sizeof doc)];
-    size_t rows, bytes;
+    size_t rows, bytes, escapes;
     uint32_t number = yay_read((const uint8_t *)doc, sizeof doc - 1, table, sizeof table / sizeof *table, text,
-                               sizeof text, &rows, &bytes);
+                               sizeof text, &rows, &bytes, &escapes);
     expect(number == YAY_OK && rows == 12, "the document", rows);
     for (size_t row = 0; row < rows; row++) {
         expect(count_children(table, rows * YAY_WORDS, rows, row) == counts[row], "children", row);

@@ -14,11 +14,11 @@
 
 static uint8_t doc[YAY_LONGEST + 1], text[YAY_TEXT_ROOM(YAY_LONGEST)];
 static uint32_t table[YAY_TABLE_ROOM(YAY_LONGEST)];
-static size_t len, words, room, rows, bytes;
+static size_t len, words, room, rows, bytes, escapes;
 static uint32_t number;
 
 static void *reads(void *nothing) {
-    number = yay_read(doc, len, table, words, text, room, &rows, &bytes);
+    number = yay_read(doc, len, table, words, text, room, &rows, &bytes, &escapes);
     return nothing;
 }
 
@@ -146,6 +146,7 @@ static void of_size(size_t n) {
         {"", "- - - - - - - - - - - - - - - - - - - - - - - - - - - - - - - - - %zu\n", ""},
         {"", "- [[[[[[[[[[[[[[[[[[[[[[[[[[[[[[[%zu]]]]]]]]]]]]]]]]]]]]]]]]]]]]]]]\n", ""},
         {"", "- [[[[[[[[[[[[[[[[[[[[[[[[[[[[[[[[%zu]]]]]]]]]]]]]]]]]]]]]]]]]]]]]]]]\n", ""},
+        {"a:\n  \"\"\n", "  '\\'%zu\\\\'\n", ""},
         {"a: `\n", "   line %zu\n", ""},
         {"a: >\n", "  00 ff  # %zu\n", ""},
     };

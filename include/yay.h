@@ -70,10 +70,13 @@ extern "C" {
 #define YAY_KEY 10    /* text: decoded, UTF-8 */
 
 /* Reads a document of doc_len bytes into a table of table_words words and a text room of text_len bytes.
- * YAY_OK: *first is the number of rows, *second that of text bytes; words and bytes past them are as before.
- * YAY_LONG to YAY_TEXT: *first is the place, *second is 0, and both rooms are as before. */
+ * YAY_OK: *first is the number of rows, *second that of text bytes, *third that of escapes; words and bytes past the
+ * rows and the text are as before.
+ * YAY_LONG to YAY_TEXT: *first is the place, *second and *third are 0, and both rooms are as before.
+ * Escapes are those of all quoted keys and strings: in double quotes a backslash and the character behind it, `\u{..}`
+ * whole, is one; in single quotes `\'` and `\\` are, and any other backslash there stays as itself and is none. */
 uint32_t yay_read(const uint8_t *doc, size_t doc_len, uint32_t *table, size_t table_words, uint8_t *text,
-                  size_t text_len, size_t *first, size_t *second);
+                  size_t text_len, size_t *first, size_t *second, size_t *third);
 
 /* The text of a row of kind 4 to 7 or 10. The table has `words` words and `rows` rows.
  * YAY_OK: the text is text[*from] up to, not including, text[*to]. YAY_BADROW: both are 0. */

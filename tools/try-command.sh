@@ -7,9 +7,11 @@ printf '1\n' > build/good.yay
 printf 1 > build/bad.yay
 
 expect 'a value for scripts' stable "$("$yay" get examples/tablet.yay image-channel)"
+expect 'a word of escapes' '(standard input): ok, 3 rows, 3 bytes of text, 2 escapes' \
+    "$(printf '"\\n": "\\u{41}x"\n' | "$yay" check -)"
 expect 'bytes as they are' "$(printf '\x00\xff\n' | od -An -tx1)" \
     "$(printf 'a: <00ff0a>\n' | "$yay" get --raw - a | od -An -tx1)"
-expect 'an answer before the next document' 'ok 1 1 4,0,1,0,1,0,1 31' "$(
+expect 'an answer before the next document' 'ok 1 1 0 4,0,1,0,1,0,1 31' "$(
     coproc batch { "$yay" batch; }
     printf '\x02\x00\x00\x001\n' >&"${batch[1]}"
     read -r -t 20 line <&"${batch[0]}"

@@ -1,20 +1,38 @@
-//! Compares a reader under test with the second reader: answer, rows, text and
-//! every word and byte that has to stay as it was, in rooms of interesting sizes.
+//! Compares a reader under test with the second reader: number and all three values,
+//! rows, text and every word and byte that has to stay as it was, in rooms of
+//! interesting sizes.
 
 mod asked;
 pub mod faults;
+pub mod forms;
 pub mod run;
 pub mod stream;
 
 use crate::documents::grow::Meant;
 use crate::documents::Rng;
 use crate::second::questions::{self, Lent};
-use crate::second::{Answer, Counts, Refusal, Second, LONGEST, ROWS, TEXT, WORDS};
+use crate::second::{Answer, Counts, Given, Refusal, Second, LONGEST, ROWS, TEXT, WORDS};
 use std::ops::Range;
 
-/// What a reader under test offers, as the C interface has it.
+/// What a reader says, as the C interface has it: 0, rows, text bytes and escapes; or the number, the place, 0 and 0.
+#[derive(Clone, Copy, PartialEq, Eq, Debug)]
+pub struct Said {
+    pub number: u32,
+    pub values: [usize; 3],
+}
+
+impl From<Answer> for Said {
+    fn from(answer: Answer) -> Said {
+        match answer {
+            Ok(Counts { rows, text, escapes }) => Said { number: 0, values: [rows, text, escapes] },
+            Err(Refusal { number, place }) => Said { number, values: [place, 0, 0] },
+        }
+    }
+}
+
+/// What a reader under test offers.
 pub trait Reader {
-    fn read(&mut self, doc: &[u8], table: &mut [u32], room: &mut [u8]) -> Answer;
+    fn read(&mut self, doc: &[u8], table: &mut [u32], room: &mut [u8]) -> Said;
 
     /// The questions, if it answers them.
     fn questions(&self) -> Option<&dyn Questions> {
@@ -29,7 +47,7 @@ pub trait Questions {
 }
 
 impl Reader for Box<dyn Reader> {
-    fn read(&mut self, doc: &[u8], table: &mut [u32], room: &mut [u8]) -> Answer {
+    fn read(&mut self, doc: &[u8], table: &mut [u32], room: &mut [u8]) -> Said {
         (**self).read(doc, table, room)
     }
 
@@ -39,8 +57,8 @@ impl Reader for Box<dyn Reader> {
 }
 
 impl Reader for Second {
-    fn read(&mut self, doc: &[u8], table: &mut [u32], room: &mut [u8]) -> Answer {
-        Second::read(self, doc, table, room)
+    fn read(&mut self, doc: &[u8], table: &mut [u32], room: &mut [u8]) -> Said {
+        Second::read(self, doc, table, room).into()
     }
 
     fn questions(&self) -> Option<&dyn Questions> {
@@ -64,7 +82,7 @@ impl Questions for SecondQuestions {
     }
 }
 
-/// How often each answer number and each kind of row was met.
+/// How often each answer number, each kind of row and each form of backslash was met.
 #[derive(Default, Clone)]
 pub struct Tally {
     pub documents: usize,
@@ -74,6 +92,8 @@ pub struct Tally {
     pub asked: usize,
     /// Rows of accepted documents by kind.
     pub kinds: [usize; 11],
+    /// Backslashes of accepted documents, as forms::NAMES has them.
+    pub forms: [usize; forms::NAMES.len()],
 }
 
 impl Tally {
@@ -82,6 +102,7 @@ impl Tally {
         self.asked += other.asked;
         self.numbers.iter_mut().zip(other.numbers).for_each(|(sum, more)| *sum += more);
         self.kinds.iter_mut().zip(other.kinds).for_each(|(sum, more)| *sum += more);
+        self.forms.iter_mut().zip(other.forms).for_each(|(sum, more)| *sum += more);
     }
 }
 
@@ -111,9 +132,9 @@ impl Default for Comparer {
 }
 
 impl Comparer {
-    /// Numbers 1 to 6, or rows and text, by the second reader.
+    /// Numbers 1 to 6, or all that the document gives, by the second reader.
     pub fn expected(&mut self, doc: &[u8]) -> Meant {
-        self.second.tree(doc).map(|(words, text)| (words.to_vec(), text.to_vec()))
+        self.second.given(doc)
     }
 
     /// The first difference from what a document means, in words: in rooms of many sizes, and in the questions.
@@ -134,9 +155,10 @@ impl Comparer {
                 return what;
             }
         }
-        let (words, text) = meant.as_ref().ok()?;
+        let Given { words, text, .. } = meant.as_ref().ok()?;
         for row in words.chunks_exact(WORDS) {
             self.tally.kinds[row[0] as usize] += 1;
+            forms::count(doc, row, &mut self.tally.forms);
         }
         asked::difference(reader.questions()?, words, text, &mut rng, &mut self.tally)
     }
@@ -154,13 +176,13 @@ impl Comparer {
         let (table, room) = (&mut self.table[..words + GUARD], &mut self.room[..bytes + GUARD]);
         table.copy_from_slice(&self.old_table[..words + GUARD]);
         room.copy_from_slice(&self.old_room[..bytes + GUARD]);
-        let answer = reader.read(doc, &mut table[..words], &mut room[..bytes]);
+        let said = reader.read(doc, &mut table[..words], &mut room[..bytes]);
         let (rows, text): (&[u32], &[u8]) = match (expected, meant) {
-            (Ok(_), Ok((rows, text))) => (rows, text),
+            (Ok(_), Ok(given)) => (&given.words, &given.text),
             _ => (&[], &[]),
         };
-        let what = if answer != expected {
-            format!("expected {expected:?}, got {answer:?}")
+        let what = if said != expected.into() {
+            format!("expected {:?}, got {said:?}", Said::from(expected))
         } else if let Some(i) = first_wrong(table, rows, &self.old_table) {
             format!("word {i} of {} is {}", rows.len(), table[i])
         } else {
@@ -182,15 +204,12 @@ fn first_wrong<T: PartialEq>(room: &[T], new: &[T], old: &[T]) -> Option<usize> 
 
 /// The answer in rooms of the given sizes.
 fn answer_in(meant: &Meant, words: usize, bytes: usize) -> Answer {
-    let (rows, text) = match meant {
-        Ok((rows, text)) => (rows, text),
-        Err(refusal) => return Err(*refusal),
-    };
-    let counts = Counts { rows: rows.len() / WORDS, text: text.len() };
-    if rows.len() > words {
+    let given = meant.as_ref().map_err(|refusal| *refusal)?;
+    let counts = Counts { rows: given.words.len() / WORDS, text: given.text.len(), escapes: given.escapes };
+    if given.words.len() > words {
         return Err(Refusal { number: ROWS, place: counts.rows });
     }
-    if text.len() > bytes {
+    if counts.text > bytes {
         return Err(Refusal { number: TEXT, place: counts.text });
     }
     Ok(counts)
@@ -200,8 +219,8 @@ fn answer_in(meant: &Meant, words: usize, bytes: usize) -> Answer {
 fn rooms(meant: &Meant, every: bool, rng: &mut Rng) -> Vec<(usize, usize)> {
     let mut rooms = match meant {
         Err(_) => vec![(0, 0), (rng.below(80), rng.below(20))],
-        Ok((rows, text)) => {
-            let (words, bytes) = (rows.len(), text.len());
+        Ok(given) => {
+            let (words, bytes) = (given.words.len(), given.text.len());
             vec![
                 (words, bytes),
                 (words - 1, bytes),

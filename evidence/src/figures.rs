@@ -1,7 +1,7 @@
 //! Times of the proved reader and of the second reader on a document.
 
 use crate::clock::{Clock, Machine, Shortest};
-use crate::compare::Reader;
+use crate::compare::{Reader, Said};
 use crate::proved::Proved;
 use crate::second::{Answer, Second, LONGEST, WORDS};
 use std::hint::black_box;
@@ -44,7 +44,7 @@ impl Default for Bench {
 }
 
 impl Bench {
-    pub fn proved(&mut self, doc: &[u8]) -> Answer {
+    pub fn proved(&mut self, doc: &[u8]) -> Said {
         Proved.read(doc, &mut self.table, &mut self.room)
     }
 
@@ -52,12 +52,12 @@ impl Bench {
         self.second.read(doc, &mut self.table, &mut self.room)
     }
 
-    /// The answer of both readers, with the same rows and text; nothing where they differ.
+    /// The answer of both readers, with the same rows, text and escapes; nothing where they differ.
     pub fn both(&mut self, doc: &[u8]) -> Option<Answer> {
         let proved = self.proved(doc);
         let (table, room) = (self.table.clone(), self.room.clone());
         let second = self.second(doc);
-        (proved == second && table == self.table && room == self.room).then_some(proved)
+        (proved == second.into() && table == self.table && room == self.room).then_some(second)
     }
 
     /// The two readers take turns.

@@ -1,8 +1,7 @@
 //! The proved library behind its C interface, include/yay.h (feature `proved`).
 
-use crate::compare::{Questions, Reader};
+use crate::compare::{Questions, Reader, Said};
 use crate::second::questions::Lent;
-use crate::second::{Answer, Counts, Refusal};
 use std::ops::Range;
 
 extern "C" {
@@ -15,6 +14,7 @@ extern "C" {
         text_len: usize,
         first: *mut usize,
         second: *mut usize,
+        third: *mut usize,
     ) -> u32;
     fn yay_text(
         table: *const u32,
@@ -42,16 +42,16 @@ extern "C" {
 
 /// What answers hold before a call.
 const UNSET: usize = 77;
-/// Stands for a number whose other answers are not the 0 that the header promises; nobody expects it.
+/// Stands for a question's number whose answer is not the 0 that the header promises; nobody expects it.
 const UNTRUE: u32 = 1000;
 
 pub struct Proved;
 
 impl Reader for Proved {
-    fn read(&mut self, doc: &[u8], table: &mut [u32], room: &mut [u8]) -> Answer {
-        let (mut first, mut second) = (UNSET, UNSET);
+    fn read(&mut self, doc: &[u8], table: &mut [u32], room: &mut [u8]) -> Said {
+        let [mut first, mut second, mut third] = [UNSET; 3];
         let (words, bytes) = (table.len(), room.len());
-        // SAFETY: every pointer and length is that of a live slice, and the two answers are apart from them.
+        // SAFETY: every pointer and length is that of a live slice, and the three answers are apart from them.
         let number = unsafe {
             yay_read(
                 doc.as_ptr(),
@@ -62,13 +62,10 @@ impl Reader for Proved {
                 bytes,
                 &mut first,
                 &mut second,
+                &mut third,
             )
         };
-        match (number, second) {
-            (0, _) => Ok(Counts { rows: first, text: second }),
-            (number, 0) => Err(Refusal { number, place: first }),
-            _ => Err(Refusal { number: UNTRUE, place: second }),
-        }
+        Said { number, values: [first, second, third] }
     }
 
     fn questions(&self) -> Option<&dyn Questions> {

@@ -44,11 +44,20 @@ pub struct Refusal {
     pub place: usize,
 }
 
-/// How many rows and bytes of text were given.
+/// How many rows and bytes of text were given, and how many escapes the document has.
 #[derive(Clone, Copy, PartialEq, Eq, Debug)]
 pub struct Counts {
     pub rows: usize,
     pub text: usize,
+    pub escapes: usize,
+}
+
+/// All that an accepted document gives: the words of its rows, its text, and how many escapes it has.
+#[derive(Clone, PartialEq, Eq, Debug)]
+pub struct Given {
+    pub words: Vec<u32>,
+    pub text: Vec<u8>,
+    pub escapes: usize,
 }
 
 pub type Answer = Result<Counts, Refusal>;
@@ -119,8 +128,14 @@ impl Second {
         Second { nesting, buffer: Vec::new(), tree: Tree::default(), frames: Vec::new(), body: Vec::new() }
     }
 
-    /// Numbers 1 to 6, or all rows and text.
-    pub fn tree(&mut self, doc: &[u8]) -> Result<(&[u32], &[u8]), Refusal> {
+    /// Numbers 1 to 6, or all that the document gives.
+    pub fn given(&mut self, doc: &[u8]) -> Result<Given, Refusal> {
+        let (words, text, escapes) = self.tree(doc)?;
+        Ok(Given { words: words.to_vec(), text: text.to_vec(), escapes })
+    }
+
+    /// The same in the reader's own rooms: all rows and text, and the escapes.
+    pub fn tree(&mut self, doc: &[u8]) -> Result<(&[u32], &[u8], usize), Refusal> {
         if doc.len() > LONGEST {
             return Err(Refusal { number: LONG, place: 0 });
         }
@@ -146,14 +161,14 @@ impl Second {
         answer.map_err(|stop| refusal(doc, stop))?;
         match self.tree.repeat {
             Some(place) => Err(Refusal { number: REPEAT, place }),
-            None => Ok((self.tree.rows.as_flattened(), self.tree.text.all())),
+            None => Ok((self.tree.rows.as_flattened(), self.tree.text.all(), self.tree.escapes)),
         }
     }
 
     /// The answer of `read`: fills the lent rooms or leaves both unchanged.
     pub fn read(&mut self, doc: &[u8], table: &mut [u32], room: &mut [u8]) -> Answer {
-        let (words, text) = self.tree(doc)?;
-        let counts = Counts { rows: words.len() / WORDS, text: text.len() };
+        let (words, text, escapes) = self.tree(doc)?;
+        let counts = Counts { rows: words.len() / WORDS, text: text.len(), escapes };
         if words.len() > table.len() {
             return Err(Refusal { number: ROWS, place: counts.rows });
         }

@@ -1,9 +1,9 @@
 //! Files of documents with their answers: hex of the document, a tab, and
-//! `no NUMBER PLACE` or `ok ROWS TEXTBYTES words,.. texthex`.
+//! `no NUMBER PLACE` or `ok ROWS TEXTBYTES ESCAPES words,.. texthex`.
 
 use crate::documents::grow::Meant;
 use crate::hex;
-use crate::second::{Refusal, WORDS};
+use crate::second::{Given, Refusal, WORDS};
 
 /// A document and the answer a file gives for it.
 pub struct Vector {
@@ -31,11 +31,11 @@ pub fn meant(answer: &str) -> Option<Meant> {
     let words: Vec<&str> = answer.split(' ').collect();
     match words[..] {
         ["no", number, place] => Some(Err(Refusal { number: number.parse().ok()?, place: place.parse().ok()? })),
-        ["ok", rows, bytes, list, text] => {
-            let list = list.split(',').map(|word| word.parse().ok()).collect::<Option<Vec<u32>>>()?;
-            let text = hex::parse(text)?;
-            let counted = rows.parse() == Ok(list.len() / WORDS) && bytes.parse() == Ok(text.len());
-            counted.then_some(Ok((list, text)))
+        ["ok", rows, bytes, escapes, list, text] => {
+            let words = list.split(',').map(|word| word.parse().ok()).collect::<Option<Vec<u32>>>()?;
+            let (text, escapes) = (hex::parse(text)?, escapes.parse().ok()?);
+            let counted = rows.parse() == Ok(words.len() / WORDS) && bytes.parse() == Ok(text.len());
+            counted.then_some(Ok(Given { words, text, escapes }))
         }
         _ => None,
     }

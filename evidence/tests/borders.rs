@@ -2,26 +2,22 @@
 
 use evidence::documents::borders::borders;
 use evidence::second::questions::{compare_integers, Lent, BADROW, NONE, NOTINT};
-use evidence::second::{Refusal, Second, REPEAT};
+use evidence::second::Second;
 use evidence::slow;
 
 #[test]
 fn borders_and_readings() {
     let mut second = Second::new();
     for (doc, meant) in borders() {
-        let answer = second.tree(&doc).map(|(words, text)| (words.to_vec(), text.to_vec()));
-        assert_eq!(answer, meant, "{:?}", String::from_utf8_lossy(&doc));
+        assert_eq!(second.given(&doc), meant, "{:?}", String::from_utf8_lossy(&doc));
     }
 }
 
 #[test]
-fn places_of_borders() {
+fn places_and_escapes_of_borders() {
     for (doc, meant) in borders().into_iter().filter(|(doc, _)| doc.len() < 1000) {
-        let wanted = match meant {
-            Err(Refusal { number: REPEAT, .. }) | Ok(_) => Ok(()),
-            Err(refusal) => Err(refusal),
-        };
-        assert_eq!(slow::answer(&doc, 32), wanted, "{:?}", String::from_utf8_lossy(&doc));
+        let (answer, wanted) = (slow::answer(&doc, 32), meant.map(|given| given.escapes));
+        assert!(slow::agrees(answer, wanted), "{:?}: {answer:?}", String::from_utf8_lossy(&doc));
     }
 }
 

@@ -7,50 +7,56 @@ use native.Mathlib.Omega.{arith}
 use lib.ListN.{length, drop}
 use lib.Seq.{sets, sets-eq}
 use Rattle.rooms.specs.Forest.{length-rows}
-use Rattle.language.specs.Tree.{Tree, width, size, textOf, rowsOf, Repeats}
+use Rattle.language.specs.Tree.{Tree, width, size, textOf, escapesOf, rowsOf, Repeats}
 use Rattle.language.specs.Document.{Document}
-use Rattle.language.specs.Answered.{limit, deepest, REPEAT, ROWS, TEXT, Reads, Answered, accepted, repeated, rows, bytes}
+use Rattle.language.specs.Answered.{limit, deepest, REPEAT, ROWS, TEXT, Reads, Answered, accepted, repeated, rows, bytes, Totals, total}
 use Rattle.repeats.specs.declared.Repeat.{Repeat}
 use Rattle.repeats.specs.declared.Repeat.the-variants.{At, Nowhere}
 use Rattle.repeats.specs.Later.{Names, LeastOf}
 
--- the document has n rows and m text bytes, and a names its first repeated key
-pub record Counted (doc : List ℕ) (n m : ℕ) (a : Repeat) : Type 0 where
+-- the document has n rows, m text bytes and z escapes, and a names its first repeated key
+pub record Counted (doc : List ℕ) (n m z : ℕ) (a : Repeat) : Type 0 where
   pub tree : Tree
   pub short : length doc ≤ limit
   pub word : Document deepest doc tree
   pub row : n ≡ size tree
   pub text-count : m ≡ length (textOf tree)
+  pub escape-count : z ≡ escapesOf tree
   pub names : Names (λ p. Repeats p tree) a
 
 -- a run stored at the start of a room
 stored : (l vs : List ℕ) → length vs ≤ length l → sets l 0 vs ≡ vs ++ drop (length vs) l
 stored l vs h = sets-eq vs l 0 (omega arith) ∙ ap (λ (k : ℕ). vs ++ drop k l) (zero-add (length vs))
 
-module _ {doc : List ℕ} {n m : ℕ} {a : Repeat} (f : Counted doc n m a) (table text : List ℕ) where
-  pub counted-repeat : (p : ℕ) → a ≡ At p → Answered doc table text REPEAT p 0 table text
-  counted-repeat p e =
-      let x : LeastOf (λ q. Repeats q (f .tree)) p = subst (Names (λ q. Repeats q (f .tree))) e (f .names) in
-      repeated (f .tree) p (f .short) (f .word) (x .is) (x .least)
-
+module _ {doc : List ℕ} {n m z : ℕ} {a : Repeat} (f : Counted doc n m z a) where
   reads : a ≡ Nowhere → Reads doc (f .tree)
   reads e = record { short = f .short; word = f .word; once = subst (Names (λ q. Repeats q (f .tree))) e (f .names) }
 
-  pub counted-rows : a ≡ Nowhere → length table < width * n → Answered doc table text ROWS n 0 table text
-  counted-rows e l = subst (λ (i : ℕ). Answered doc table text ROWS i 0 table text) (sym (f .row)) (rows (f .tree) (reads e) (omega (arith, f .row)))
+  -- its escapes are the total
+  pub counted-total : a ≡ Nowhere → Totals doc 0 z
+  counted-total e = rw (f .escape-count) (total (f .tree) (reads e))
 
-  pub counted-bytes : a ≡ Nowhere → width * n ≤ length table → length text < m → Answered doc table text TEXT m 0 table text
-  counted-bytes e l k =
-      subst (λ (i : ℕ). Answered doc table text TEXT i 0 table text) (sym (f .text-count))
-      (bytes (f .tree) (reads e) (omega (arith, f .row)) (omega (arith, f .text-count)))
+  module _ (table text : List ℕ) where
+    pub counted-repeat : (p : ℕ) → a ≡ At p → Answered doc table text REPEAT p 0 table text
+    counted-repeat p e =
+        let x : LeastOf (λ q. Repeats q (f .tree)) p = subst (Names (λ q. Repeats q (f .tree))) e (f .names) in
+        repeated (f .tree) p (f .short) (f .word) (x .is) (x .least)
 
-  -- both stored in the rooms lent
-  pub counted-all : a ≡ Nowhere → width * n ≤ length table → m ≤ length text → (table′ text′ : List ℕ) → table′ ≡ sets table 0 (rowsOf 0 0 0 (f .tree))
-      → text′ ≡ sets text 0 (textOf (f .tree)) → Answered doc table text 0 n m table′ text′
-  counted-all e l k table′ text′ x y =
-      let t = f .tree in
-      let j = length-rows 0 0 0 t in
-      let p : table′ ≡ rowsOf 0 0 0 t ++ drop (width * size t) table =
-      x ∙ (stored table (rowsOf 0 0 0 t) (omega (arith, f .row)) ∙ ap (λ (i : ℕ). rowsOf 0 0 0 t ++ drop i table) j) in
-      let q : text′ ≡ textOf t ++ drop (length (textOf t)) text = y ∙ stored text (textOf t) (omega (arith, f .text-count)) in
-      rw (p, q, f .row, f .text-count) (accepted t (reads e) (omega (arith, f .row)) (omega (arith, f .text-count)))
+    pub counted-rows : a ≡ Nowhere → length table < width * n → Answered doc table text ROWS n 0 table text
+    counted-rows e l = subst (λ (i : ℕ). Answered doc table text ROWS i 0 table text) (sym (f .row)) (rows (f .tree) (reads e) (omega (arith, f .row)))
+
+    pub counted-bytes : a ≡ Nowhere → width * n ≤ length table → length text < m → Answered doc table text TEXT m 0 table text
+    counted-bytes e l k =
+        subst (λ (i : ℕ). Answered doc table text TEXT i 0 table text) (sym (f .text-count))
+        (bytes (f .tree) (reads e) (omega (arith, f .row)) (omega (arith, f .text-count)))
+
+    -- both stored in the rooms lent
+    pub counted-all : a ≡ Nowhere → width * n ≤ length table → m ≤ length text → (table′ text′ : List ℕ) → table′ ≡ sets table 0 (rowsOf 0 0 0 (f .tree))
+        → text′ ≡ sets text 0 (textOf (f .tree)) → Answered doc table text 0 n m table′ text′
+    counted-all e l k table′ text′ x y =
+        let t = f .tree in
+        let j = length-rows 0 0 0 t in
+        let p : table′ ≡ rowsOf 0 0 0 t ++ drop (width * size t) table =
+        x ∙ (stored table (rowsOf 0 0 0 t) (omega (arith, f .row)) ∙ ap (λ (i : ℕ). rowsOf 0 0 0 t ++ drop i table) j) in
+        let q : text′ ≡ textOf t ++ drop (length (textOf t)) text = y ∙ stored text (textOf t) (omega (arith, f .text-count)) in
+        rw (p, q, f .row, f .text-count) (accepted t (reads e) (omega (arith, f .row)) (omega (arith, f .text-count)))

@@ -7,9 +7,9 @@ use native.Mathlib.Omega.{arith}
 use lib.ListN.{length, take, getD, set}
 use lib.Seq.{sets, slice, slice-cons, slice-empty, take-at}
 use Rattle.rooms.specs.Forest.{length-rows}
-use Rattle.language.specs.Tree.{Tree, width, size, textOf, rowsOf}
+use Rattle.language.specs.Tree.{Tree, width, size, textOf, escapesOf, rowsOf}
 use Rattle.language.specs.Document.{Document}
-use Rattle.language.specs.Answered.{limit, deepest, REPEAT, ROWS, TEXT, Answered}
+use Rattle.language.specs.Answered.{limit, deepest, REPEAT, ROWS, TEXT, Answered, Totals, untold}
 use Rattle.spans.specs.Document.{few-rows, document-sound}
 use Rattle.repeats.specs.declared.Repeat.{Repeat}
 use Rattle.repeats.specs.declared.Repeat.the-variants.{At, Nowhere}
@@ -17,7 +17,7 @@ use Rattle.repeats.specs.Listed.{Stands}
 use Rattle.repeats.specs.Chains.{Table, most-rows}
 use Rattle.repeats.specs.Twice.{FirstRepeat}
 use Rattle.repeats.specs.Told.{tree-table, told}
-use Rattle.answers.specs.Counted.{Counted, counted-repeat, counted-rows, counted-bytes, counted-all}
+use Rattle.answers.specs.Counted.{Counted, counted-repeat, counted-rows, counted-bytes, counted-all, counted-total}
 
 -- a turn of the loop that copies words, and its end
 module _ (goal l w : List ℕ) (i n : ℕ) (inv : goal ≡ sets l i (slice i n w)) where
@@ -27,13 +27,14 @@ module _ (goal l w : List ℕ) (i n : ℕ) (inv : goal ≡ sets l i (slice i n w
   pub words-done : i ≡ n → l ≡ goal
   words-done h = sym (inv ∙ ap (sets l i) (ap (λ (k : ℕ). slice k n w) h ∙ slice-empty n w))
 
--- ROOMS OF OUR OWN hold the n rows and the m text bytes of the document's tree
-pub record Held (doc R T : List ℕ) (n m : ℕ) : Type 0 where
+-- ROOMS OF OUR OWN hold the n rows and the m text bytes of the document's tree, which has z escapes
+pub record Held (doc R T : List ℕ) (n m z : ℕ) : Type 0 where
   pub tree : Tree
   pub short : length doc ≤ limit
   pub word : Document deepest doc tree
   pub row : n ≡ size tree
   pub text-count : m ≡ length (textOf tree)
+  pub escape-count : z ≡ escapesOf tree
   pub few : width * n ≤ length R
   pub linked : n ≤ most-rows
   pub fits : m ≤ length T
@@ -41,7 +42,7 @@ pub record Held (doc R T : List ℕ) (n m : ℕ) : Type 0 where
   pub table-is : Stands R 0 (rowsOf 0 0 0 tree)
   pub text-is : Stands T 0 (textOf tree)
 
-module _ {doc R T : List ℕ} {n m : ℕ} (f : Held doc R T n m) where
+module _ {doc R T : List ℕ} {n m z : ℕ} (f : Held doc R T n m z) where
   pub table-held : slice 0 (width * n) R ≡ rowsOf 0 0 0 (f .tree)
   table-held =
       let j = length-rows 0 0 0 (f .tree) in
@@ -55,12 +56,12 @@ module _ {doc R T : List ℕ} {n m : ℕ} (f : Held doc R T n m) where
 
 -- ---- what `answer` shows
 
-pub held-table : (doc R T : List ℕ) (n m : ℕ) → Held doc R T n m → Table R T n
-held-table doc R T n m f =
+pub held-table : (doc R T : List ℕ) (n m z : ℕ) → Held doc R T n m z → Table R T n
+held-table doc R T n m z f =
     subst (Table R T) (sym (f .row)) (tree-table R T (f .tree) (document-sound deepest doc (f .tree) (f .word)) (f .table-is) (f .text-is) (few-held f))
 
-module _ (doc R T : List ℕ) (n m : ℕ) (f : Held doc R T n m) (a : Repeat) (h : FirstRepeat R T n a) (table text : List ℕ) where
-  counted : Counted doc n m a
+module _ (doc R T : List ℕ) (n m z : ℕ) (f : Held doc R T n m z) (a : Repeat) (h : FirstRepeat R T n a) where
+  counted : Counted doc n m z a
   counted =
       record {
         tree = f .tree;
@@ -68,19 +69,28 @@ module _ (doc R T : List ℕ) (n m : ℕ) (f : Held doc R T n m) (a : Repeat) (h
         word = f .word;
         row = f .row;
         text-count = f .text-count;
+        escape-count = f .escape-count;
         names = told R T (f .tree) (document-sound deepest doc (f .tree) (f .word)) (f .table-is) (f .text-is) a (subst (λ (i : ℕ). FirstRepeat R T i a) (f .row) h);
       }
 
-  pub answer-repeat : (p : ℕ) → a ≡ At p → Answered doc table text REPEAT p 0 table text
-  answer-repeat = counted-repeat counted table text
+  pub answer-total : a ≡ Nowhere → Totals doc 0 z
+  answer-total = counted-total counted
 
-  pub answer-rows : a ≡ Nowhere → length table < width * n → Answered doc table text ROWS n 0 table text
-  answer-rows = counted-rows counted table text
+  module _ (table text : List ℕ) where
+    pub answer-repeat : (p : ℕ) → a ≡ At p → Answered doc table text REPEAT p 0 table text
+    answer-repeat = counted-repeat counted table text
 
-  pub answer-bytes : a ≡ Nowhere → width * n ≤ length table → length text < m → Answered doc table text TEXT m 0 table text
-  answer-bytes = counted-bytes counted table text
+    pub answer-rows : a ≡ Nowhere → length table < width * n → Answered doc table text ROWS n 0 table text
+    answer-rows = counted-rows counted table text
 
-  pub answer-all : a ≡ Nowhere → width * n ≤ length table → m ≤ length text → (table' text' : List ℕ) → table' ≡ sets table 0 (slice 0 (width * n) R)
-      → text' ≡ sets text 0 (slice 0 m T) → Answered doc table text 0 n m table' text'
-  unfolding counted
-  answer-all e l k table' text' x y = counted-all counted table text e l k table' text' (x ∙ ap (sets table 0) (table-held f)) (y ∙ ap (sets text 0) (text-held f))
+    pub answer-bytes : a ≡ Nowhere → width * n ≤ length table → length text < m → Answered doc table text TEXT m 0 table text
+    answer-bytes = counted-bytes counted table text
+
+    pub answer-all : a ≡ Nowhere → width * n ≤ length table → m ≤ length text → (table' text' : List ℕ) → table' ≡ sets table 0 (slice 0 (width * n) R)
+        → text' ≡ sets text 0 (slice 0 m T) → Answered doc table text 0 n m table' text'
+    unfolding counted
+    answer-all e l k table' text' x y = counted-all counted table text e l k table' text' (x ∙ ap (sets table 0) (table-held f)) (y ∙ ap (sets text 0) (text-held f))
+
+-- a refusal has no escapes
+pub no-total : (doc : List ℕ) (n : ℕ) → 0 < n → Totals doc n 0
+no-total doc n h = untold n h

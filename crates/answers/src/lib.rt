@@ -3,7 +3,7 @@ ghost use mathlib.Core.Path.{_≡_};
 ghost use Prim.Native.Nat.{_≤_};
 ghost use lib.ListN.{length};
 ghost use lib.Seq.{sets, slice};
-ghost use Rattle.language.specs.Answered.{number, value, second, Answered};
+ghost use Rattle.language.specs.Answered.{number, value, second, third, Answered, Totals};
 ghost use Rattle.answers.specs.Held.{Held};
 use language::Answer;
 use language::Place;
@@ -25,18 +25,20 @@ fn copy_words(words: &[u32], n: usize, table: &mut [u32])
     }
 }
 
-// The answer for a document whose rows and text stand in rooms of our own.
+// The answer for a document whose rows and text stand in rooms of our own, and whose escapes are counted.
 pub fn answer(
     doc: &[u8],
     rows: &[u32],
     bytes: &[u8],
     n: usize,
     m: usize,
+    escapes: usize,
     table: &mut [u32],
     text: &mut [u8],
 ) -> Answer
-    requires { ⌜ Held (now doc) (now rows) (now bytes) n m ⌝ }
+    requires { ⌜ Held (now doc) (now rows) (now bytes) n m escapes ⌝ }
     ensures { λ r. ⌜ Answered (now (doc .entry)) (now (table .entry)) (now (text .entry)) (number r) (value r) (second r) (now (table .exit)) (now (text .exit)) ⌝ }
+    ensures { λ r. ⌜ Totals (now (doc .entry)) (number r) (third r) ⌝ }
 {
     match first_repeat(&*rows, &*bytes, n) {
         Repeat::At(p) => {
@@ -52,5 +54,5 @@ pub fn answer(
     }
     copy_words(&*rows, WIDTH * n, table);
     copy(&*bytes, 0, m, text, 0);
-    Answer::Accepted(Row(n), m)
+    Answer::Accepted(Row(n), m, escapes)
 }

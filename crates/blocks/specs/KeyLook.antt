@@ -6,12 +6,12 @@ use Prim.Native.Nat.{ℕ, suc, _+_, _≤_, _<_}
 use native.Mathlib.Omega.{arith}
 use lib.ListN.{length}
 use Rattle.language.specs.Kind.{KEY}
-use Rattle.language.specs.Tree.{Tree, leaf}
+use Rattle.language.specs.Tree.{Tree, leaf, unescaped}
 use Rattle.language.specs.Strings.{keybyte}
 use Rattle.exact.specs.Class.{pick, clash, Class, and, or, is, and-of, only, only-eq, apart-no}
 use Rattle.exact.specs.Out.{Out, Reader, bind, reach, count, behind, Tame, Firm, reach-from, f-ok, f-bad, ok, soft, bad}
 use Rattle.exact.specs.Lang.{retR, byteR}
-use Rattle.exact.specs.Comb.{seqR, many-bytes}
+use Rattle.exact.specs.Comb.{seqR, many-bytes, mapR}
 use Rattle.exact.specs.Ll.{hereR, wordR}
 use Rattle.exact.specs.More.{ll-shuts}
 use Rattle.strings.specs.Spans.{spannedR}
@@ -73,14 +73,14 @@ key-bare at b s e =
     let m = many-bytes (is keybyte) (length s) (suc at) s (omega arith) in
     let n : bareR at (b ∷ s) ≡ ok (b ∷ m .0) (at + keys (b ∷ s)) (unkeyed (b ∷ s)) =
     rw e (ap (λ o. bind o (λ cs. retR (b ∷ cs))) (m .1) ∙ ap (λ (n : ℕ). ok (b ∷ m .0) n (unkeyed s)) (omega arith)) in
-    (leaf KEY at (at + keys (b ∷ s)) (b ∷ m .0), ap (λ (c : Bool). bind (pick c (bareR at (b ∷ s)) (quotedR at (b ∷ s))) (λ v a. retR (leaf KEY at a v) a)) e ∙ ap (λ o. bind o (λ v a. retR (leaf KEY at a v) a)) n)
+    (leaf KEY at (at + keys (b ∷ s)) (unescaped (b ∷ m .0)), ap (λ (c : Bool). bind (pick c (mapR unescaped bareR at (b ∷ s)) (quotedR at (b ∷ s))) (λ v a. retR (leaf KEY at a v) a)) e ∙ ap (λ o. bind (bind o (λ v. retR (unescaped v))) (λ v a. retR (leaf KEY at a v) a)) n)
 
 -- a quoted key
 pub key-quoted : (at b : ℕ) (s : List ℕ) → is quotes b ≡ true → keyR at (b ∷ s) ≡ bind (quotedR at (b ∷ s)) (λ v a. retR (leaf KEY at a v) a)
 unfolding keyR nameR spannedR
 key-quoted at b s e =
     ap
-    (λ (c : Bool). bind (pick c (bareR at (b ∷ s)) (quotedR at (b ∷ s))) (λ v a. retR (leaf KEY at a v) a))
+    (λ (c : Bool). bind (pick c (mapR unescaped bareR at (b ∷ s)) (quotedR at (b ∷ s))) (λ v a. retR (leaf KEY at a v) a))
     (apart-no quotes keybyte b refl e)
 
 -- no key

@@ -7,7 +7,7 @@ use native.Mathlib.Omega.{arith}
 use native.Mathlib.Decide.{decLe}
 use lib.ListN.{length, take}
 use Rattle.language.specs.Kind.{KEY}
-use Rattle.language.specs.Tree.{Tree, leaf}
+use Rattle.language.specs.Tree.{Tree, leaf, Decoded}
 use Rattle.language.specs.Strings.{keybyte}
 use Rattle.language.specs.Inline.{LineValue}
 use Rattle.exact.specs.Class.{Starts, pick, clash, _to_, Class, or, is, none, inside, only, only-eq, apart-no}
@@ -98,12 +98,12 @@ module _ {T : Tree → Lang Tree} {d : ℕ} {base : Reader Tree} {tR : Tree → 
       by n false x false z = line-past at b s k (line .moves .tame at (b ∷ s)) (read line at (b ∷ s))
 
 -- A QUOTED STRING, and then what no colon begins
-pub quoted-stands : {e : ℕ} (q : List ℕ → Reader Tree) → ((v : List ℕ) → Tame e (q v)) → ((v : List ℕ) (a : ℕ) (t : List ℕ) → q v a (58 ∷ t) ≡ bad a)
+pub quoted-stands : {e : ℕ} (q : Decoded → Reader Tree) → ((v : Decoded) → Tame e (q v)) → ((v : Decoded) (a : ℕ) (t : List ℕ) → q v a (58 ∷ t) ≡ bad a)
     → (at b : ℕ) (s : List ℕ) → is quotes b ≡ true → Stands (blockLook at (b ∷ s)) (keyStop at (b ∷ s)) (bind (quotedR at (b ∷ s)) q)
 quoted-stands q m shut at b s e =
     rw (apart-no quotes (only 45) b refl e, key-quoted at b s e) (go (quoted-ll .firm at (b ∷ s)))
   where
-    behind : (v : List ℕ) (a : ℕ) (t : List ℕ) → Stands (colon t) a (q v a t)
+    behind : (v : Decoded) (a : ℕ) (t : List ℕ) → Stands (colon t) a (q v a t)
     behind v a [] = past refl (reach-from (m v .tame a []))
     behind v a (c ∷ t) = by (is (only 58) c) refl
       where
@@ -111,7 +111,7 @@ quoted-stands q m shut at b s e =
         by true x = refused a (subst (λ (n : ℕ). q v a (n ∷ t) ≡ bad a) (sym (only-eq 58 c x)) (shut v a t)) (omega arith)
         by false x = past refl (reach-from (m v .tame a (c ∷ t)))
 
-    go : {o : Out (List ℕ)} → Firm o → Stands (keyed (bind o (λ v a. retR (leaf KEY at a v) a))) (reach (bind o (λ v a. retR (leaf KEY at a v) a))) (bind o q)
+    go : {o : Out Decoded} → Firm o → Stands (keyed (bind o (λ v a. retR (leaf KEY at a v) a))) (reach (bind o (λ v a. retR (leaf KEY at a v) a))) (bind o q)
     go (f-ok {v = v} {a = a} {t = t}) = behind v a t
     go (f-bad {p = p}) = refused p refl (omega arith)
 

@@ -4,7 +4,7 @@ use mathlib.Core.List.{List, _∷_, _++_}
 use mathlib.Core.Bool.{Bool, true, false}
 use Prim.Native.Nat.{ℕ, suc, _<_}
 use native.Mathlib.Omega.{arith}
-use Rattle.language.specs.Tree.{Tree}
+use Rattle.language.specs.Tree.{Tree, Decoded}
 use Rattle.language.specs.Strings.{keybyte}
 use Rattle.language.specs.Inline.{LineValue}
 use Rattle.language.specs.BlockText.{OpenString, part}
@@ -77,7 +77,7 @@ module _ (m : ℕ) where
   nestedLine-exact =
       first-exact refl (openString-opens m) (joined-opens m) (weaken 1 (lines m) (omega arith) (beyond-lines m) (openString-exact m)) (joined-exact m)
 
-  joined-split : (at : ℕ) {o : Out (List ℕ)} → Firm o
+  joined-split : (at : ℕ) {o : Out Decoded} → Firm o
       → bind (bind o (λ v. lineEndR (part v))) (joinedMoreR m at) ≡ bind o (λ v a t. bind (lineEndR (part v) a t) (joinedMoreR m at))
   joined-split at f-ok = refl
   joined-split at f-bad = refl

@@ -4,7 +4,7 @@ use mathlib.Core.List.{List, [], _∷_, _++_}
 use mathlib.Core.Bool.{Bool, true, false}
 use Prim.Native.Nat.{ℕ, zero, suc}
 use Rattle.language.specs.Kind.{NULL, FALSE, TRUE, INTEGER, FLOAT}
-use Rattle.language.specs.Tree.{Tree, leaf}
+use Rattle.language.specs.Tree.{Tree, leaf, unescaped}
 use Rattle.language.specs.Characters.{Option}
 use Rattle.language.specs.Scalars.{nullWord, trueWord, falseWord, nanWord, infinityWord, Keyword, Keywords, digit, Further, Digits, One, signed, Integer, Pointed, Exponent, Float, Plain}
 use Rattle.language.specs.Strings.{keybyte}
@@ -23,7 +23,7 @@ abbrev pub plainbyte : Class
 plainbyte = (32 to 32) ∷ (43 to 43) ∷ (45 to 46) ∷ (48 to 57) ∷ (97 to 122) ∷ []
 
 keyword-bytes : (kind : ℕ) (word text : List ℕ) → all plainbyte word ≡ true → Bytes plainbyte (Keyword kind word text)
-keyword-bytes kind word text h = seq-bytes here-bytes λ a. seq-bytes (word-bytes word h) λ _. seq-bytes here-bytes λ e. ret-bytes (leaf kind a e text)
+keyword-bytes kind word text h = seq-bytes here-bytes λ a. seq-bytes (word-bytes word h) λ _. seq-bytes here-bytes λ e. ret-bytes (leaf kind a e (unescaped text))
 
 keywords-bytes : Bytes plainbyte Keywords
 keywords-bytes =
@@ -49,7 +49,7 @@ digits-bytes spaced = seq-bytes (byte-bytes digit refl) λ d. seq-bytes (star-by
 integer-bytes : (spaced : Bool) → Bytes plainbyte (Integer spaced)
 integer-bytes spaced =
     seq-bytes here-bytes λ a.
-    seq-bytes (option-bytes (one-bytes (only 45) refl)) λ m. seq-bytes (digits-bytes spaced) λ ds. seq-bytes here-bytes λ e. ret-bytes (leaf INTEGER a e (signed m ds))
+    seq-bytes (option-bytes (one-bytes (only 45) refl)) λ m. seq-bytes (digits-bytes spaced) λ ds. seq-bytes here-bytes λ e. ret-bytes (leaf INTEGER a e (unescaped (signed m ds)))
 
 pointed-bytes : (spaced : Bool) → Bytes plainbyte (Pointed spaced)
 pointed-bytes spaced =
@@ -70,7 +70,7 @@ float-bytes spaced =
     (alt-bytes
     (seq-bytes (pointed-bytes spaced) λ p. seq-bytes (option-bytes (exponent-bytes spaced)) λ x. ret-bytes (p ++ x))
     (seq-bytes (digits-bytes spaced) λ ds. seq-bytes (exponent-bytes spaced) λ x. ret-bytes (ds ++ x)))
-    λ w. seq-bytes here-bytes λ e. ret-bytes (leaf FLOAT a e (m ++ w))
+    λ w. seq-bytes here-bytes λ e. ret-bytes (leaf FLOAT a e (unescaped (m ++ w)))
 
 plain-bytes : (spaced : Bool) → Bytes plainbyte (Plain spaced)
 plain-bytes spaced = alt-bytes keywords-bytes (alt-bytes (integer-bytes spaced) (float-bytes spaced))

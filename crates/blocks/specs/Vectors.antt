@@ -4,7 +4,7 @@ use mathlib.Core.Path.{_≡_, refl}
 use mathlib.Core.List.{List, [], _∷_}
 use Prim.Native.Nat.{ℕ, zero, suc}
 use Rattle.language.specs.Kind.{INTEGER, ARRAY, OBJECT, KEY, STRING}
-use Rattle.language.specs.Tree.{Tree, leaf, node, none, more}
+use Rattle.language.specs.Tree.{Tree, leaf, node, none, more, unescaped}
 use Rattle.language.specs.Scalars.{plain, minus}
 use Rattle.language.specs.Strings.{hexNumber}
 use Rattle.language.specs.BlockText.{bodyText, bodyEnd}
@@ -44,12 +44,12 @@ dashes (suc n) s = 45 ∷ 32 ∷ dashes n s
 
 -- TREES
 -- `-␠-5⏎`: an array of -5
-t₁ : answer (45 ∷ 32 ∷ 45 ∷ 53 ∷ 10 ∷ []) ≡ acc (node ARRAY 0 4 1 (more (leaf INTEGER 2 4 (45 ∷ 53 ∷ [])) none))
+t₁ : answer (45 ∷ 32 ∷ 45 ∷ 53 ∷ 10 ∷ []) ≡ acc (node ARRAY 0 4 1 (more (leaf INTEGER 2 4 (unescaped (45 ∷ 53 ∷ []))) none))
 unfolding answer
 t₁ = refl
 
 -- `-␠-␠5⏎`: an array of an array of 5
-t₂ : answer (45 ∷ 32 ∷ 45 ∷ 32 ∷ 53 ∷ 10 ∷ []) ≡ acc (node ARRAY 0 5 1 (more (node ARRAY 2 5 1 (more (leaf INTEGER 4 5 (53 ∷ [])) none)) none))
+t₂ : answer (45 ∷ 32 ∷ 45 ∷ 32 ∷ 53 ∷ 10 ∷ []) ≡ acc (node ARRAY 0 5 1 (more (node ARRAY 2 5 1 (more (leaf INTEGER 4 5 (unescaped (53 ∷ []))) none)) none))
 unfolding answer
 t₂ = refl
 
@@ -60,7 +60,7 @@ t₃ : answer
     (node ARRAY 0 27 1
     (more
     (node OBJECT 2 27 2
-    (more (leaf KEY 2 3 (97 ∷ [])) (more (leaf INTEGER 5 6 (49 ∷ [])) (more (leaf KEY 9 10 (98 ∷ [])) (more (leaf STRING 16 27 (99 ∷ 100 ∷ [])) none)))))
+    (more (leaf KEY 2 3 (unescaped (97 ∷ []))) (more (leaf INTEGER 5 6 (unescaped (49 ∷ []))) (more (leaf KEY 9 10 (unescaped (98 ∷ []))) (more (leaf STRING 16 27 (unescaped (99 ∷ 100 ∷ []))) none)))))
     none))
 unfolding answer
 t₃ = refl
@@ -68,7 +68,7 @@ t₃ = refl
 -- `a:␠G⏎⏎b:␠1⏎`: the blank line is the block string's
 t₄ : answer (97 ∷ 58 ∷ 32 ∷ 96 ∷ 10 ∷ 10 ∷ 98 ∷ 58 ∷ 32 ∷ 49 ∷ 10 ∷ [])
     ≡ acc
-    (node OBJECT 0 10 2 (more (leaf KEY 0 1 (97 ∷ [])) (more (leaf STRING 3 4 []) (more (leaf KEY 6 7 (98 ∷ [])) (more (leaf INTEGER 9 10 (49 ∷ [])) none)))))
+    (node OBJECT 0 10 2 (more (leaf KEY 0 1 (unescaped (97 ∷ []))) (more (leaf STRING 3 4 (unescaped [])) (more (leaf KEY 6 7 (unescaped (98 ∷ []))) (more (leaf INTEGER 9 10 (unescaped (49 ∷ []))) none)))))
 unfolding answer
 t₄ = refl
 

@@ -17,11 +17,15 @@ use Rattle.exact.specs.Ll.{wordR}
 use Rattle.exact.specs.Block.{lead}
 use Rattle.exact.specs.Place.{peek, peek-in, runEnd, byte-is, byte-not, alt-is, alt-not}
 use Rattle.language.specs.Kind.{BYTES}
-use Rattle.language.specs.BlockText.{part, partBytes, partEnd}
+use Rattle.language.specs.BlockText.{part, partText, partEnd}
 use Rattle.characters.specs.declared.Skip.{Skip}
 use Rattle.characters.specs.declared.Skip.the-variants.{End}
 use Rattle.characters.specs.Reads.{Skips}
 use Rattle.characters.specs.Comments.{commentR, optionalCommentR}
+use Rattle.language.specs.Tree.{unescaped, leaf}
+use Rattle.strings.specs.Joining.{none-then}
+use Rattle.blocktext.proofs.StringLaws.{fmap-same}
+use Rattle.rooms.specs.Told.{ESCAPE, spot, tally, told, spot-on, tally-on}
 use Rattle.rooms.specs.declared.Cursor.{Cursor}
 use Rattle.rooms.specs.declared.Ans.{Ans}
 use Rattle.rooms.specs.declared.Ans.the-variants.{Ok, No}
@@ -55,7 +59,7 @@ module _ (doc : List ℕ) (c : Cursor) (b : ℕ) (k : b ≡ peek doc (c .at)) wh
       go (Ok m) y =
           let apart : c .at ≡ m .at → ⊥ = λ q. let u = ap (peek doc) q in let v = y .feed in omega arith in
           record {
-            bytes = [];
+            bytes = unescaped [];
             far = 0;
             reads = bare-closed doc (c .at) (sym k ∙ h) (y .value) (m .at) (y .is) (y .feed);
             near = omega arith;
@@ -63,6 +67,7 @@ module _ (doc : List ℕ) (c : Cursor) (b : ℕ) (k : b ≡ peek doc (c .at)) wh
             inside = y .inside;
             end = y .text ∙ sym (add-zero (c .text));
             few = omega (arith, y .from);
+            scant = omega (arith, y .from);
             room = refl;
           }
       go (No p) y = bare-open doc (c .at) (sym k ∙ h) p y
@@ -85,7 +90,7 @@ module _ (doc : List ℕ) (c : Cursor) (b : ℕ) (k : b ≡ peek doc (c .at)) wh
       unfolding Closing PartAt
       rest-pairs g r s q = go r (closing doc (n .at) (optionalCommentR (n .at) (drop (n .at) doc)) n g r s q)
         where
-          t : Rattle.strings.specs.Contract.Spelt doc c n (paired .texted .value) T T'
+          t : Rattle.strings.specs.Contract.Spelt doc c n (unescaped (paired .texted .value)) T T'
           t = paired .texted .spelt
 
           go : (r : Ans) → Closing doc (n .at) (optionalCommentR (n .at) (drop (n .at) doc)) n r → PartAt doc c (hexRestR (c .at) (drop (c .at) doc)) r T T'
@@ -93,7 +98,7 @@ module _ (doc : List ℕ) (c : Cursor) (b : ℕ) (k : b ≡ peek doc (c .at)) wh
               let l = comment-reach doc (n .at) in
               let u = ap Rattle.exact.specs.Out.reach (y .is) in
               record {
-                bytes = paired .texted .value;
+                bytes = unescaped (paired .texted .value);
                 far = far;
                 reads = pairs-closed doc (c .at) (λ q. h (k ∙ q)) (paired .texted .value) (n .at) far (paired .texted .is) (paired .far-is) (y .value) (m .at) (y .is) (y .feed);
                 near = omega (arith, paired .far-is);
@@ -101,6 +106,7 @@ module _ (doc : List ℕ) (c : Cursor) (b : ℕ) (k : b ≡ peek doc (c .at)) wh
                 inside = y .inside;
                 end = y .text ∙ t .end;
                 few = omega (arith, y .from, t .few);
+                scant = omega (arith, y .from, t .scant);
                 room = t .room;
               }
           go (No p) y = pairs-open doc (c .at) (λ q. h (k ∙ q)) (paired .texted .value) (n .at) far (paired .texted .is) (paired .far-is) p y
@@ -121,7 +127,7 @@ module _ (doc : List ℕ) (c : Cursor) (col e x : ℕ) where
     hex-from = sp .from
 
     pub hex-done : (parent : ℕ) (b : Block) (R R' : List ℕ) → s - (n .at + 1) ≤ col → Rowed c parent BYTES (n .at + 1) (n .text) s (n .at) b R R'
-        → Furthers doc c parent BYTES (hexLinesR col (e + 1) (drop (e + 1) doc)) (partEnd e) partBytes (e + 1) x b R R' T₀ T
+        → Furthers doc c parent BYTES (hexLinesR col (e + 1) (drop (e + 1) doc)) (partEnd e) partText (e + 1) x b R R' T₀ T
     unfolding hexLinesR
     hex-done parent b R R' l y =
         let k : s ≤ n .at + 1 + col = omega (arith, sp .from) in
@@ -139,11 +145,11 @@ module _ (doc : List ℕ) (c : Cursor) (col e x : ℕ) where
           let a = i .ahead in
           let b = i .spare in
           let d = i .ready .fewRows in
-          record { small = i .ready .small; inside = sp .inside; fewRows = omega (arith, sp .from); fewText = omega (arith, sp .from) }
+          record { small = i .ready .small; inside = sp .inside; fewRows = omega (arith, sp .from); fewText = omega (arith, sp .from); fewEscapes = omega (arith, sp .from, i .thin) }
 
       module _ (a : Ans) (T' : List ℕ) (p : PartAt doc (record { at = s; row = 0; text = n .text }) (hexRestR s (drop s doc)) a T T') where
         pub hex-stop : (parent u : ℕ) (R R' : List ℕ) → a ≡ No u
-            → Furthers doc c parent BYTES (hexLinesR col (e + 1) (drop (e + 1) doc)) (partEnd e) partBytes (e + 1) x (Bad u) R R' T₀ T'
+            → Furthers doc c parent BYTES (hexLinesR col (e + 1) (drop (e + 1) doc)) (partEnd e) partText (e + 1) x (Bad u) R R' T₀ T'
         unfolding hexLinesR
         hex-stop parent u R R' z =
             part-stop (deeper col) (lead col) (hexLineR col) doc c e x n T₀ T i parent BYTES u (hexRestR s (drop s doc)) (record { at = s; row = 0; text = n .text }) a R R' T'
@@ -199,7 +205,8 @@ module _ (doc : List ℕ) (c : Cursor) (col : ℕ) (i : Asked doc c 62 col) (a :
     pub bytes-ready : Ready doc (record { at = m .at; row = 0; text = m .text })
     bytes-ready =
         let d = i .ready .fewText in
-        record { small = i .ready .small; inside = omega (arith, open-in, far-off); fewRows = omega arith; fewText = omega (arith, far-off, same-text) }
+        let f = i .ready .fewEscapes in
+        record { small = i .ready .small; inside = omega (arith, open-in, far-off); fewRows = omega arith; fewText = rw same-text (omega (arith, far-off)); fewEscapes = rw same-text (omega (arith, far-off)) }
 
     open-is : openBytesR col (c .at) (drop (c .at) doc) ≡ openBytesRestR col (c .at) (m .at) (drop (m .at) doc)
     open-is =
@@ -218,30 +225,43 @@ module _ (doc : List ℕ) (c : Cursor) (col : ℕ) (i : Asked doc c 62 col) (a :
         unfolding PartAt
         first = rw x at p
 
+        -- where the first line's text ends
+        first-fits : spot (c .text) + length (first .bytes .bytes) < ESCAPE
+        first-fits = omega (arith, i .ready .small, i .ready .fewText, first .few, first .inside, far-off)
+
+        first-text : e .text ≡ c .text + told (first .bytes)
+        first-text = first .end ∙ ap (_+ told (first .bytes)) same-text
+
         pub bytes-begun : Begun doc c (e .at) (e .text) col
         bytes-begun =
             let d = i .ready .fewText in
+            let f = i .ready .fewEscapes in
+            let p = ap spot first-text ∙ spot-on (c .text) (length (first .bytes .bytes)) (first .bytes .escapes) first-fits in
+            let q = ap tally first-text ∙ tally-on (c .text) (length (first .bytes .bytes)) (first .bytes .escapes) first-fits in
             record {
               ready = i .ready;
               ahead = omega (arith, first .ahead, far-off);
               inside = first .inside;
-              few = omega (arith, first .end, first .few, far-off, same-text);
+              few = omega (arith, first .few, far-off);
+              scant = omega (arith, first .scant, far-off);
               low = i .low;
             }
 
         pub bytes-block : (parent : ℕ) (k : Block) (R R' T' : List ℕ)
-            → Furthers doc c parent BYTES (hexLinesR col (e .at + 1) (drop (e .at + 1) doc)) (partEnd (e .at)) partBytes (e .at + 1) (e .text) k R R' T₁ T'
+            → Furthers doc c parent BYTES (hexLinesR col (e .at + 1) (drop (e .at + 1) doc)) (partEnd (e .at)) partText (e .at + 1) (e .text) k R R' T₁ T'
             → Blocks doc c parent (openBytesR col (c .at) (drop (c .at) doc)) k R R' T T'
         unfolding hexLinesR
         bytes-block parent k R R' T' f =
-            block-of doc c parent BYTES (hexLinesR col (e .at + 1) (drop (e .at + 1) doc)) (partEnd (e .at)) partBytes (e .at + 1) (e .text) k R R' T T₁ T' _ (first .bytes)
+            block-of doc c parent BYTES (hexLinesR col (e .at + 1) (drop (e .at + 1) doc)) (partEnd (e .at)) partText (e .at + 1) (e .text) k R R' T T₁ T' _ (first .bytes)
+            (i .ready)
             (open-is
             ∙ (ap (λ o. bind o (λ h. mapR (λ hs. bytesTree (c .at) (h ∷ hs)) (hexLinesR col))) (first .reads)
             ∙ below-first (deeper col) (lead col) (hexLineR col) (hexLine-exact col .moves) (λ h hs. bytesTree (c .at) (h ∷ hs)) (first .far) (part (first .bytes) (e .at)) (e .at + 1) (drop (e .at + 1) doc) (first .near)))
             (lit< tt)
-            (first .room ∙ ap (λ x. sets T x (first .bytes)) same-text)
-            (first .end ∙ ap (_+ length (first .bytes)) same-text)
+            (first .room ∙ ap (λ x. sets T (spot x) (first .bytes .bytes)) same-text)
+            first-text
             (omega (arith, first .few, far-off))
+            (omega (arith, first .scant, far-off))
             f
 
 -- ---- the leader of a property's block bytes
@@ -292,7 +312,7 @@ module _ (doc : List ℕ) (c : Cursor) (col e : ℕ) (i : Begun doc c e (c .text
   first-from = first-sp .from
 
   pub first-shallow : (parent : ℕ) (R T : List ℕ) → s - (e + 1) ≤ col
-      → Furthers doc c parent BYTES (plusR (hexLineR col) (hexLinesR col) (e + 1) (drop (e + 1) doc)) (partEnd 0) partBytes (e + 1) (c .text) (Bad s) R R T T
+      → Furthers doc c parent BYTES (plusR (hexLineR col) (hexLinesR col) (e + 1) (drop (e + 1) doc)) (partEnd 0) partText (e + 1) (c .text) (Bad s) R R T T
   first-shallow parent R T l =
       let k : s ≤ e + 1 + col = omega (arith, first-sp .from) in
       stopped s refl
@@ -308,11 +328,11 @@ module _ (doc : List ℕ) (c : Cursor) (col e : ℕ) (i : Begun doc c e (c .text
         let a = i .ahead in
         let b = i .ready .fewRows in
         let d = i .ready .fewText in
-        record { small = i .ready .small; inside = first-sp .inside; fewRows = omega (arith, first-sp .from); fewText = omega (arith, first-sp .from) }
+        record { small = i .ready .small; inside = first-sp .inside; fewRows = omega (arith, first-sp .from); fewText = omega (arith, first-sp .from); fewEscapes = omega (arith, first-sp .from, i .ready .fewEscapes) }
 
     module _ (a : Ans) (T T₁ : List ℕ) (p : PartAt doc (record { at = s; row = 0; text = c .text }) (hexRestR s (drop s doc)) a T T₁) where
       pub first-stop : (parent u : ℕ) (R : List ℕ) → a ≡ No u
-          → Furthers doc c parent BYTES (plusR (hexLineR col) (hexLinesR col) (e + 1) (drop (e + 1) doc)) (partEnd 0) partBytes (e + 1) (c .text) (Bad u) R R T T₁
+          → Furthers doc c parent BYTES (plusR (hexLineR col) (hexLinesR col) (e + 1) (drop (e + 1) doc)) (partEnd 0) partText (e + 1) (c .text) (Bad u) R R T T₁
       unfolding PartAt
       first-stop parent u R z =
           let y : hexRestR s (drop s doc) ≡ bad u = rw z at p in
@@ -323,20 +343,32 @@ module _ (doc : List ℕ) (c : Cursor) (col e : ℕ) (i : Begun doc c e (c .text
         unfolding PartAt
         line = rw z at p
 
+        line-fits : spot (c .text) + length (line .bytes .bytes) < ESCAPE
+        line-fits = omega (arith, i .ready .small, i .ready .fewText, line .few, line .inside, first-sp .from, i .ahead)
+
         pub first-begun : Begun doc c (n .at) (n .text) col
         first-begun =
             let d = i .ready .fewText in
             let f = i .ahead in
-            record { ready = i .ready; ahead = omega (arith, line .ahead, first-sp .from); inside = line .inside; few = omega (arith, line .end, line .few, first-sp .from); low = i .low }
+            let p = ap spot (line .end) ∙ spot-on (c .text) (length (line .bytes .bytes)) (line .bytes .escapes) line-fits in
+            let q = ap tally (line .end) ∙ tally-on (c .text) (length (line .bytes .bytes)) (line .bytes .escapes) line-fits in
+            record {
+              ready = i .ready;
+              ahead = omega (arith, line .ahead, first-sp .from);
+              inside = line .inside;
+              few = omega (arith, line .few, first-sp .from);
+              scant = omega (arith, line .scant, first-sp .from, i .ready .fewEscapes);
+              low = i .low;
+            }
 
         pub first-went : (parent : ℕ) (r : Block) (R R' T' : List ℕ)
-            → Furthers doc c parent BYTES (hexLinesR col (n .at + 1) (drop (n .at + 1) doc)) (partEnd (n .at)) partBytes (n .at + 1) (n .text) r R R' T₁ T'
-            → Furthers doc c parent BYTES (plusR (hexLineR col) (hexLinesR col) (e + 1) (drop (e + 1) doc)) (partEnd 0) partBytes (e + 1) (c .text) r R R' T T'
+            → Furthers doc c parent BYTES (hexLinesR col (n .at + 1) (drop (n .at + 1) doc)) (partEnd (n .at)) partText (n .at + 1) (n .text) r R R' T₁ T'
+            → Furthers doc c parent BYTES (plusR (hexLineR col) (hexLinesR col) (e + 1) (drop (e + 1) doc)) (partEnd 0) partText (e + 1) (c .text) r R R' T T'
         unfolding hexLinesR
         first-went parent r R R' T' f =
             further-plus (deeper col) (lead col) (hexLineR col) (hexLine-exact col .moves) doc c parent BYTES (hexLineR col (e + 1) (drop (e + 1) doc)) (e + 1) (c .text) (line .far) (n .at)
-            (line .bytes) r R R' T T₁ T' (first-is ∙ line .reads) (line .near) (line .room) (omega (arith, line .few, first-sp .from))
-            (subst (λ j. Furthers doc c parent BYTES (hexLinesR col (n .at + 1) (drop (n .at + 1) doc)) (partEnd (n .at)) partBytes (n .at + 1) j r R R' T₁ T') (line .end) f)
+            (line .bytes) r R R' T T₁ T' (first-is ∙ line .reads) (line .near) (line .room) (omega (arith, line .few, first-sp .from)) (omega (arith, line .scant, first-sp .from)) line-fits
+            (subst (λ j. Furthers doc c parent BYTES (hexLinesR col (n .at + 1) (drop (n .at + 1) doc)) (partEnd (n .at)) partText (n .at + 1) j r R R' T₁ T') (line .end) f)
 
 -- ---- a property's block bytes
 module _ (doc : List ℕ) (c : Cursor) (col : ℕ) (i : Asked doc c 62 col) (g : Ans) (t : Takes doc c 62 g) (m : Cursor) (w : g ≡ Ok m) where
@@ -351,7 +383,7 @@ module _ (doc : List ℕ) (c : Cursor) (col : ℕ) (i : Asked doc c 62 col) (g :
       let k = peek-in doc (c .at) 62 (sym (i .first)) (omega arith) in
       let a = i .ready .fewRows in
       let d = i .ready .fewText in
-      rw property-next (record { small = i .ready .small; inside = omega arith; fewRows = omega arith; fewText = omega arith })
+      rw property-next (record { small = i .ready .small; inside = omega arith; fewRows = omega arith; fewText = omega arith; fewEscapes = omega (arith, i .ready .fewEscapes) })
 
   property-tail : propertyBytesR col (c .at) (drop (c .at) doc)
       ≡ bind (leaderCommentR (m .at) (drop (m .at) doc)) (λ _. seqR (byteR (is (only 10))) λ _. mapR (bytesTree (c .at)) (plusR (hexLineR col) (hexLinesR col)))
@@ -378,20 +410,24 @@ module _ (doc : List ℕ) (c : Cursor) (col : ℕ) (i : Asked doc c 62 col) (g :
       pub property-begun : Begun doc c (n .at) (c .text) col
       property-begun =
           let d = i .ready .fewText in
-          record { ready = i .ready; ahead = omega (arith, closed .from, place); inside = closed .inside; few = omega (arith, closed .from, place); low = i .low }
+          let f = i .ready .fewEscapes in
+          record { ready = i .ready; ahead = omega (arith, closed .from, place); inside = closed .inside; few = omega (arith, closed .from, place); scant = omega (arith, closed .from, place); low = i .low }
 
       pub property-block : (parent : ℕ) (r : Block) (R R' T T' : List ℕ)
-          → Furthers doc c parent BYTES (plusR (hexLineR col) (hexLinesR col) (n .at + 1) (drop (n .at + 1) doc)) (partEnd 0) partBytes (n .at + 1) (c .text) r R R' T T'
+          → Furthers doc c parent BYTES (plusR (hexLineR col) (hexLinesR col) (n .at + 1) (drop (n .at + 1) doc)) (partEnd 0) partText (n .at + 1) (c .text) r R R' T T'
           → Blocks doc c parent (propertyBytesR col (c .at) (drop (c .at) doc)) r R R' T T'
       property-block parent r R R' T T' f =
-          block-of doc c parent BYTES (plusR (hexLineR col) (hexLinesR col) (n .at + 1) (drop (n .at + 1) doc)) (partEnd 0) partBytes (n .at + 1) (c .text) r R R' T T T' _ []
+          block-of doc c parent BYTES (plusR (hexLineR col) (hexLinesR col) (n .at + 1) (drop (n .at + 1) doc)) (partEnd 0) partText (n .at + 1) (c .text) r R R' T T T' _ (unescaped [])
+          (i .ready)
           (property-tail
           ∙ (ap (λ o. bind o (λ _. seqR (byteR (is (only 10))) λ _. mapR (bytesTree (c .at)) (plusR (hexLineR col) (hexLinesR col)))) (closed .is)
           ∙ (ap (λ o. bind o (λ _. mapR (bytesTree (c .at)) (plusR (hexLineR col) (hexLinesR col)))) (byte-is doc (n .at) 10 (peek doc (n .at)) (omega arith) refl (closed .feed))
-          ∙ map-fmap (bytesTree (c .at)) (plusR (hexLineR col) (hexLinesR col) (n .at + 1) (drop (n .at + 1) doc)))))
+          ∙ (map-fmap (bytesTree (c .at)) (plusR (hexLineR col) (hexLinesR col) (n .at + 1) (drop (n .at + 1) doc))
+          ∙ fmap-same (bytesTree (c .at)) _ (plusR (hexLineR col) (hexLinesR col) (n .at + 1) (drop (n .at + 1) doc)) (λ hs. ap (leaf BYTES (c .at) (partEnd 0 hs)) (sym (none-then (partText hs))))))))
           (lit< tt)
           refl
           (sym (add-zero (c .text)))
+          (omega (arith, closed .from, place))
           (omega (arith, closed .from, place))
           f
 

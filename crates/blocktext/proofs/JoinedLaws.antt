@@ -17,7 +17,9 @@ use Rattle.exact.specs.Lines.{reached}
 use Rattle.exact.specs.More.{ll-shuts}
 use Rattle.exact.specs.Place.{peek, peek-in}
 use Rattle.language.specs.Kind.{STRING}
-use Rattle.language.specs.BlockText.{part, partBytes, partEnd}
+use Rattle.language.specs.BlockText.{part, partText, partEnd}
+use Rattle.strings.specs.Joining.{itself}
+use Rattle.rooms.specs.Told.{ESCAPE, spot, tally, spot-on, tally-on}
 use Rattle.rooms.specs.declared.Cursor.{Cursor}
 use Rattle.rooms.specs.declared.Ans.{Ans}
 use Rattle.rooms.specs.declared.Ans.the-variants.{Ok, No}
@@ -83,7 +85,7 @@ module _ (doc : List ℕ) (c : Cursor) (g : Ans) (T T' : List ℕ) (x : Texts do
   line-bad p z = ap (λ o. bind o (λ s. lineEndR (part s))) (rw z at x)
 
   module _ (n : Cursor) (z : g ≡ Ok n) (a : Ans) (k : Takes doc n 10 a) where
-    texted : Texted doc c (quotedR (c .at) (drop (c .at) doc)) n 0 T T'
+    texted : Texted itself doc c (quotedR (c .at) (drop (c .at) doc)) n 0 T T'
     unfolding Texts
     texted = rw z at x
 
@@ -106,6 +108,7 @@ module _ (doc : List ℕ) (c : Cursor) (g : Ans) (T T' : List ℕ) (x : Texts do
           inside = peek-in doc (n .at) 10 f (omega arith);
           end = t .end;
           few = t .few;
+          scant = t .scant;
           room = t .room;
         }
 
@@ -127,7 +130,7 @@ module _ (doc : List ℕ) (c : Cursor) (col e x : ℕ) where
 
   module _ (n : Cursor) (T₀ T : List ℕ) (i : JoinedLining n T₀ T) (g : Next) (y : NextAt doc col (n .at + 1) g) where
     pub lines-done : (parent far : ℕ) (b : Block) (R R' : List ℕ) → g ≡ Over far → Rowed c parent STRING (n .at + 1) (n .text) far (n .at) b R R'
-        → Furthers doc c parent STRING (furtherR quotes col joinedLineR (e + 1) (drop (e + 1) doc)) (partEnd e) partBytes (e + 1) x b R R' T₀ T
+        → Furthers doc c parent STRING (furtherR quotes col joinedLineR (e + 1) (drop (e + 1) doc)) (partEnd e) partText (e + 1) x b R R' T₀ T
     unfolding NextAt
     lines-done parent far b R R' z w =
         let q : Ceases doc col (n .at + 1) far = rw z at y in
@@ -143,11 +146,11 @@ module _ (doc : List ℕ) (c : Cursor) (col e x : ℕ) where
           let a = i .ahead in
           let b = i .spare in
           let d = i .ready .fewRows in
-          record { small = i .ready .small; inside = omega (arith, follows .inside); fewRows = omega (arith, follows .from); fewText = omega (arith, follows .from) }
+          record { small = i .ready .small; inside = omega (arith, follows .inside); fewRows = omega (arith, follows .from); fewText = omega (arith, follows .from); fewEscapes = omega (arith, follows .from, i .thin) }
 
       module _ (a : Ans) (T' : List ℕ) (p : PartAt doc (record { at = s; row = 0; text = n .text }) (joinedLineR s (drop s doc)) a T T') where
         pub lines-stop : (parent u : ℕ) (R R' : List ℕ) → a ≡ No u
-            → Furthers doc c parent STRING (furtherR quotes col joinedLineR (e + 1) (drop (e + 1) doc)) (partEnd e) partBytes (e + 1) x (Bad u) R R' T₀ T'
+            → Furthers doc c parent STRING (furtherR quotes col joinedLineR (e + 1) (drop (e + 1) doc)) (partEnd e) partText (e + 1) x (Bad u) R R' T₀ T'
         lines-stop parent u R R' w =
             part-stop (ind (is quotes) col) (lead col) (indentedR col joinedLineR) doc c e x n T₀ T i parent STRING u (joinedLineR s (drop s doc)) (record { at = s; row = 0; text = n .text })
             a R R' T' (follows .look) (follows .is) (omega (arith, follows .from, follows .inside)) p w
@@ -166,7 +169,7 @@ module _ (doc : List ℕ) (c : Cursor) (col e x : ℕ) where
 -- ---- at least one
 module _ (doc : List ℕ) (c : Cursor) (col e x : ℕ) (i : Begun doc c e x col) (g : Next) (y : NextAt doc col (e + 1) g) where
   pub more-none : (parent far : ℕ) (R T : List ℕ) → g ≡ Over far
-      → Furthers doc c parent STRING (plusR (indentedR col joinedLineR) (furtherR quotes col joinedLineR) (e + 1) (drop (e + 1) doc)) (partEnd 0) partBytes (e + 1) x (Bad far) R R T T
+      → Furthers doc c parent STRING (plusR (indentedR col joinedLineR) (furtherR quotes col joinedLineR) (e + 1) (drop (e + 1) doc)) (partEnd 0) partText (e + 1) x (Bad far) R R T T
   unfolding NextAt
   more-none parent far R T z =
       let q : Ceases doc col (e + 1) far = rw z at y in
@@ -183,11 +186,11 @@ module _ (doc : List ℕ) (c : Cursor) (col e x : ℕ) (i : Begun doc c e x col)
         let a = i .ahead in
         let b = i .few in
         let d = i .ready .fewRows in
-        record { small = i .ready .small; inside = omega (arith, there .inside); fewRows = omega (arith, there .from); fewText = omega (arith, there .from) }
+        record { small = i .ready .small; inside = omega (arith, there .inside); fewRows = omega (arith, there .from); fewText = omega (arith, there .from); fewEscapes = omega (arith, there .from, i .scant) }
 
     module _ (a : Ans) (T T₁ : List ℕ) (p : PartAt doc (record { at = s; row = 0; text = x }) (joinedLineR s (drop s doc)) a T T₁) where
       pub more-stop : (parent u : ℕ) (R : List ℕ) → a ≡ No u
-          → Furthers doc c parent STRING (plusR (indentedR col joinedLineR) (furtherR quotes col joinedLineR) (e + 1) (drop (e + 1) doc)) (partEnd 0) partBytes (e + 1) x (Bad u) R R T T₁
+          → Furthers doc c parent STRING (plusR (indentedR col joinedLineR) (furtherR quotes col joinedLineR) (e + 1) (drop (e + 1) doc)) (partEnd 0) partText (e + 1) x (Bad u) R R T T₁
       unfolding PartAt
       more-stop parent u R w =
           let q : joinedLineR s (drop s doc) ≡ bad u = rw w at p in
@@ -198,19 +201,31 @@ module _ (doc : List ℕ) (c : Cursor) (col e x : ℕ) (i : Begun doc c e x col)
         unfolding PartAt
         line = rw w at p
 
+        line-fits : spot x + length (line .bytes .bytes) < ESCAPE
+        line-fits = omega (arith, i .ready .small, i .few, line .few, line .inside, there .from)
+
         pub more-begun : Begun doc c (n .at) (n .text) col
         more-begun =
             let d = i .few in
             let f = i .ahead in
-            record { ready = i .ready; ahead = omega (arith, line .ahead, there .from); inside = line .inside; few = omega (arith, line .end, line .few, there .from); low = i .low }
+            let p = ap spot (line .end) ∙ spot-on x (length (line .bytes .bytes)) (line .bytes .escapes) line-fits in
+            let q = ap tally (line .end) ∙ tally-on x (length (line .bytes .bytes)) (line .bytes .escapes) line-fits in
+            record {
+              ready = i .ready;
+              ahead = omega (arith, line .ahead, there .from);
+              inside = line .inside;
+              few = omega (arith, line .few, there .from);
+              scant = omega (arith, line .scant, there .from, i .scant);
+              low = i .low;
+            }
 
         pub more-went : (parent : ℕ) (r : Block) (R R' T' : List ℕ)
-            → Furthers doc c parent STRING (furtherR quotes col joinedLineR (n .at + 1) (drop (n .at + 1) doc)) (partEnd (n .at)) partBytes (n .at + 1) (n .text) r R R' T₁ T'
-            → Furthers doc c parent STRING (plusR (indentedR col joinedLineR) (furtherR quotes col joinedLineR) (e + 1) (drop (e + 1) doc)) (partEnd 0) partBytes (e + 1) x r R R' T T'
+            → Furthers doc c parent STRING (furtherR quotes col joinedLineR (n .at + 1) (drop (n .at + 1) doc)) (partEnd (n .at)) partText (n .at + 1) (n .text) r R R' T₁ T'
+            → Furthers doc c parent STRING (plusR (indentedR col joinedLineR) (furtherR quotes col joinedLineR) (e + 1) (drop (e + 1) doc)) (partEnd 0) partText (e + 1) x r R R' T T'
         more-went parent r R R' T' f =
             further-plus (ind (is quotes) col) (lead col) (indentedR col joinedLineR) (tame col) doc c parent STRING (indentedR col joinedLineR (e + 1) (drop (e + 1) doc)) (e + 1) x (line .far) (n .at)
-            (line .bytes) r R R' T T₁ T' (there .is ∙ line .reads) (line .near) (line .room) (omega (arith, line .few, there .from))
-            (subst (λ j. Furthers doc c parent STRING (furtherR quotes col joinedLineR (n .at + 1) (drop (n .at + 1) doc)) (partEnd (n .at)) partBytes (n .at + 1) j r R R' T₁ T') (line .end) f)
+            (line .bytes) r R R' T T₁ T' (there .is ∙ line .reads) (line .near) (line .room) (omega (arith, line .few, there .from)) (omega (arith, line .scant, there .from)) line-fits
+            (subst (λ j. Furthers doc c parent STRING (furtherR quotes col joinedLineR (n .at + 1) (drop (n .at + 1) doc)) (partEnd (n .at)) partText (n .at + 1) j r R R' T₁ T') (line .end) f)
 
 -- ---- the block
 firm-ok : {X : Type 0} (o : Out X) (far : ℕ) (v : X) (a : ℕ) (t : List ℕ) → Firm o → o ≡ reached far v a t → o ≡ ok v a t
@@ -233,18 +248,24 @@ module _ (doc : List ℕ) (c : Cursor) (col : ℕ) (i : Ready doc c) (low : col 
     unfolding PartAt
     first = rw w at p
 
+    first-fits : spot (c .text) + length (first .bytes .bytes) < ESCAPE
+    first-fits = omega (arith, i .small, i .fewText, first .few, first .inside)
+
     pub joined-begun : Begun doc c (n .at) (n .text) col
     joined-begun =
         let d = i .fewText in
-        record { ready = i; ahead = first .ahead; inside = first .inside; few = omega (arith, first .end, first .few); low = low }
+        let p = ap spot (first .end) ∙ spot-on (c .text) (length (first .bytes .bytes)) (first .bytes .escapes) first-fits in
+        let q = ap tally (first .end) ∙ tally-on (c .text) (length (first .bytes .bytes)) (first .bytes .escapes) first-fits in
+        record { ready = i; ahead = first .ahead; inside = first .inside; few = omega (arith, first .few); scant = omega (arith, first .scant, i .fewEscapes); low = low }
 
     pub joined-block : (parent : ℕ) (r : Block) (R R' T' : List ℕ)
-        → Furthers doc c parent STRING (plusR (indentedR col joinedLineR) (furtherR quotes col joinedLineR) (n .at + 1) (drop (n .at + 1) doc)) (partEnd 0) partBytes (n .at + 1) (n .text) r R R' T₁ T'
+        → Furthers doc c parent STRING (plusR (indentedR col joinedLineR) (furtherR quotes col joinedLineR) (n .at + 1) (drop (n .at + 1) doc)) (partEnd 0) partText (n .at + 1) (n .text) r R R' T₁ T'
         → Blocks doc c parent (joinedR col (c .at) (drop (c .at) doc)) r R R' T T'
     unfolding joinedR
     joined-block parent r R R' T' f =
-        block-of doc c parent STRING (plusR (indentedR col joinedLineR) (furtherR quotes col joinedLineR) (n .at + 1) (drop (n .at + 1) doc)) (partEnd 0) partBytes (n .at + 1) (n .text) r R R' T T₁ T' _
+        block-of doc c parent STRING (plusR (indentedR col joinedLineR) (furtherR quotes col joinedLineR) (n .at + 1) (drop (n .at + 1) doc)) (partEnd 0) partText (n .at + 1) (n .text) r R R' T T₁ T' _
         (first .bytes)
+        i
         (ap (λ o. bind o (joinedMoreR col (c .at)))
         (firm-ok (joinedLineR (c .at) (drop (c .at) doc)) (first .far) (part (first .bytes) (n .at)) (n .at + 1) (drop (n .at + 1) doc) (joinedLine-ll .firm (c .at) (drop (c .at) doc)) (first .reads))
         ∙ map-fmap (joinedTree (c .at) (part (first .bytes) (n .at))) (plusR (indentedR col joinedLineR) (furtherR quotes col joinedLineR) (n .at + 1) (drop (n .at + 1) doc)))
@@ -252,4 +273,5 @@ module _ (doc : List ℕ) (c : Cursor) (col : ℕ) (i : Ready doc c) (low : col 
         (first .room)
         (first .end)
         (omega (arith, first .few))
+        (omega (arith, first .scant))
         f

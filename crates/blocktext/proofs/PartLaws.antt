@@ -1,8 +1,8 @@
 -- Lines that add bytes, one after another, up to the LF of the last: laws as `search` takes them. Assumes nothing.
 use mathlib.Core.Path.{_≡_, refl, sym, ap, subst, _∙_}
-use mathlib.Core.List.{List, [], _∷_, _++_, append-assoc, append-nil}
+use mathlib.Core.List.{List, [], _∷_, _++_}
 use mathlib.Core.Bool.{Bool, true, false}
-use Prim.Native.Nat.{ℕ, _+_, _-_, _≤_, _<_}
+use Prim.Native.Nat.{ℕ, _+_, _-_, _≤_, _<_, _*_}
 use native.Mathlib.Nat.{add-zero}
 use native.Mathlib.Omega.{arith}
 use lib.ListN.{length, drop, length-append}
@@ -13,18 +13,21 @@ use Rattle.exact.specs.Out.{Out, Reader, Tame, soft, bad}
 use Rattle.exact.specs.Lang.{byteR}
 use Rattle.exact.specs.Block.{manyG}
 use Rattle.exact.specs.Place.{peek, peek-in}
-use Rattle.language.specs.Tree.{Tree}
-use Rattle.language.specs.BlockText.{Part, part, partBytes, partEnd}
+use Rattle.language.specs.Tree.{Tree, Decoded, _then_, width, rowList}
+use Rattle.language.specs.BlockText.{Part, part, partText, partEnd}
 use Rattle.characters.specs.declared.Skip.{Skip}
 use Rattle.characters.specs.declared.Skip.the-variants.{End}
 use Rattle.characters.specs.Reads.{Skips, Ends}
 use Rattle.characters.specs.Takes.{take-byte, take-place, take-other}
 use Rattle.blocktext.specs.Contract.{Asked}
+use Rattle.strings.specs.Joining.{then-assoc, then-nil, none-then}
+use Rattle.rooms.specs.declared.Words.{Words}
+use Rattle.rooms.specs.Told.{ESCAPE, spot, tally, told, spot-on, tally-on}
 use Rattle.rooms.specs.declared.Cursor.{Cursor}
 use Rattle.rooms.specs.declared.Ans.{Ans}
 use Rattle.rooms.specs.declared.Ans.the-variants.{Ok, No}
 use Rattle.rooms.specs.declared.Block.{Block}
-use Rattle.rooms.specs.declared.Block.the-variants.{Bad}
+use Rattle.rooms.specs.declared.Block.the-variants.{Bad, Done}
 use Rattle.rooms.specs.Contract.{Takes, Ready, Small, Blocks}
 use Rattle.rooms.specs.Stores.{sets-append}
 use Rattle.blocktext.specs.Going.{Going, going-first, going-over, going-bad, going-on}
@@ -72,21 +75,24 @@ pub record Parting (g : List ℕ → Bool) (w : List ℕ → ℕ) (r : Reader Pa
   pub parts : List Part
   pub going : Going g w r doc (e + 1) (n .at + 1) parts
   pub ends : n .at ≡ partEnd e parts
-  pub text : n .text ≡ x + length (partBytes parts)
-  pub few : e + length (partBytes parts) ≤ n .at
-  pub room : T ≡ sets T₀ x (partBytes parts)
+  pub text : n .text ≡ x + told (partText parts)
+  pub start : spot x ≤ e
+  pub few : e + length (partText parts .bytes) ≤ n .at
+  pub scant : e + partText parts .escapes ≤ n .at
+  pub room : T ≡ sets T₀ (spot x) (partText parts .bytes)
   pub inside : n .at < length doc
   pub ready : Ready doc c
   pub ahead : c .at < n .at
-  pub spare : n .text ≤ n .at
+  pub spare : spot (n .text) ≤ n .at
+  pub thin : tally (n .text) ≤ n .at
 
-end-snoc : (e : ℕ) (ps : List Part) (bs : List ℕ) (f : ℕ) → partEnd e (ps ++ part bs f ∷ []) ≡ f
-end-snoc e [] bs f = refl
-end-snoc e (part cs d ∷ ps) bs f = end-snoc d ps bs f
+end-snoc : (e : ℕ) (ps : List Part) (s : Decoded) (f : ℕ) → partEnd e (ps ++ part s f ∷ []) ≡ f
+end-snoc e [] s f = refl
+end-snoc e (part u d ∷ ps) s f = end-snoc d ps s f
 
-bytes-snoc : (ps : List Part) (bs : List ℕ) (f : ℕ) → partBytes (ps ++ part bs f ∷ []) ≡ partBytes ps ++ bs
-bytes-snoc [] bs f = append-nil bs
-bytes-snoc (part cs d ∷ ps) bs f = ap (cs ++_) (bytes-snoc ps bs f) ∙ sym (append-assoc cs (partBytes ps) bs)
+text-snoc : (ps : List Part) (s : Decoded) (f : ℕ) → partText (ps ++ part s f ∷ []) ≡ partText ps then s
+text-snoc [] s f = then-nil s ∙ sym (none-then s)
+text-snoc (part u d ∷ ps) s f = ap (u then_) (text-snoc ps s f) ∙ sym (then-assoc u (partText ps) s)
 
 module _ (g : List ℕ → Bool) (w : List ℕ → ℕ) (r : Reader Part) (doc : List ℕ) (c : Cursor) (e x : ℕ) where
   pub part-first : (col : ℕ) (row : ℕ) (T : List ℕ) → Begun doc c e x col → Parting g w r doc c e x (record { at = e; row = row; text = x }) T T
@@ -96,12 +102,15 @@ module _ (g : List ℕ → Bool) (w : List ℕ → ℕ) (r : Reader Part) (doc :
         going = going-first g w r doc (e + 1);
         ends = refl;
         text = sym (add-zero x);
+        start = i .few;
         few = omega arith;
+        scant = omega arith;
         room = refl;
         inside = i .inside;
         ready = i .ready;
         ahead = i .ahead;
         spare = i .few;
+        thin = i .scant;
       }
 
   module _ (n : Cursor) (T₀ T : List ℕ) (i : Parting g w r doc c e x n T₀ T) where
@@ -110,26 +119,37 @@ module _ (g : List ℕ → Bool) (w : List ℕ → ℕ) (r : Reader Part) (doc :
     unfolding PartAt
     part-on tame d m o a T' look h l k p z =
         let q : Parted doc d o m T T' = rw z at p in
-        let s = bytes-snoc (i .parts) (q .bytes) (m .at) in
-        let y : length (partBytes (i .parts ++ part (q .bytes) (m .at) ∷ [])) ≡ length (partBytes (i .parts)) + length (q .bytes) = ap length s ∙ length-append (partBytes (i .parts)) (q .bytes) in
+        let u = partText (i .parts) in
+        let v = q .bytes in
+        let s : partText (i .parts ++ part v (m .at) ∷ []) ≡ u then v = text-snoc (i .parts) v (m .at) in
+        let y : length (u .bytes ++ v .bytes) ≡ length (u .bytes) + length (v .bytes) = length-append (u .bytes) (v .bytes) in
+        let b : spot (n .text) ≡ spot x + length (u .bytes) = ap spot (i .text) ∙ spot-on x (length (u .bytes)) (u .escapes) (omega (arith, i .start, i .few, i .inside, i .ready .small)) in
+        let f : spot (n .text) + length (v .bytes) < ESCAPE = omega (arith, i .spare, q .few, q .inside, i .ready .small) in
+        let on : m .text ≡ n .text + told v = q .end ∙ ap (_+ told v) k in
+        let tx : spot (m .text) ≡ spot (n .text) + length (v .bytes) = ap spot on ∙ spot-on (n .text) (length (v .bytes)) (v .escapes) f in
+        let ty : tally (m .text) ≡ tally (n .text) + v .escapes = ap tally on ∙ tally-on (n .text) (length (v .bytes)) (v .escapes) f in
         record {
-          parts = i .parts ++ part (q .bytes) (m .at) ∷ [];
+          parts = i .parts ++ part v (m .at) ∷ [];
           going =
-              going-on g w r doc (e + 1) (n .at + 1) (i .parts) tame (q .far) (part (q .bytes) (m .at)) (m .at + 1) look (h ∙ q .reads) (q .near) (omega (arith, q .ahead)) (omega (arith, q .inside)) (i .going);
-          ends = sym (end-snoc e (i .parts) (q .bytes) (m .at));
-          text = omega (arith, q .end, i .text);
-          few = omega (arith, q .few, i .few);
+              going-on g w r doc (e + 1) (n .at + 1) (i .parts) tame (q .far) (part v (m .at)) (m .at + 1) look (h ∙ q .reads) (q .near) (omega (arith, q .ahead)) (omega (arith, q .inside)) (i .going);
+          ends = sym (end-snoc e (i .parts) v (m .at));
+          text = rw s (omega (arith, i .text));
+          start = i .start;
+          few = rw s (omega (arith, q .few, i .few));
+          scant = rw s (omega (arith, q .scant, i .scant));
           room =
-              q .room
-              ∙ (ap (λ t. sets t (d .text) (q .bytes)) (i .room)
-              ∙ (ap (λ j. sets (sets T₀ x (partBytes (i .parts))) j (q .bytes)) (k ∙ i .text) ∙ (sym (sets-append T₀ x (partBytes (i .parts)) (q .bytes)) ∙ ap (sets T₀ x) (sym s))));
+              rw s
+              (q .room
+              ∙ (ap (λ t. sets t (spot (d .text)) (v .bytes)) (i .room)
+              ∙ (ap (λ j. sets (sets T₀ (spot x) (u .bytes)) j (v .bytes)) (ap spot k ∙ b) ∙ sym (sets-append T₀ (spot x) (u .bytes) (v .bytes)))));
           inside = q .inside;
           ready = i .ready;
           ahead = omega (arith, q .ahead, i .ahead);
-          spare = omega (arith, q .end, q .few, i .spare);
+          spare = omega (arith, q .few, i .spare);
+          thin = omega (arith, q .scant, i .thin);
         }
 
-    pub part-small : Small (c .at) (n .at) (c .text) (n .text) (c .row + 1)
+    pub part-small : Small (c .at) (n .at) (spot (c .text)) (spot (n .text)) (c .row + 1)
     part-small =
         let a = i .ready .small in
         let b = i .ready .fewRows in
@@ -140,7 +160,7 @@ module _ (g : List ℕ → Bool) (w : List ℕ → ℕ) (r : Reader Part) (doc :
         record { first-fits = omega arith; after-fits = omega arith; from-fits = omega arith; to-fits = omega arith; next-fits = omega arith }
 
     pub part-done : (parent kind far : ℕ) (b : Block) (R R' : List ℕ) → g (drop (n .at + 1) doc) ≡ false → far ≡ n .at + 1 + w (drop (n .at + 1) doc)
-        → Rowed c parent kind (n .at + 1) (n .text) far (n .at) b R R' → Furthers doc c parent kind (manyG g w r (e + 1) (drop (e + 1) doc)) (partEnd e) partBytes (e + 1) x b R R' T₀ T
+        → Rowed c parent kind (n .at + 1) (n .text) far (n .at) b R R' → Furthers doc c parent kind (manyG g w r (e + 1) (drop (e + 1) doc)) (partEnd e) partText (e + 1) x b R R' T₀ T
     part-done parent kind far b R R' look f y =
         went
         (record {
@@ -150,17 +170,27 @@ module _ (g : List ℕ → Bool) (w : List ℕ → ℕ) (r : Reader Part) (doc :
           reads = going-over g w r doc (e + 1) (n .at + 1) (i .parts) look (i .going) ∙ ap (λ j. soft j (i .parts) (n .at + 1) (drop (n .at + 1) doc)) (sym f);
           room = i .room;
           row =
-              subst (λ j. Rowed c parent kind (n .at + 1) (x + length (partBytes (i .parts))) far j b R R') (i .ends)
+              subst (λ j. Rowed c parent kind (n .at + 1) (x + told (partText (i .parts))) far j b R R') (i .ends)
               (subst (λ j. Rowed c parent kind (n .at + 1) j far (n .at) b R R') (i .text) y);
           inside = omega (arith, i .inside);
           inner = omega (arith, i .ends);
           few = omega (arith, i .few);
+          scant = omega (arith, i .scant);
           ahead = omega arith;
         })
 
     pub part-stop : (parent kind p : ℕ) (o : Out Part) (d : Cursor) (a : Ans) (R R' T' : List ℕ) → g (drop (n .at + 1) doc) ≡ true → r (n .at + 1) (drop (n .at + 1) doc) ≡ o → n .at + 1 < length doc
-        → PartAt doc d o a T T' → a ≡ No p → Furthers doc c parent kind (manyG g w r (e + 1) (drop (e + 1) doc)) (partEnd e) partBytes (e + 1) x (Bad p) R R' T₀ T'
+        → PartAt doc d o a T T' → a ≡ No p → Furthers doc c parent kind (manyG g w r (e + 1) (drop (e + 1) doc)) (partEnd e) partText (e + 1) x (Bad p) R R' T₀ T'
     unfolding PartAt
     part-stop parent kind p o d a R R' T' look h l q z =
         let y : o ≡ bad p = rw z at q in
         stopped p refl (going-bad g w r doc (e + 1) (n .at + 1) (i .parts) p l look (h ∙ y) (i .going))
+
+-- ---- the row of a leaf
+pub rowed : (c : Cursor) (parent kind at x far e y z : ℕ) (w : Words) (R R' : List ℕ) → y ≡ spot (c .text) → z ≡ spot x
+    → w ≡ record { kind = kind; first = c .at; after = e; from = y; to = z; parent = parent; next = c .row + 1 }
+    → R' ≡ sets R (width * c .row) (rowList (w .kind) (w .first) (w .after) (w .from) (w .to) (w .parent) (w .next))
+    → Rowed c parent kind at x far e (Done (record { at = at; row = c .row + 1; text = x }) far e) R R'
+rowed c parent kind at x far e y z w R R' a b h r = record { is = refl; table = rw (h, a, b) at r }
+
+pub ruleset rows = (rowed, needs)

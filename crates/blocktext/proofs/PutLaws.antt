@@ -2,7 +2,7 @@
 use mathlib.Core.Path.{_≡_, refl, sym, ap, subst, _∙_}
 use mathlib.Core.List.{List, [], _∷_, _++_, append-assoc}
 use mathlib.Core.Logic.{_⊎_, inl, inr}
-use Prim.Native.Nat.{ℕ, suc, _+_, _-_, _≤_, _<_, min}
+use Prim.Native.Nat.{ℕ, suc, _+_, _-_, _≤_, _<_, min, _*_, _^_}
 use native.Mathlib.Omega.{arith}
 use native.Mathlib.Decide.{decLe}
 use lib.ListN.{length, set, length-append}
@@ -11,11 +11,12 @@ use borrow.Author.Needs.{needs}
 use Rattle.exact.specs.Place.{peek}
 use Rattle.language.specs.BlockText.{Line, blank, line, hold, trim, lower, spaces, unlines, bodyText, bodyEnd}
 use Rattle.language.specs.Answered.{limit}
+use Rattle.rooms.specs.Told.{ESCAPE, spot, tally, spot-plain, tally-plain, word-is}
 use Rattle.rooms.specs.Stores.{sets-append}
 use Rattle.rooms.specs.declared.Cursor.{Cursor}
 use Rattle.rooms.specs.declared.Ans.{Ans}
 use Rattle.rooms.specs.declared.Ans.the-variants.{Ok, No}
-use Rattle.rooms.specs.Contract.{columns, Takes}
+use Rattle.rooms.specs.Contract.{columns, Takes, ample}
 use Rattle.rooms.specs.Laws.{take-next, take-byte, take-place, take-other}
 use Rattle.characters.specs.Runs.{Fed}
 use Rattle.blocktext.specs.Spaces.{slice-front}
@@ -42,8 +43,8 @@ same-feed {doc} {c} {a} {s} {e} r t f = by (decLe (suc r) e) (decLe (suc e) r)
     by (no h) (no k) = omega arith
 
 module _ (doc : List ℕ) (col m : ℕ) (n : Cursor) (a : Ans) (t : Takes doc n 10 a) (T : List ℕ) where
-  pub put-blank : (n' : Cursor) → a ≡ Ok n' → (T' : List ℕ) → T' ≡ set T (n .text) 10 → LinePut doc col m n (record { at = n' .at; row = n' .row; text = n .text + 1 }) T T'
-  put-blank n' y T' r = rw (take-next doc n 10 a t n' y) (record { at = at; stored = stored })
+  pub put-blank : (n' : Cursor) → a ≡ Ok n' → (x : ℕ) (T' : List ℕ) → x ≡ spot (n .text) → T' ≡ set T x 10 → LinePut doc col m n (record { at = n' .at; row = n' .row; text = n .text + 1 }) T T'
+  put-blank n' y x T' q r = rw (take-next doc n 10 a t n' y) (record { at = at; stored = stored })
     where
       h : peek doc (n .at) ≡ 10
       h = sym (take-byte doc n 10 a t n' y)
@@ -56,7 +57,7 @@ module _ (doc : List ℕ) (col m : ℕ) (n : Cursor) (a : Ans) (t : Takes doc n 
       at _ _ (one-text t x) = absurd (no t)
 
       stored : (l : Line) (z : ℕ) → One doc col m (n .at) l z → Stored (n .text) (n .text + 1) (unlines m (l ∷ [])) T T'
-      stored _ _ (one-blank x) = record { end = omega arith; room = r }
+      stored _ _ (one-blank _) = record { end = omega arith; room = rw q at r }
       stored _ _ (one-text t x) = absurd (no t)
 
   pub put-place : (p : ℕ) → a ≡ No p → Lined doc col m n → p ≤ length doc
@@ -82,7 +83,7 @@ module _ (doc : List ℕ) (col m : ℕ) (n : Cursor) (a : Ans) (t : Takes doc n 
     pub put-inside : e ≤ length doc
     put-inside = f .dried .inside
 
-    put-from : (from : ℕ) → from ≡ p + col + 1 + m → (T₁ T' : List ℕ) → T₁ ≡ sets T (n .text) (slice from e doc) → T' ≡ set T₁ (n .text + (e - from)) 10
+    put-from : (from : ℕ) → from ≡ p + col + 1 + m → (T₁ T' : List ℕ) → T₁ ≡ sets T (spot (n .text)) (slice from e doc) → T' ≡ set T₁ (spot (n .text) + (e - from)) 10
         → LinePut doc col m n (record { at = e + 1; row = n .row; text = n .text + (e - from) + 1 }) T T'
     put-from from o T₁ T' r r' = record { at = at; stored = stored }
       where
@@ -102,18 +103,32 @@ module _ (doc : List ℕ) (col m : ℕ) (n : Cursor) (a : Ans) (t : Takes doc n 
             let len : length (slice from e doc) ≡ e - from = length-slice from e doc (f .dried .inside) in
             record {
               end = rw u (let y = length-append (slice from e doc) (10 ∷ []) in omega arith);
-              room = rw u (r' ∙ (ap (λ l. set l (n .text + (e - from)) 10) r ∙ (ap (λ j. set (sets T (n .text) (slice from e doc)) (n .text + j) 10) (sym len) ∙ sym (sets-append T (n .text) (slice from e doc) (10 ∷ [])))));
+              room = rw u (r' ∙ (ap (λ l. set l (spot (n .text) + (e - from)) 10) r ∙ (ap (λ j. set (sets T (spot (n .text)) (slice from e doc)) (spot (n .text) + j) 10) (sym len) ∙ sym (sets-append T (spot (n .text)) (slice from e doc) (10 ∷ [])))));
             }
 
         stored : (l : Line) (z : ℕ) → One doc col m (n .at) l z → Stored (n .text) (n .text + (e - from) + 1) (unlines m (l ∷ [])) T T'
         stored _ _ (one-blank x) = absurd (h (x .feed))
         stored _ _ (one-text t x) = go t (sym (same-feed e t f)) x
 
-    pub put-text : (T₁ T' : List ℕ) → T₁ ≡ sets T (n .text) (slice (p + col + 1 + m) e doc) → T' ≡ set T₁ (n .text + (e - (p + col + 1 + m))) 10
+    pub put-text : (x : ℕ) (T₁ T' : List ℕ) → x ≡ spot (n .text) → T₁ ≡ sets T x (slice (p + col + 1 + m) e doc) → T' ≡ set T₁ (x + (e - (p + col + 1 + m))) 10
         → LinePut doc col m n (record { at = e + 1; row = n .row; text = n .text + (e - (p + col + 1 + m)) + 1 }) T T'
-    put-text T₁ T' r r' = put-from (p + col + 1 + m) refl T₁ T' r r'
+    put-text x T₁ T' q r r' = put-from (p + col + 1 + m) refl T₁ T' (rw q at r) (rw q at r')
 
-pub ruleset putting-line = (put-blank, put-place, put-fits, put-inside, put-text, needs)
+-- the text word has room for a line
+module _ (doc : List ℕ) (col m : ℕ) (n : Cursor) (i : Lined doc col m n) where
+  small : n .text < ample * ESCAPE
+  small = let h = word-is (n .text) in omega (arith, i .small, i .inside, i .few, i .scant)
+
+  pub put-one : n .text + 1 < 2 ^ 64
+  put-one = omega (arith, small)
+
+  pub put-more : (e from : ℕ) → e ≤ length doc → n .text + (e - from) < 2 ^ 64
+  put-more e from l = omega (arith, small, i .small)
+
+  pub put-more-one : (e from : ℕ) → e ≤ length doc → n .text + (e - from) + 1 < 2 ^ 64
+  put-more-one e from l = omega (arith, small, i .small)
+
+pub ruleset putting-line = (put-blank, put-place, put-fits, put-inside, put-text, put-one, put-more, put-more-one, needs)
 
 -- ---- the lines that are left: with them the text would be the goal, and end at stop
 pub record Putting (doc : List ℕ) (col m last stop : ℕ) (goal : List ℕ) (n : Cursor) (T : List ℕ) : Type 0 where
@@ -124,15 +139,16 @@ pub record Putting (doc : List ℕ) (col m last stop : ℕ) (goal : List ℕ) (n
   pub passed : before < n .at
   pub ends : last ≡ bodyEnd before rest
   pub lowest : lower m rest ≡ m
-  pub store : goal ≡ sets T (n .text) (unlines m (trim rest))
+  pub store : goal ≡ sets T (spot (n .text)) (unlines m (trim rest))
   pub total : stop ≡ n .text + length (unlines m (trim rest))
   pub bound : m ≤ length doc
   pub small : length doc ≤ limit
-  pub few : n .text ≤ n .at
+  pub few : spot (n .text) ≤ n .at
+  pub scant : tally (n .text) ≤ n .at
   pub low : col ≤ columns
 
 pub put-first : (doc : List ℕ) (e col last least x : ℕ) (T : List ℕ) → Known doc e col last least x
-    → Putting doc col least last (x + length (bodyText (bodyLines doc e col))) (sets T x (bodyText (bodyLines doc e col))) (record { at = e + 1; row = 0; text = x }) T
+    → Putting doc col least last (x + length (bodyText (bodyLines doc e col))) (sets T (spot x) (bodyText (bodyLines doc e col))) (record { at = e + 1; row = 0; text = x }) T
 unfolding bodyLines
 put-first doc e col last least x T k =
     let d = k .body in
@@ -146,11 +162,12 @@ put-first doc e col last least x T k =
       passed = omega arith;
       ends = d .ends;
       lowest = ap (λ q. lower q (d .lines)) (d .lowest) ∙ (lower-self (length doc) (d .lines) ∙ sym (d .lowest));
-      store = ap (sets T x) u;
+      store = ap (sets T (spot x)) u;
       total = ap (λ s. x + length s) u;
       bound = omega (arith, d .lowest, lower-le (length doc) (d .lines));
       small = k .small;
       few = omega (arith, k .few);
+      scant = omega (arith, k .scant);
       low = k .low;
     }
 
@@ -174,7 +191,7 @@ module _ (doc : List ℕ) (col m last stop : ℕ) (goal : List ℕ) (n : Cursor)
     where
       go : First doc col (n .at) (p .end) (p .rest) → Lined doc col m n
       go (first-none z) = let e = p .ends ∙ ap (bodyEnd (p .before)) z in absurd (omega (arith, p .passed))
-      go (first-blank rs z x q) = record { line = blank; end = n .at + 1; one = one-blank x; inside = x .inside; bound = p .bound; small = p .small; few = p .few; low = p .low }
+      go (first-blank rs z x q) = record { line = blank; end = n .at + 1; one = one-blank x; inside = x .inside; bound = p .bound; small = p .small; few = p .few; scant = p .scant; low = p .low }
       go (first-text s f rs z x q) =
           let h = sym (ap (lower m) z) ∙ p .lowest in
           record {
@@ -185,16 +202,20 @@ module _ (doc : List ℕ) (col m last stop : ℕ) (goal : List ℕ) (n : Cursor)
             bound = p .bound;
             small = p .small;
             few = p .few;
+            scant = p .scant;
             low = p .low;
           }
 
   module _ (p : Putting doc col m last stop goal n T) (l : n .at < last) (n' : Cursor) (T' : List ℕ) (w : LinePut doc col m n n' T T') where
     -- what one line more leaves
     next : (r : Line) (rs : List Line) (z b : ℕ) → One doc col m (n .at) r z → Placed doc col z rs (p .end) → b < z → last ≡ bodyEnd b rs → lower m rs ≡ m
-        → unlines m (trim (p .rest)) ≡ unlines m (r ∷ []) ++ unlines m (trim rs) → n .at + length (unlines m (r ∷ [])) ≤ z → Putting doc col m last stop goal n' T'
-    next r rs z b o q k e h u f =
+        → unlines m (trim (p .rest)) ≡ unlines m (r ∷ []) ++ unlines m (trim rs) → n .at + length (unlines m (r ∷ [])) ≤ z → z ≤ length doc → Putting doc col m last stop goal n' T'
+    next r rs z b o q k e h u f i =
         let a = w .at r z o in
         let s = w .stored r z o in
+        let d : spot (n .text) + length (unlines m (r ∷ [])) < ESCAPE = omega (arith, p .few, p .small) in
+        let sx : spot (n' .text) ≡ spot (n .text) + length (unlines m (r ∷ [])) = ap spot (s .end) ∙ spot-plain (n .text) (length (unlines m (r ∷ []))) d in
+        let sy : tally (n' .text) ≡ tally (n .text) = ap tally (s .end) ∙ tally-plain (n .text) (length (unlines m (r ∷ []))) d in
         record {
           rest = rs;
           end = p .end;
@@ -205,13 +226,14 @@ module _ (doc : List ℕ) (col m last stop : ℕ) (goal : List ℕ) (n : Cursor)
           lowest = h;
           store =
               p .store
-              ∙ (ap (sets T (n .text)) u
-              ∙ (sets-append T (n .text) (unlines m (r ∷ [])) (unlines m (trim rs))
-              ∙ (ap (λ t. sets t (n .text + length (unlines m (r ∷ []))) (unlines m (trim rs))) (sym (s .room)) ∙ ap (λ i. sets T' i (unlines m (trim rs))) (sym (s .end)))));
+              ∙ (ap (sets T (spot (n .text))) u
+              ∙ (sets-append T (spot (n .text)) (unlines m (r ∷ [])) (unlines m (trim rs))
+              ∙ (ap (λ t. sets t (spot (n .text) + length (unlines m (r ∷ []))) (unlines m (trim rs))) (sym (s .room)) ∙ ap (λ i. sets T' i (unlines m (trim rs))) (sym sx))));
           total = p .total ∙ (ap (λ t. n .text + length t) u ∙ (let y = length-append (unlines m (r ∷ [])) (unlines m (trim rs)) in let v = s .end in omega arith));
           bound = p .bound;
           small = p .small;
-          few = omega (arith, s .end, p .few);
+          few = omega (arith, p .few);
+          scant = omega (arith, p .scant);
           low = p .low;
         }
 
@@ -236,6 +258,7 @@ module _ (doc : List ℕ) (col m last stop : ℕ) (goal : List ℕ) (n : Cursor)
             h
             (ap (λ ls. unlines m (trim ls)) z ∙ ap (unlines m) (hold-some (p .before) last (n .at) rs e (p .passed) l))
             (omega arith)
+            (omega (arith, x .inside))
         go (first-text s f rs z x q) =
             let e = p .ends ∙ ap (bodyEnd (p .before)) z in
             let h = sym (ap (lower m) z) ∙ p .lowest in
@@ -252,6 +275,7 @@ module _ (doc : List ℕ) (col m last stop : ℕ) (goal : List ℕ) (n : Cursor)
             (y .1)
             (ap (λ ls. unlines m (trim ls)) z ∙ sym (append-assoc (spaces (s - (n .at + suc col) - m) ++ slice s f doc) (10 ∷ []) (unlines m (trim rs))))
             (let k = length-line m (s - (n .at + suc col)) (slice s f doc) [] in let i = length-slice s f doc (let j = x .inside in omega arith) in omega (arith, x .deep, x .ahead))
+            (omega (arith, x .inside))
 
     pub put-further : n .at < n' .at
     put-further = go (put-lined p l .one)
@@ -267,11 +291,11 @@ module _ (doc : List ℕ) (col m last stop : ℕ) (goal : List ℕ) (n : Cursor)
       go (inl z) =
           let u : unlines m (trim (p .rest)) ≡ [] = ap (unlines m) z in
           let k = ap length u in
-          (sym (p .store ∙ ap (sets T (n .text)) u), omega (arith, p .total))
+          (sym (p .store ∙ ap (sets T (spot (n .text))) u), omega (arith, p .total))
       go (inr z) = absurd (omega (arith, p .ends))
 
 pub put-stored : (doc : List ℕ) (e col last least x : ℕ) (T T' : List ℕ) (n : Cursor)
-    → Putting doc col least last (x + length (bodyText (bodyLines doc e col))) (sets T x (bodyText (bodyLines doc e col))) n T' → last ≤ n .at
+    → Putting doc col least last (x + length (bodyText (bodyLines doc e col))) (sets T (spot x) (bodyText (bodyLines doc e col))) n T' → last ≤ n .at
     → Stored x (n .text) (bodyText (bodyLines doc e col)) T T'
 put-stored doc e col last least x T T' n p l = let z = put-done doc col least last _ _ n T' p l in record { end = z .1; room = z .0 }
 

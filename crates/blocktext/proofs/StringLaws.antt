@@ -1,7 +1,7 @@
 -- Block strings: the leader, the body below it, and the block that they make. Laws as `search` takes them. Assumes nothing.
 use mathlib.Core.Path.{_≡_, refl, sym, ap, subst, _∙_}
 use mathlib.Core.List.{List, [], _∷_, _++_, append-assoc}
-use Prim.Native.Nat.{ℕ, _+_, _-_, _≤_, _<_}
+use Prim.Native.Nat.{ℕ, _+_, _-_, _≤_, _<_, _*_, _^_}
 use native.Mathlib.Omega.{arith}
 use lib.ListN.{length, drop, set, length-append}
 use lib.Seq.{sets, slice, length-slice}
@@ -14,10 +14,11 @@ use Rattle.exact.specs.Answers.{map-fmap}
 use Rattle.exact.specs.Comb.{seqR, mapR}
 use Rattle.exact.specs.Place.{peek, peek-in, byte-is, byte-not, alt-is, alt-not}
 use Rattle.language.specs.Kind.{STRING}
-use Rattle.language.specs.Tree.{Tree, leaf}
+use Rattle.language.specs.Tree.{Tree, leaf, unescaped}
 use Rattle.language.specs.BlockText.{Line, bodyText, bodyEnd}
 use Rattle.characters.specs.declared.Skip.{Skip}
 use Rattle.characters.specs.declared.Skip.the-variants.{End}
+use Rattle.rooms.specs.Told.{ESCAPE, spot, tally, told, spot-plain, tally-plain, word-is}
 use Rattle.rooms.specs.declared.Cursor.{Cursor}
 use Rattle.rooms.specs.declared.Block.{Block}
 use Rattle.rooms.specs.declared.Block.the-variants.{Bad}
@@ -25,7 +26,7 @@ use Rattle.rooms.specs.declared.Step.{Step}
 use Rattle.rooms.specs.declared.Step.the-variants.{Byte, Over}
 use Rattle.rooms.specs.declared.Ans.{Ans}
 use Rattle.rooms.specs.declared.Ans.the-variants.{Ok, No}
-use Rattle.rooms.specs.Contract.{onward, Stepped, Takes, Blocks, Small}
+use Rattle.rooms.specs.Contract.{onward, Stepped, Takes, Blocks, Small, ample, Ready}
 use Rattle.rooms.specs.Laws.{step-byte, step-next, step-inside, step-over, take-next, take-byte, take-place, take-other, not-block}
 use Rattle.rooms.specs.Stores.{sets-append}
 use Rattle.blocktext.specs.declared.body.Extent.{Extent}
@@ -46,7 +47,7 @@ fmap-same f g (bad p) h = refl
 -- ---- the body below the LF at e
 module _ (doc : List ℕ) (c : Cursor) (e x col : ℕ) (i : Begun doc c e x col) (g : Extent) (b : BodyAt doc e col g) where
   pub below-bad : (parent p : ℕ) (R T : List ℕ) → g ≡ Broken p
-      → Furthers doc c parent STRING (bodyR col (e + 1) (drop (e + 1) doc)) (bodyEnd e) bodyText (e + 1) x (Bad p) R R T T
+      → Furthers doc c parent STRING (bodyR col (e + 1) (drop (e + 1) doc)) (bodyEnd e) (λ ls. unescaped (bodyText ls)) (e + 1) x (Bad p) R R T T
   unfolding BodyAt
   below-bad parent p R T z = stopped p refl (rw z at b)
 
@@ -56,7 +57,7 @@ module _ (doc : List ℕ) (c : Cursor) (e x col : ℕ) (i : Begun doc c e x col)
     bodied = rw z at b
 
     pub below-known : Known doc e col last least x
-    below-known = record { at = at; far = far; body = bodied; inside = i .inside; small = i .ready .small; few = i .few; low = i .low }
+    below-known = record { at = at; far = far; body = bodied; inside = i .inside; small = i .ready .small; few = i .few; scant = i .scant; low = i .low }
 
     few : e + 1 + length (bodyText (bodied .lines)) ≤ at
     few =
@@ -73,7 +74,7 @@ module _ (doc : List ℕ) (c : Cursor) (e x col : ℕ) (i : Begun doc c e x col)
     stored-is = ap (λ o. bodyText (Rattle.blocktext.specs.Contract.linesOf o)) (bodied .is)
 
     module _ (y : ℕ) (T T' : List ℕ) (s : Stored x y (bodyText (bodyLines doc e col)) T T') where
-      pub below-small : Small (c .at) last (c .text) y (c .row + 1)
+      pub below-small : Small (c .at) last (spot (c .text)) (spot y) (c .row + 1)
       below-small =
           let a = i .ready .small in
           let d = i .ahead in
@@ -86,23 +87,25 @@ module _ (doc : List ℕ) (c : Cursor) (e x col : ℕ) (i : Begun doc c e x col)
           let n = inner in
           let o = few in
           let p : y ≡ x + length (bodyText (bodied .lines)) = s .end ∙ ap (λ t. x + length t) stored-is in
+          let q : spot y ≡ spot x + length (bodyText (bodied .lines)) = ap spot p ∙ spot-plain x (length (bodyText (bodied .lines))) (omega arith) in
           record { first-fits = omega arith; after-fits = omega arith; from-fits = omega arith; to-fits = omega arith; next-fits = omega arith }
 
       pub below-went : (parent : ℕ) (r : Block) (R R' : List ℕ) → Rowed c parent STRING at y far last r R R'
-          → Furthers doc c parent STRING (bodyR col (e + 1) (drop (e + 1) doc)) (bodyEnd e) bodyText (e + 1) x r R R' T T'
+          → Furthers doc c parent STRING (bodyR col (e + 1) (drop (e + 1) doc)) (bodyEnd e) (λ ls. unescaped (bodyText ls)) (e + 1) x r R R' T T'
       below-went parent r R R' w =
-          let p : y ≡ x + length (bodyText (bodied .lines)) = s .end ∙ ap (λ t. x + length t) stored-is in
+          let p : y ≡ x + told (unescaped (bodyText (bodied .lines))) = s .end ∙ (ap (λ t. x + length t) stored-is ∙ omega arith) in
           went
           (record {
             value = bodied .lines;
             at = at;
             far = far;
             reads = bodied .is;
-            room = s .room ∙ ap (sets T x) stored-is;
-            row = subst (λ n. Rowed c parent STRING at (x + length (bodyText (bodied .lines))) far n r R R') (bodied .ends) (subst (λ n. Rowed c parent STRING at n far last r R R') p w);
+            room = s .room ∙ ap (sets T (spot x)) stored-is;
+            row = subst (λ n. Rowed c parent STRING at (x + told (unescaped (bodyText (bodied .lines)))) far n r R R') (bodied .ends) (subst (λ n. Rowed c parent STRING at n far last r R R') p w);
             inside = bodied .inside;
             inner = omega (arith, inner);
             few = few;
+            scant = omega (arith, few);
             ahead = bodied .ahead;
           })
 
@@ -164,21 +167,54 @@ module _ (doc : List ℕ) (c : Cursor) (col : ℕ) (a : ℕ) (i : Led doc c col 
       pub led-inside : e < length doc
       led-inside = texted .inside
 
+      pub led-from : a ≤ e
+      led-from = omega (arith, texted .ahead)
+
+      pub led-in : e ≤ length doc
+      led-in = omega (arith, texted .inside)
+
+      pub led-small : (x : ℕ) → x ≡ spot (c .text) → x + e < ample
+      led-small x h = let r = i .asked .ready in omega (arith, r .small, r .inside, r .fewText, texted .inside)
+
+      -- the text word has room for the leader's text
+      word : c .text < ample * ESCAPE
+      word = let r = i .asked .ready in let h = word-is (c .text) in omega (arith, r .small, r .inside, r .fewText, r .fewEscapes)
+
+      pub led-more : c .text + (e - a) < 2 ^ 64
+      led-more = omega (arith, word, i .asked .ready .small, texted .inside)
+
+      pub led-more-one : c .text + (e - a) + 1 < 2 ^ 64
+      led-more-one = omega (arith, word, i .asked .ready .small, texted .inside)
+
+      -- where the leader's text ends
+      led-spot : spot (c .text + (e - a) + 1) ≡ spot (c .text) + (e - a) + 1
+      led-spot =
+          let r = i .asked .ready in
+          let h : c .text + (e - a) + 1 ≡ c .text + (e - a + 1) = omega arith in
+          ap spot h ∙ (spot-plain (c .text) (e - a + 1) (omega (arith, r .small, r .fewText, r .inside, texted .inside)) ∙ omega arith)
+
+      led-tally : tally (c .text + (e - a) + 1) ≡ tally (c .text)
+      led-tally =
+          let r = i .asked .ready in
+          let h : c .text + (e - a) + 1 ≡ c .text + (e - a + 1) = omega arith in
+          ap tally h ∙ tally-plain (c .text) (e - a + 1) (omega (arith, r .small, r .fewText, r .inside, texted .inside))
+
       pub led-begun : Begun doc c e (c .text + (e - (a)) + 1) col
       led-begun =
           record {
             ready = i .asked .ready;
             ahead = omega (arith, texted .ahead, i .from);
             inside = texted .inside;
-            few = omega (arith, texted .ahead, i .from, i .asked .ready .fewText);
+            few = omega (arith, led-spot, texted .ahead, i .from, i .asked .ready .fewText);
+            scant = omega (arith, led-tally, texted .ahead, i .from, i .asked .ready .fewEscapes);
             low = i .asked .low;
           }
 
-      pub led-block : (parent : ℕ) (r : Block) (R R' T₀ T₁ T T' : List ℕ) → T₁ ≡ sets T₀ (c .text) (slice (a) e doc)
-          → T ≡ set T₁ (c .text + (e - (a))) 10
-          → Furthers doc c parent STRING (bodyR col (e + 1) (drop (e + 1) doc)) (bodyEnd e) bodyText (e + 1) (c .text + (e - (a)) + 1) r R R' T T'
+      pub led-block : (x parent : ℕ) (r : Block) (R R' T₀ T₁ T T' : List ℕ) → x ≡ spot (c .text) → T₁ ≡ sets T₀ x (slice (a) e doc)
+          → T ≡ set T₁ (x + (e - (a))) 10
+          → Furthers doc c parent STRING (bodyR col (e + 1) (drop (e + 1) doc)) (bodyEnd e) (λ ls. unescaped (bodyText ls)) (e + 1) (c .text + (e - (a)) + 1) r R R' T T'
           → Blocks doc c parent (openStringR col (c .at) (drop (c .at) doc)) r R R' T₀ T'
-      led-block parent r R R' T₀ T₁ T T' s s' f =
+      led-block x parent r R R' T₀ T₁ T T' sx s s' f =
           let t : List ℕ = slice (a) e doc in
           let n : length t ≡ e - (a) = length-slice (a) e doc (let k = texted .inside in omega arith) in
           let m : length (t ++ 10 ∷ []) ≡ length t + 1 = length-append t (10 ∷ []) in
@@ -189,7 +225,7 @@ module _ (doc : List ℕ) (c : Cursor) (col : ℕ) (a : ℕ) (i : Led doc c col 
           STRING
           (bodyR col (e + 1) (drop (e + 1) doc))
           (bodyEnd e)
-          bodyText
+          (λ ls. unescaped (bodyText ls))
           (e + 1)
           (c .text + (e - (a)) + 1)
           r
@@ -199,22 +235,24 @@ module _ (doc : List ℕ) (c : Cursor) (col : ℕ) (a : ℕ) (i : Led doc c col 
           T
           T'
           (openStringR col (c .at) (drop (c .at) doc))
-          (t ++ 10 ∷ [])
+          (unescaped (t ++ 10 ∷ []))
+          (i .asked .ready)
           (led-is
           ∙ (ap (λ o. bind o (λ t. belowR (openStringTree (c .at) t) col)) (texted .is)
           ∙ (below-is (openStringTree (c .at) t) doc col e (texted .feed)
           ∙ fmap-same
           (openStringTree (c .at) t e)
-          (λ ls. leaf STRING (c .at) (bodyEnd e ls) ((t ++ 10 ∷ []) ++ bodyText ls))
+          (λ ls. leaf STRING (c .at) (bodyEnd e ls) (unescaped ((t ++ 10 ∷ []) ++ bodyText ls)))
           (bodyR col (e + 1) (drop (e + 1) doc))
-          (λ ls. ap (leaf STRING (c .at) (bodyEnd e ls)) (sym (append-assoc t (10 ∷ []) (bodyText ls)))))))
+          (λ ls. ap (λ s. leaf STRING (c .at) (bodyEnd e ls) (unescaped s)) (sym (append-assoc t (10 ∷ []) (bodyText ls)))))))
           (lit< tt)
-          (s' ∙ (ap (λ l. set l (c .text + (e - (a))) 10) s ∙ (ap (λ j. set (sets T₀ (c .text) t) (c .text + j) 10) (sym n) ∙ sym (sets-append T₀ (c .text) t (10 ∷ [])))))
+          (rw sx at (s' ∙ (ap (λ l. set l (x + (e - (a))) 10) s ∙ (ap (λ j. set (sets T₀ x t) (x + j) 10) (sym n) ∙ sym (sets-append T₀ x t (10 ∷ []))))))
           (omega arith)
+          (omega (arith, texted .ahead, i .from))
           (omega (arith, texted .ahead, i .from))
           f
 
-pub ruleset led-strings = (led-bad, led-ahead, led-inside, led-begun, led-block, needs)
+pub ruleset led-strings = (led-bad, led-ahead, led-inside, led-begun, led-block, led-from, led-in, led-small, led-more, led-more-one, needs)
 
 -- ---- a leader with another byte behind the grave
 module _ (doc : List ℕ) (c : Cursor) (col : ℕ) (i : Asked doc c 96 col) (a : Ans) (t : Takes doc c 96 a) (n : Cursor) (z : a ≡ Ok n) where
@@ -224,9 +262,13 @@ module _ (doc : List ℕ) (c : Cursor) (col : ℕ) (i : Asked doc c 96 col) (a :
   place : n .at ≡ c .at + 1
   place = ap (λ (q : Cursor). q .at) next
 
-  begun : 10 ≡ peek doc (n .at) → (x : ℕ) → x ≤ c .text + 1 → Begun doc c (n .at) x col
+  begun : 10 ≡ peek doc (n .at) → (x : ℕ) → x ≤ 1 → Begun doc c (n .at) (c .text + x) col
   begun f x l =
-      record { ready = i .ready; ahead = omega (arith, place); inside = peek-in doc (n .at) 10 f (omega arith); few = omega (arith, i .ready .fewText, place); low = i .low }
+      let r = i .ready in
+      let b : spot (c .text) + x < ESCAPE = omega (arith, r .small, r .fewText, r .inside) in
+      let p = spot-plain (c .text) x b in
+      let q = tally-plain (c .text) x b in
+      record { ready = i .ready; ahead = omega (arith, place); inside = peek-in doc (n .at) 10 f (omega arith); few = omega (arith, r .fewText, place); scant = omega (arith, r .fewEscapes, place); low = i .low }
 
   open-bare : (peek doc (n .at) ≡ 32 → ⊥) → openStringR col (c .at) (drop (c .at) doc) ≡ belowR (openStringTree (c .at) []) col (n .at) (drop (n .at) doc)
   open-bare h =
@@ -256,22 +298,27 @@ module _ (doc : List ℕ) (c : Cursor) (col : ℕ) (i : Asked doc c 96 col) (a :
             from = ap (λ (q : Cursor). q .at) (step-next doc n s y b m w) ∙ ap (_+ 1) place;
           }
 
+      pub open-one : c .text + 1 < 2 ^ 64
+      open-one = let r = i .ready in let h = word-is (c .text) in omega (arith, r .small, r .inside, r .fewText, r .fewEscapes)
+
       pub open-begun : b ≡ 10 → Begun doc c (n .at) (c .text + 1) col
-      open-begun h = begun (sym h ∙ byte) (c .text + 1) (omega arith)
+      open-begun h = begun (sym h ∙ byte) 1 (omega arith)
 
       pub open-bad : (b ≡ 32 → ⊥) → (b ≡ 10 → ⊥) → (parent : ℕ) (R T : List ℕ) → Blocks doc c parent (openStringR col (c .at) (drop (c .at) doc)) (Bad (n .at)) R R T T
       open-bad h k parent R T =
           not-block doc c parent _ R R T T (n .at) (open-bare (λ q. h (byte ∙ q)) ∙ below-not (openStringTree (c .at) []) doc col (n .at) (λ q. k (byte ∙ q)))
 
-      pub open-block : b ≡ 10 → (parent : ℕ) (r : Block) (R R' T₀ T T' : List ℕ) → T ≡ set T₀ (c .text) 10
-          → Furthers doc c parent STRING (bodyR col (n .at + 1) (drop (n .at + 1) doc)) (bodyEnd (n .at)) bodyText (n .at + 1) (c .text + 1) r R R' T T'
+      pub open-block : b ≡ 10 → (x parent : ℕ) (r : Block) (R R' T₀ T T' : List ℕ) → x ≡ spot (c .text) → T ≡ set T₀ x 10
+          → Furthers doc c parent STRING (bodyR col (n .at + 1) (drop (n .at + 1) doc)) (bodyEnd (n .at)) (λ ls. unescaped (bodyText ls)) (n .at + 1) (c .text + 1) r R R' T T'
           → Blocks doc c parent (openStringR col (c .at) (drop (c .at) doc)) r R R' T₀ T'
-      open-block h parent r R R' T₀ T T' e f =
-          block-of doc c parent STRING _ (bodyEnd (n .at)) bodyText (n .at + 1) (c .text + 1) r R R' T₀ T T' _ (10 ∷ [])
+      open-block h x parent r R R' T₀ T T' sx e f =
+          block-of doc c parent STRING _ (bodyEnd (n .at)) (λ ls. unescaped (bodyText ls)) (n .at + 1) (c .text + 1) r R R' T₀ T T' _ (unescaped (10 ∷ []))
+          (i .ready)
           (open-bare (λ q. let k = byte ∙ q in omega arith) ∙ below-is (openStringTree (c .at) []) doc col (n .at) (sym byte ∙ h))
           (lit< tt)
-          e
+          (rw sx at e)
           (omega arith)
+          (omega (arith, place))
           (omega (arith, place))
           f
 
@@ -283,20 +330,22 @@ module _ (doc : List ℕ) (c : Cursor) (col : ℕ) (i : Asked doc c 96 col) (a :
 
     module _ (m : Cursor) (w : g ≡ Ok m) where
       pub property-begun : Begun doc c (n .at) (c .text) col
-      property-begun = begun (take-byte doc n 10 g y m w) (c .text) (omega arith)
+      property-begun = let z : c .text + 0 ≡ c .text = omega arith in rw z at (begun (take-byte doc n 10 g y m w) 0 (omega arith))
 
       pub property-block : (parent : ℕ) (r : Block) (R R' T T' : List ℕ)
-          → Furthers doc c parent STRING (bodyR col (n .at + 1) (drop (n .at + 1) doc)) (bodyEnd (n .at)) bodyText (n .at + 1) (c .text) r R R' T T'
+          → Furthers doc c parent STRING (bodyR col (n .at + 1) (drop (n .at + 1) doc)) (bodyEnd (n .at)) (λ ls. unescaped (bodyText ls)) (n .at + 1) (c .text) r R R' T T'
           → Blocks doc c parent (propertyStringR col (c .at) (drop (c .at) doc)) r R R' T T'
       property-block parent r R R' T T' f =
-          block-of doc c parent STRING _ (bodyEnd (n .at)) bodyText (n .at + 1) (c .text) r R R' T T T' _ []
+          block-of doc c parent STRING _ (bodyEnd (n .at)) (λ ls. unescaped (bodyText ls)) (n .at + 1) (c .text) r R R' T T T' _ (unescaped [])
+          (i .ready)
           (property-bare ∙ below-is (propertyStringTree (c .at)) doc col (n .at) (sym (take-byte doc n 10 g y m w)))
           (lit< tt)
           refl
           (omega arith)
           (omega (arith, place))
+          (omega (arith, place))
           f
 
-pub ruleset open-strings = (not-led, open-over, open-led, open-begun, open-bad, open-block, needs)
+pub ruleset open-strings = (not-led, open-over, open-led, open-begun, open-bad, open-one, open-block, needs)
 
 pub ruleset property-strings = (not-led, property-bad, property-begun, property-block, needs)

@@ -8,7 +8,7 @@ use Rattle.notation.specs.Lang.{Lang, _>>=_, _>>_, Star, Plus, Map}
 use Rattle.language.specs.Kind.{BYTES}
 use Rattle.language.specs.Tree.{Tree, leaf}
 use Rattle.language.specs.Characters.{Space, Feed, Comment, Option}
-use Rattle.language.specs.BlockText.{Part, partBytes, partEnd, HexRest, HexLine, OpenBytes, PropertyBytes}
+use Rattle.language.specs.BlockText.{Part, partText, partEnd, HexRest, HexLine, OpenBytes, PropertyBytes}
 use Rattle.exact.specs.Class.{is, only, starts-none}
 use Rattle.exact.specs.Out.{Reader}
 use Rattle.exact.specs.Lang.{Exact, within-same, weaken, byteR, byte-exact}
@@ -23,7 +23,7 @@ use Rattle.blocktext.specs.Plus.{plusR, plus-exact}
 use Rattle.blocktext.specs.HexLines.{hexRestR, hexRest-exact, hexLineR, hexLine-exact, hexLinesR, hexLines-exact}
 
 abbrev pub bytesTree : ℕ → List Part → Tree
-bytesTree a hs = leaf BYTES a (partEnd 0 hs) (partBytes hs)
+bytesTree a hs = leaf BYTES a (partEnd 0 hs) (partText hs)
 
 -- OPEN AT A COLUMN
 abbrev pub openBytesRestR : ℕ → ℕ → Reader Tree

@@ -6,7 +6,7 @@ use Prim.Native.Nat.{ℕ}
 use native.Mathlib.Omega.{arith}
 use Rattle.notation.specs.Lang.{Lang, _>>=_, _>>_, Star, Plus, Ret, Here, Map, cat}
 use Rattle.language.specs.Kind.{STRING}
-use Rattle.language.specs.Tree.{Tree, leaf}
+use Rattle.language.specs.Tree.{unescaped, Tree, leaf}
 use Rattle.language.specs.Characters.{Space, Feed, Piece, Option}
 use Rattle.language.specs.BlockText.{Line, blank, bodyText, bodyEnd, BodyLine, OpenString, PropertyString}
 use Rattle.exact.specs.Class.{is, only, starts-none}
@@ -55,7 +55,7 @@ leaderText-ll =
 
 -- OPEN AT A COLUMN
 abbrev pub openStringTree : ℕ → List ℕ → ℕ → List Line → Tree
-openStringTree a t e ls = leaf STRING a (bodyEnd e ls) (t ++ 10 ∷ bodyText ls)
+openStringTree a t e ls = leaf STRING a (bodyEnd e ls) (unescaped (t ++ 10 ∷ bodyText ls))
 
 abbrev pub openStringRestR : ℕ → ℕ → Reader Tree
 openStringRestR c a = seqR leaderTextR λ t. belowR (openStringTree a t) c
@@ -96,7 +96,7 @@ module _ (c : ℕ) where
 
 -- OF A PROPERTY
 abbrev pub propertyStringTree : ℕ → ℕ → List Line → Tree
-propertyStringTree a e ls = leaf STRING a (bodyEnd e ls) (bodyText ls)
+propertyStringTree a e ls = leaf STRING a (bodyEnd e ls) (unescaped (bodyText ls))
 
 unfoldable pub propertyStringR : ℕ → Reader Tree
 propertyStringR n = ledR (byteR (is (only 96))) λ a _. belowR (propertyStringTree a) n

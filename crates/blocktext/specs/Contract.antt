@@ -14,6 +14,7 @@ use Rattle.language.specs.Answered.{limit}
 use Rattle.characters.specs.declared.Skip.{Skip}
 use Rattle.characters.specs.declared.Skip.the-variants.{End, Bad}
 use Rattle.rooms.specs.declared.Cursor.{Cursor}
+use Rattle.rooms.specs.Told.{spot, tally}
 use Rattle.rooms.specs.Contract.{columns, Ready}
 use Rattle.blocktext.specs.declared.body.Seen.{Seen}
 use Rattle.blocktext.specs.declared.body.Seen.the-variants.{Empty, Written, Over, Refused}
@@ -108,12 +109,13 @@ pub record Known (doc : List ℕ) (e col last least x : ℕ) : Type 0 where
   pub body : Bodied doc e col at far last least
   pub inside : e < length doc
   pub small : length doc ≤ limit
-  pub few : x ≤ e
+  pub few : spot x ≤ e
+  pub scant : tally x ≤ e
   pub low : col ≤ columns
 
 pub record Stored (x y : ℕ) (s text text' : List ℕ) : Type 0 where
   pub end : y ≡ x + length s
-  pub room : text' ≡ sets text x s
+  pub room : text' ≡ sets text (spot x) s
 
 -- one line of it, where the least indentation is m past the first column
 pub data One (doc : List ℕ) (col m a : ℕ) : Line → ℕ → Type 0 where
@@ -127,7 +129,8 @@ pub record Lined (doc : List ℕ) (col m : ℕ) (n : Cursor) : Type 0 where
   pub inside : n .at < length doc
   pub bound : m ≤ length doc
   pub small : length doc ≤ limit
-  pub few : n .text ≤ n .at
+  pub few : spot (n .text) ≤ n .at
+  pub scant : tally (n .text) ≤ n .at
   pub low : col ≤ columns
 
 pub record LinePut (doc : List ℕ) (col m : ℕ) (n n' : Cursor) (text text' : List ℕ) : Type 0 where

@@ -15,6 +15,7 @@ use Rattle.exact.specs.Lang.{bar, None, Exact, within-bar, within-same, weaken,
 use Rattle.exact.specs.Comb.{seqR, seq-exact, altR, alt-exact}
 use Rattle.exact.specs.Ll.{Shape, Ll, ret-ll, seq-ll, relax}
 use Rattle.exact.specs.Block.{manyG, lead}
+use Rattle.language.specs.Tree.{unescaped}
 use Rattle.characters.specs.Comments.{pieceS, commentR, commentS, comment-ll, optionalCommentR, optionalComment-ll}
 use Rattle.strings.specs.Bytes.{PairsOn, digitNext, pairsR, pairs-exact}
 use Rattle.blocktext.specs.Follow.{beyond}
@@ -93,7 +94,7 @@ abbrev pub hexFirst : Class
 hexFirst = lowhex ++ only 35
 
 unfoldable pub hexRestR : Reader Part
-hexRestR = seqR contentR λ bs. lineEndR (part bs)
+hexRestR = seqR contentR λ bs. lineEndR (part (unescaped bs))
 
 pub hexRest-opens : Opens hexFirst HexRest
 hexRest-opens = seq-opens (alt-opens commented-opens (ll-opens refl bare-ll))
@@ -108,8 +109,8 @@ hexRest-exact =
     (within-same None)
     (seq-exact
     content-exact
-    (λ bs. weaken 1 None (omega arith) (within-bar _ None nothing) (lineEnd-ll (part bs) .exact))
-    (λ bs at s y at′ t b g z. starts-none (only 10) (pieceS .first) s refl (ll-opens refl (lineEnd-ll (part bs)) .opens at s y at′ t b) z))
+    (λ bs. weaken 1 None (omega arith) (within-bar _ None nothing) (lineEnd-ll (part (unescaped bs)) .exact))
+    (λ bs at s y at′ t b g z. starts-none (only 10) (pieceS .first) s refl (ll-opens refl (lineEnd-ll (part (unescaped bs))) .opens at s y at′ t b) z))
 
 -- DEEPER THAN A COLUMN
 abbrev pub hexLineR : ℕ → Reader Part
@@ -123,4 +124,4 @@ hexLinesR c = manyG (deeper c) (lead c) (hexLineR c)
 
 pub hexLines-exact : (c : ℕ) → Exact 0 (Star (HexLine c)) (beyond c) (hexLinesR c)
 unfolding hexLinesR
-hexLines-exact c = deepers-exact hexFirst refl (λ _. hexRest-opens) (λ _. hexRest-exact) (part [] 0) c
+hexLines-exact c = deepers-exact hexFirst refl (λ _. hexRest-opens) (λ _. hexRest-exact) (part (unescaped []) 0) c

@@ -16,6 +16,7 @@ use Rattle.exact.specs.More.{ll-shuts}
 use Rattle.exact.specs.Block.{lead}
 use Rattle.exact.specs.Lines.{reached}
 use Rattle.exact.specs.Place.{peek, There, there, byte-there, none-there, byte-is, alt-peek}
+use Rattle.language.specs.Tree.{unescaped}
 use Rattle.characters.specs.Comments.{commentR, comment-ll, optionalCommentR}
 use Rattle.characters.specs.Marks.{comment-none}
 use Rattle.strings.specs.Bytes.{pairR, pair-ll, pairsR}
@@ -66,51 +67,51 @@ comment-reach doc n = by (there doc n)
 
 -- THE REST OF A HEX LINE
 module _ (doc : List ℕ) (at : ℕ) (h : peek doc at ≡ 35) where
-  rest-comment : hexRestR at (drop at doc) ≡ bind (bind (commentR at (drop at doc)) (λ _. retR [])) (λ bs. lineEndR (part bs))
+  rest-comment : hexRestR at (drop at doc) ≡ bind (bind (commentR at (drop at doc)) (λ _. retR [])) (λ bs. lineEndR (part (unescaped bs)))
   unfolding hexRestR
-  rest-comment = ap (λ o. bind o (λ bs. lineEndR (part bs))) (content-comment doc at h)
+  rest-comment = ap (λ o. bind o (λ bs. lineEndR (part (unescaped bs)))) (content-comment doc at h)
 
-  pub bare-closed : (v : List ℕ) (e : ℕ) → commentR at (drop at doc) ≡ ok v e (drop e doc) → peek doc e ≡ 10 → hexRestR at (drop at doc) ≡ ok (part [] e) (e + 1) (drop (e + 1) doc)
-  bare-closed v e c f = rest-comment ∙ (ap (λ o. bind (bind o (λ _. retR [])) (λ bs. lineEndR (part bs))) c ∙ line-closed (part []) doc e f)
+  pub bare-closed : (v : List ℕ) (e : ℕ) → commentR at (drop at doc) ≡ ok v e (drop e doc) → peek doc e ≡ 10 → hexRestR at (drop at doc) ≡ ok (part (unescaped []) e) (e + 1) (drop (e + 1) doc)
+  bare-closed v e c f = rest-comment ∙ (ap (λ o. bind (bind o (λ _. retR [])) (λ bs. lineEndR (part (unescaped bs)))) c ∙ line-closed (part (unescaped [])) doc e f)
 
   pub bare-open : (p : ℕ) → Unclosed doc (commentR at (drop at doc)) p → hexRestR at (drop at doc) ≡ bad p
-  bare-open p (no-end c) = rest-comment ∙ ap (λ o. bind (bind o (λ _. retR [])) (λ bs. lineEndR (part bs))) c
-  bare-open p (no-close v c k) = rest-comment ∙ (ap (λ o. bind (bind o (λ _. retR [])) (λ bs. lineEndR (part bs))) c ∙ line-open (part []) doc p k)
+  bare-open p (no-end c) = rest-comment ∙ ap (λ o. bind (bind o (λ _. retR [])) (λ bs. lineEndR (part (unescaped bs)))) c
+  bare-open p (no-close v c k) = rest-comment ∙ (ap (λ o. bind (bind o (λ _. retR [])) (λ bs. lineEndR (part (unescaped bs)))) c ∙ line-open (part (unescaped [])) doc p k)
 
 module _ (doc : List ℕ) (at : ℕ) (h : peek doc at ≡ 35 → ⊥) where
-  rest-pairs : hexRestR at (drop at doc) ≡ bind (bind (pairsR at (drop at doc)) (λ ps. seqR optionalCommentR λ _. retR ps)) (λ bs. lineEndR (part bs))
+  rest-pairs : hexRestR at (drop at doc) ≡ bind (bind (pairsR at (drop at doc)) (λ ps. seqR optionalCommentR λ _. retR ps)) (λ bs. lineEndR (part (unescaped bs)))
   unfolding hexRestR commentedR
-  rest-pairs = ap (λ o. bind o (λ bs. lineEndR (part bs))) (content-pairs doc at h)
+  rest-pairs = ap (λ o. bind o (λ bs. lineEndR (part (unescaped bs)))) (content-pairs doc at h)
 
   pub pairs-bad : (p : ℕ) → pairsR at (drop at doc) ≡ bad p → hexRestR at (drop at doc) ≡ bad p
-  pairs-bad p c = rest-pairs ∙ ap (λ o. bind (bind o (λ ps. seqR optionalCommentR λ _. retR ps)) (λ bs. lineEndR (part bs))) c
+  pairs-bad p c = rest-pairs ∙ ap (λ o. bind (bind o (λ ps. seqR optionalCommentR λ _. retR ps)) (λ bs. lineEndR (part (unescaped bs)))) c
 
   module _ (bs : List ℕ) (n far : ℕ) (c : pairsR at (drop at doc) ≡ reached far bs n (drop n doc)) (f : far ≡ n + lead 1 (drop n doc)) where
-    behind : hexRestR at (drop at doc) ≡ bind (bind (reached far bs n (drop n doc)) (λ ps. seqR optionalCommentR λ _. retR ps)) (λ bs. lineEndR (part bs))
-    behind = rest-pairs ∙ ap (λ o. bind (bind o (λ ps. seqR optionalCommentR λ _. retR ps)) (λ bs. lineEndR (part bs))) c
+    behind : hexRestR at (drop at doc) ≡ bind (bind (reached far bs n (drop n doc)) (λ ps. seqR optionalCommentR λ _. retR ps)) (λ bs. lineEndR (part (unescaped bs)))
+    behind = rest-pairs ∙ ap (λ o. bind (bind o (λ ps. seqR optionalCommentR λ _. retR ps)) (λ bs. lineEndR (part (unescaped bs)))) c
 
     raised : (far : ℕ) (w : List ℕ) (e : ℕ) → optionalCommentR n (drop n doc) ≡ ok w e (drop e doc)
-        → bind (bind (reached far bs n (drop n doc)) (λ ps. seqR optionalCommentR λ _. retR ps)) (λ bs. lineEndR (part bs))
-        ≡ bind (reached far bs e (drop e doc)) (λ bs. lineEndR (part bs))
-    raised zero w e k = ap (λ o. bind (bind o (λ _. retR bs)) (λ bs. lineEndR (part bs))) k
-    raised (suc q) w e k = ap (λ o. bind (raise (suc q) (bind o (λ _. retR bs))) (λ bs. lineEndR (part bs))) k
+        → bind (bind (reached far bs n (drop n doc)) (λ ps. seqR optionalCommentR λ _. retR ps)) (λ bs. lineEndR (part (unescaped bs)))
+        ≡ bind (reached far bs e (drop e doc)) (λ bs. lineEndR (part (unescaped bs)))
+    raised zero w e k = ap (λ o. bind (bind o (λ _. retR bs)) (λ bs. lineEndR (part (unescaped bs)))) k
+    raised (suc q) w e k = ap (λ o. bind (raise (suc q) (bind o (λ _. retR bs))) (λ bs. lineEndR (part (unescaped bs)))) k
 
     pub pairs-closed : (w : List ℕ) (e : ℕ) → optionalCommentR n (drop n doc) ≡ ok w e (drop e doc) → peek doc e ≡ 10
-        → hexRestR at (drop at doc) ≡ reached far (part bs e) (e + 1) (drop (e + 1) doc)
+        → hexRestR at (drop at doc) ≡ reached far (part (unescaped bs) e) (e + 1) (drop (e + 1) doc)
     pairs-closed w e k z = behind ∙ (raised far w e k ∙ go far)
       where
-        go : (far : ℕ) → bind (reached far bs e (drop e doc)) (λ bs. lineEndR (part bs)) ≡ reached far (part bs e) (e + 1) (drop (e + 1) doc)
-        go zero = line-closed (part bs) doc e z
-        go (suc q) = ap (raise (suc q)) (line-closed (part bs) doc e z)
+        go : (far : ℕ) → bind (reached far bs e (drop e doc)) (λ bs. lineEndR (part (unescaped bs))) ≡ reached far (part (unescaped bs) e) (e + 1) (drop (e + 1) doc)
+        go zero = line-closed (part (unescaped bs)) doc e z
+        go (suc q) = ap (raise (suc q)) (line-closed (part (unescaped bs)) doc e z)
 
     pub pairs-open : (p : ℕ) → Unclosed doc (optionalCommentR n (drop n doc)) p → hexRestR at (drop at doc) ≡ bad p
     pairs-open p (no-end k) = behind ∙ go far (let l = comment-reach doc n in let m = ap reach k in omega arith)
       where
-        go : (far : ℕ) → far ≤ p → bind (bind (reached far bs n (drop n doc)) (λ ps. seqR optionalCommentR λ _. retR ps)) (λ bs. lineEndR (part bs)) ≡ bad p
-        go zero l = ap (λ o. bind (bind o (λ _. retR bs)) (λ bs. lineEndR (part bs))) k
-        go (suc q) l = ap (λ o. bind (raise (suc q) (bind o (λ _. retR bs))) (λ bs. lineEndR (part bs))) k ∙ ap bad (omega arith)
+        go : (far : ℕ) → far ≤ p → bind (bind (reached far bs n (drop n doc)) (λ ps. seqR optionalCommentR λ _. retR ps)) (λ bs. lineEndR (part (unescaped bs))) ≡ bad p
+        go zero l = ap (λ o. bind (bind o (λ _. retR bs)) (λ bs. lineEndR (part (unescaped bs)))) k
+        go (suc q) l = ap (λ o. bind (raise (suc q) (bind o (λ _. retR bs))) (λ bs. lineEndR (part (unescaped bs)))) k ∙ ap bad (omega arith)
     pairs-open p (no-close w k z) = behind ∙ (raised far w p k ∙ go far (let l = comment-reach doc n in let m = ap reach k in omega arith))
       where
-        go : (far : ℕ) → far ≤ p → bind (reached far bs p (drop p doc)) (λ bs. lineEndR (part bs)) ≡ bad p
-        go zero l = line-open (part bs) doc p z
-        go (suc q) l = ap (raise (suc q)) (line-open (part bs) doc p z) ∙ ap bad (omega arith)
+        go : (far : ℕ) → far ≤ p → bind (reached far bs p (drop p doc)) (λ bs. lineEndR (part (unescaped bs))) ≡ bad p
+        go zero l = line-open (part (unescaped bs)) doc p z
+        go (suc q) l = ap (raise (suc q)) (line-open (part (unescaped bs)) doc p z) ∙ ap bad (omega arith)

@@ -6,8 +6,8 @@ use Prim.Native.Nat.{ℕ}
 use native.Mathlib.Omega.{arith}
 use Rattle.notation.specs.Lang.{Plus, Indented, Map}
 use Rattle.language.specs.Kind.{STRING}
-use Rattle.language.specs.Tree.{Tree, leaf}
-use Rattle.language.specs.BlockText.{Part, part, partBytes, partEnd}
+use Rattle.language.specs.Tree.{Tree, leaf, unescaped}
+use Rattle.language.specs.BlockText.{Part, part, partText, partEnd}
 use Rattle.language.specs.Blocks.{JoinedLine, Joined}
 use Rattle.exact.specs.Class.{Class, is, nothing}
 use Rattle.exact.specs.Out.{Reader}
@@ -43,7 +43,7 @@ joinedLine-exact = weaken 1 None (omega arith) (within-bar _ None nothing) (join
 
 -- THE FURTHER LINES on m spaces, at least one
 abbrev pub joinedTree : ℕ → Part → List Part → Tree
-joinedTree a p ps = leaf STRING a (partEnd 0 ps) (partBytes (p ∷ ps))
+joinedTree a p ps = leaf STRING a (partEnd 0 ps) (partText (p ∷ ps))
 
 abbrev pub joinedMoreR : ℕ → ℕ → Part → Reader Tree
 joinedMoreR m a p = mapR (joinedTree a p) (plusR (indentedR m joinedLineR) (furtherR quotes m joinedLineR))
@@ -64,7 +64,7 @@ module _ (m : ℕ) where
       (ll-shuts refl joinedLine-ll)
       m
       (weaken 1 (beyond m) (omega arith) (within-none (beyond m)) joinedLine-exact)
-      (part [] 0))
+      (part (unescaped []) 0))
 
   pub joinedMore-exact : (a : ℕ) (p : Part) → Exact 1 (Map (joinedTree a p) (Plus (Indented m JoinedLine))) (lines m) (joinedMoreR m a p)
   joinedMore-exact a p = map-exact (joinedTree a p) further

@@ -13,7 +13,9 @@ use Rattle.exact.specs.Comb.{mapR}
 use Rattle.exact.specs.Block.{manyG}
 use Rattle.exact.specs.Lines.{reached}
 use Rattle.exact.specs.Place.{peek}
-use Rattle.language.specs.BlockText.{Part, part, partBytes, partEnd}
+use Rattle.language.specs.Tree.{Decoded, _then_}
+use Rattle.language.specs.BlockText.{Part, part, partText, partEnd}
+use Rattle.rooms.specs.Told.{ESCAPE, spot, tally, told, spot-on}
 use Rattle.characters.specs.declared.Skip.{Skip}
 use Rattle.characters.specs.declared.Skip.the-variants.{End, Bad}
 use Rattle.characters.specs.Reads.{Skips}
@@ -47,17 +49,18 @@ unfoldable pub Closing : {X : Type 0} → List ℕ → ℕ → Out X → Cursor 
 Closing doc at o n (Ok m) = Closed doc at o n m
 Closing doc at o n (No p) = Unclosed doc o p
 
--- A LINE from the cursor c up to its LF at n, and its bytes, which stand in the room from c's text on
+-- A LINE from the cursor c up to its LF at n, and its text, which stands in the room from c's text on
 pub record Parted (doc : List ℕ) (c : Cursor) (o : Out Part) (n : Cursor) (text text' : List ℕ) : Type 0 where
-  pub bytes : List ℕ
+  pub bytes : Decoded
   pub far : ℕ
   pub reads : o ≡ reached far (part bytes (n .at)) (n .at + 1) (drop (n .at + 1) doc)
   pub near : far ≤ n .at + 1
   pub ahead : c .at < n .at
   pub inside : n .at < length doc
-  pub end : n .text ≡ c .text + length bytes
-  pub few : c .at + length bytes ≤ n .at
-  pub room : text' ≡ sets text (c .text) bytes
+  pub end : n .text ≡ c .text + told bytes
+  pub few : c .at + length (bytes .bytes) ≤ n .at
+  pub scant : c .at + bytes .escapes ≤ n .at
+  pub room : text' ≡ sets text (spot (c .text)) (bytes .bytes)
 
 unfoldable pub PartAt : List ℕ → Cursor → Out Part → Ans → List ℕ → List ℕ → Type 0
 PartAt doc c o (Ok n) text text' = Parted doc c o n text text'
@@ -74,25 +77,32 @@ module _ {X Y : Type 0} (g : List ℕ → Bool) (w : List ℕ → ℕ) (r : Read
 
 -- ONE LINE AND THOSE BELOW IT
 module _ (g : List ℕ → Bool) (w : List ℕ → ℕ) (r : Reader Part) (tame : Tame 1 r) where
-  pub further-plus : (doc : List ℕ) (c : Cursor) (parent kind : ℕ) (o : Out Part) (from x q e : ℕ) (bs : List ℕ) (b : Block) (R R' T₀ T T' : List ℕ)
-      → o ≡ reached q (part bs e) (e + 1) (drop (e + 1) doc) → q ≤ e + 1 → T ≡ sets T₀ x bs → from + length bs ≤ e
-      → Furthers doc c parent kind (manyG g w r (e + 1) (drop (e + 1) doc)) (partEnd e) partBytes (e + 1) (x + length bs) b R R' T T'
-      → Furthers doc c parent kind (bind o (λ v. mapR (v ∷_) (manyG g w r))) (partEnd 0) partBytes from x b R R' T₀ T'
-  further-plus doc c parent kind o from x q e bs b R R' T₀ T T' h l s f (stopped p z k) =
-      stopped p z (ap (λ o. bind o (λ v. mapR (v ∷_) (manyG g w r))) h ∙ (below-first g w r tame (λ v vs. v ∷ vs) q (part bs e) (e + 1) (drop (e + 1) doc) l ∙ ap (fmap (part bs e ∷_)) k))
-  further-plus doc c parent kind o from x q e bs b R R' T₀ T T' h l s f (went y) =
-      let n : length (bs ++ partBytes (y .value)) ≡ length bs + length (partBytes (y .value)) = length-append bs (partBytes (y .value)) in
-      let k : x + length bs + length (partBytes (y .value)) ≡ x + length (bs ++ partBytes (y .value)) = omega arith in
-      went
-      (record {
-        value = part bs e ∷ y .value;
-        at = y .at;
-        far = y .far;
-        reads = ap (λ o. bind o (λ v. mapR (v ∷_) (manyG g w r))) h ∙ (below-first g w r tame (λ v vs. v ∷ vs) q (part bs e) (e + 1) (drop (e + 1) doc) l ∙ ap (fmap (part bs e ∷_)) (y .reads));
-        room = y .room ∙ (ap (λ t. sets t (x + length bs) (partBytes (y .value))) s ∙ sym (sets-append T₀ x bs (partBytes (y .value))));
-        row = subst (λ i. Rowed c parent kind (y .at) i (y .far) (partEnd e (y .value)) b R R') k (y .row);
-        inside = y .inside;
-        inner = y .inner;
-        few = omega (arith, y .few);
-        ahead = y .ahead;
-      })
+  module _ (doc : List ℕ) (c : Cursor) (parent kind : ℕ) (o : Out Part) (from x q e : ℕ) (bs : Decoded) (b : Block) (R R' T₀ T T' : List ℕ) where
+    -- the first line, and those below it
+    first-read : o ≡ reached q (part bs e) (e + 1) (drop (e + 1) doc) → q ≤ e + 1
+        → bind o (λ v. mapR (v ∷_) (manyG g w r)) ≡ fmap (part bs e ∷_) (manyG g w r (e + 1) (drop (e + 1) doc))
+    first-read h l = ap (λ o. bind o (λ v. mapR (v ∷_) (manyG g w r))) h ∙ below-first g w r tame (λ v vs. v ∷ vs) q (part bs e) (e + 1) (drop (e + 1) doc) l
+
+    pub further-plus : o ≡ reached q (part bs e) (e + 1) (drop (e + 1) doc) → q ≤ e + 1 → T ≡ sets T₀ (spot x) (bs .bytes) → from + length (bs .bytes) ≤ e → from + bs .escapes ≤ e
+        → spot x + length (bs .bytes) < ESCAPE → Furthers doc c parent kind (manyG g w r (e + 1) (drop (e + 1) doc)) (partEnd e) partText (e + 1) (x + told bs) b R R' T T'
+        → Furthers doc c parent kind (bind o (λ v. mapR (v ∷_) (manyG g w r))) (partEnd 0) partText from x b R R' T₀ T'
+    further-plus h l s f k d (stopped p z y) = stopped p z (first-read h l ∙ ap (fmap (part bs e ∷_)) y)
+    further-plus h l s f k d (went y) =
+        let u = partText (y .value) in
+        let n : length (bs .bytes ++ u .bytes) ≡ length (bs .bytes) + length (u .bytes) = length-append (bs .bytes) (u .bytes) in
+        let i : x + told bs + told u ≡ x + told (bs then u) = omega arith in
+        let j : spot (x + told bs) ≡ spot x + length (bs .bytes) = spot-on x (length (bs .bytes)) (bs .escapes) d in
+        went
+        (record {
+          value = part bs e ∷ y .value;
+          at = y .at;
+          far = y .far;
+          reads = first-read h l ∙ ap (fmap (part bs e ∷_)) (y .reads);
+          room = y .room ∙ (ap (λ t. sets t (spot (x + told bs)) (u .bytes)) s ∙ (ap (λ m. sets (sets T₀ (spot x) (bs .bytes)) m (u .bytes)) j ∙ sym (sets-append T₀ (spot x) (bs .bytes) (u .bytes))));
+          row = subst (λ i. Rowed c parent kind (y .at) i (y .far) (partEnd e (y .value)) b R R') i (y .row);
+          inside = y .inside;
+          inner = y .inner;
+          few = omega (arith, y .few);
+          scant = omega (arith, y .scant);
+          ahead = y .ahead;
+        })

@@ -4,7 +4,7 @@ use mathlib.Core.Path.{_≡_, refl}
 use mathlib.Core.List.{List, [], _∷_}
 use Prim.Native.Nat.{ℕ}
 use Rattle.language.specs.Kind.{STRING, BYTES}
-use Rattle.language.specs.Tree.{Tree, leaf}
+use Rattle.language.specs.Tree.{unescaped, Tree, leaf}
 use Rattle.language.specs.BlockText.{bodyText, bodyEnd}
 use Rattle.exact.specs.Verdict.{Res, acc, stop}
 use Rattle.exact.specs.Out.{Reader, finish}
@@ -23,7 +23,7 @@ ends r at s = finish (r at s) endR
 -- OPEN BLOCK STRINGS
 -- at the root, 01's border: `G⏎␠␠x⏎␠␠␠␠y⏎⏎⏎` is LF, x, LF, two spaces, y, LF, from 0 to 11
 s₁ : ends (openStringR 0) 0 (96 ∷ 10 ∷ 32 ∷ 32 ∷ 120 ∷ 10 ∷ 32 ∷ 32 ∷ 32 ∷ 32 ∷ 121 ∷ 10 ∷ 10 ∷ 10 ∷ [])
-    ≡ acc (leaf STRING 0 11 (10 ∷ 120 ∷ 10 ∷ 32 ∷ 32 ∷ 121 ∷ 10 ∷ []))
+    ≡ acc (leaf STRING 0 11 (unescaped (10 ∷ 120 ∷ 10 ∷ 32 ∷ 32 ∷ 121 ∷ 10 ∷ [])))
 unfolding openStringR leaderTextR bodyR bodyLineR textLineR bodyText bodyEnd
 s₁ = refl
 
@@ -32,20 +32,20 @@ s₂ : ends (openStringR 2) 2 (96 ∷ 10 ∷ 32 ∷ 32 ∷ 120 ∷ 10 ∷ []) �
 unfolding openStringR leaderTextR bodyR bodyLineR textLineR bodyText bodyEnd
 s₂ = refl
 
-s₃ : ends (openStringR 2) 2 (96 ∷ 10 ∷ 32 ∷ 32 ∷ 32 ∷ 120 ∷ 10 ∷ []) ≡ acc (leaf STRING 2 8 (10 ∷ 120 ∷ 10 ∷ []))
+s₃ : ends (openStringR 2) 2 (96 ∷ 10 ∷ 32 ∷ 32 ∷ 32 ∷ 120 ∷ 10 ∷ []) ≡ acc (leaf STRING 2 8 (unescaped (10 ∷ 120 ∷ 10 ∷ [])))
 unfolding openStringR leaderTextR bodyR bodyLineR textLineR bodyText bodyEnd
 s₃ = refl
 
 -- `G⏎` is one LF, and so is `G⏎⏎`; `G␠␠x⏎` is a space, x, LF
-s₄ : ends (openStringR 0) 0 (96 ∷ 10 ∷ []) ≡ acc (leaf STRING 0 1 (10 ∷ []))
+s₄ : ends (openStringR 0) 0 (96 ∷ 10 ∷ []) ≡ acc (leaf STRING 0 1 (unescaped (10 ∷ [])))
 unfolding openStringR leaderTextR bodyR bodyLineR textLineR bodyText bodyEnd
 s₄ = refl
 
-s₅ : ends (openStringR 0) 0 (96 ∷ 10 ∷ 10 ∷ []) ≡ acc (leaf STRING 0 1 (10 ∷ []))
+s₅ : ends (openStringR 0) 0 (96 ∷ 10 ∷ 10 ∷ []) ≡ acc (leaf STRING 0 1 (unescaped (10 ∷ [])))
 unfolding openStringR leaderTextR bodyR bodyLineR textLineR bodyText bodyEnd
 s₅ = refl
 
-s₆ : ends (openStringR 0) 0 (96 ∷ 32 ∷ 32 ∷ 120 ∷ 10 ∷ []) ≡ acc (leaf STRING 0 4 (32 ∷ 120 ∷ 10 ∷ []))
+s₆ : ends (openStringR 0) 0 (96 ∷ 32 ∷ 32 ∷ 120 ∷ 10 ∷ []) ≡ acc (leaf STRING 0 4 (unescaped (32 ∷ 120 ∷ 10 ∷ [])))
 unfolding openStringR leaderTextR bodyR bodyLineR textLineR bodyText bodyEnd
 s₆ = refl
 
@@ -64,11 +64,11 @@ s₉ = refl
 
 -- BLOCK STRINGS OF A PROPERTY
 -- of `a:␠G⏎`: the empty string; of `a:␠G⏎⏎␠é⏎`: LF, é, LF
-p₁ : ends (propertyStringR 0) 3 (96 ∷ 10 ∷ []) ≡ acc (leaf STRING 3 4 [])
+p₁ : ends (propertyStringR 0) 3 (96 ∷ 10 ∷ []) ≡ acc (leaf STRING 3 4 (unescaped []))
 unfolding propertyStringR bodyR bodyLineR textLineR bodyText bodyEnd
 p₁ = refl
 
-p₂ : ends (propertyStringR 0) 3 (96 ∷ 10 ∷ 10 ∷ 32 ∷ 195 ∷ 169 ∷ 10 ∷ []) ≡ acc (leaf STRING 3 9 (10 ∷ 195 ∷ 169 ∷ 10 ∷ []))
+p₂ : ends (propertyStringR 0) 3 (96 ∷ 10 ∷ 10 ∷ 32 ∷ 195 ∷ 169 ∷ 10 ∷ []) ≡ acc (leaf STRING 3 9 (unescaped (10 ∷ 195 ∷ 169 ∷ 10 ∷ [])))
 unfolding propertyStringR bodyR bodyLineR textLineR bodyText bodyEnd
 p₂ = refl
 
@@ -79,16 +79,16 @@ p₃ = refl
 
 -- BLOCK BYTES
 -- `>␠b0 b5⏎␠␠c0␠␠#⏎` goes on to the LF behind the comment
-b₁ : ends (openBytesR 0) 0 (62 ∷ 32 ∷ 98 ∷ 48 ∷ 32 ∷ 98 ∷ 53 ∷ 10 ∷ 32 ∷ 32 ∷ 99 ∷ 48 ∷ 32 ∷ 32 ∷ 35 ∷ 10 ∷ []) ≡ acc (leaf BYTES 0 15 (176 ∷ 181 ∷ 192 ∷ []))
+b₁ : ends (openBytesR 0) 0 (62 ∷ 32 ∷ 98 ∷ 48 ∷ 32 ∷ 98 ∷ 53 ∷ 10 ∷ 32 ∷ 32 ∷ 99 ∷ 48 ∷ 32 ∷ 32 ∷ 35 ∷ 10 ∷ []) ≡ acc (leaf BYTES 0 15 (unescaped (176 ∷ 181 ∷ 192 ∷ [])))
 unfolding openBytesR hexRestR contentR commentedR hexLinesR pairsR pairR furtherR
 b₁ = refl
 
 -- of `a:␠>⏎␠␠#␠c⏎`: no bytes, and the comment line is inside the span; of `a:␠>␠#⏎␠0f⏎`: one
-b₂ : ends (propertyBytesR 0) 3 (62 ∷ 10 ∷ 32 ∷ 32 ∷ 35 ∷ 32 ∷ 99 ∷ 10 ∷ []) ≡ acc (leaf BYTES 3 10 [])
+b₂ : ends (propertyBytesR 0) 3 (62 ∷ 10 ∷ 32 ∷ 32 ∷ 35 ∷ 32 ∷ 99 ∷ 10 ∷ []) ≡ acc (leaf BYTES 3 10 (unescaped []))
 unfolding propertyBytesR leaderCommentR hexRestR contentR commentedR hexLinesR pairsR pairR furtherR
 b₂ = refl
 
-b₃ : ends (propertyBytesR 0) 3 (62 ∷ 32 ∷ 35 ∷ 10 ∷ 32 ∷ 48 ∷ 102 ∷ 10 ∷ []) ≡ acc (leaf BYTES 3 10 (15 ∷ []))
+b₃ : ends (propertyBytesR 0) 3 (62 ∷ 32 ∷ 35 ∷ 10 ∷ 32 ∷ 48 ∷ 102 ∷ 10 ∷ []) ≡ acc (leaf BYTES 3 10 (unescaped (15 ∷ [])))
 unfolding propertyBytesR leaderCommentR hexRestR contentR commentedR hexLinesR pairsR pairR furtherR
 b₃ = refl
 
@@ -110,7 +110,7 @@ unfolding openBytesR hexRestR contentR commentedR hexLinesR pairsR pairR further
 b₇ = refl
 
 -- JOINED STRINGS: `"a"⏎␠␠'b'⏎` at column 2, from the first quote to the last; one line is too few; `'C:\a'⏎␠␠'\b'⏎` is `C:\a\b`
-j₁ : ends (joinedR 2) 0 (34 ∷ 97 ∷ 34 ∷ 10 ∷ 32 ∷ 32 ∷ 39 ∷ 98 ∷ 39 ∷ 10 ∷ []) ≡ acc (leaf STRING 0 9 (97 ∷ 98 ∷ []))
+j₁ : ends (joinedR 2) 0 (34 ∷ 97 ∷ 34 ∷ 10 ∷ 32 ∷ 32 ∷ 39 ∷ 98 ∷ 39 ∷ 10 ∷ []) ≡ acc (leaf STRING 0 9 (unescaped (97 ∷ 98 ∷ [])))
 unfolding joinedR joinedLineR quotedR betweenR escapeR singleEscapeR
 j₁ = refl
 
@@ -118,6 +118,6 @@ j₂ : ends (joinedR 2) 0 (34 ∷ 97 ∷ 34 ∷ 10 ∷ []) ≡ stop 4
 unfolding joinedR joinedLineR quotedR betweenR escapeR singleEscapeR
 j₂ = refl
 
-j₃ : ends (joinedR 2) 0 (39 ∷ 67 ∷ 58 ∷ 92 ∷ 97 ∷ 39 ∷ 10 ∷ 32 ∷ 32 ∷ 39 ∷ 92 ∷ 98 ∷ 39 ∷ 10 ∷ []) ≡ acc (leaf STRING 0 13 (67 ∷ 58 ∷ 92 ∷ 97 ∷ 92 ∷ 98 ∷ []))
+j₃ : ends (joinedR 2) 0 (39 ∷ 67 ∷ 58 ∷ 92 ∷ 97 ∷ 39 ∷ 10 ∷ 32 ∷ 32 ∷ 39 ∷ 92 ∷ 98 ∷ 39 ∷ 10 ∷ []) ≡ acc (leaf STRING 0 13 (unescaped (67 ∷ 58 ∷ 92 ∷ 97 ∷ 92 ∷ 98 ∷ [])))
 unfolding joinedR joinedLineR quotedR betweenR escapeR singleEscapeR
 j₃ = refl

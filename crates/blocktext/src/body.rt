@@ -95,14 +95,14 @@ fn put_line(doc: &[u8], text: &mut [u8], n: Cursor, col: usize, least: usize) ->
     requires { ⌜ Lined (now doc) col least n ⌝ }
     ensures { λ r. ⌜ LinePut (now (doc .entry)) col least n r (now (text .entry)) (now (text .exit)) ⌝ }
 {
-    let x = n.text;
+    let x = n.spot();
     match n.take(&*doc, 10) {
         Ans::Ok(m) => {
             put_byte(text, x, 10);
             Cursor {
                 at: m.at,
                 row: m.row,
-                text: x + 1,
+                text: n.text + 1,
             }
         }
         Ans::No(a) => {
@@ -114,7 +114,7 @@ fn put_line(doc: &[u8], text: &mut [u8], n: Cursor, col: usize, least: usize) ->
             Cursor {
                 at: e + 1,
                 row: n.row,
-                text: x + (e - from) + 1,
+                text: n.text + (e - from) + 1,
             }
         }
     }

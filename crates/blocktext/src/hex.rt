@@ -4,7 +4,7 @@ ghost use mathlib.Core.List.{_∷_};
 ghost use Prim.Native.Nat.{_+_};
 ghost use lib.ListN.{drop};
 ghost use Rattle.language.specs.Kind.{BYTES};
-ghost use Rattle.language.specs.BlockText.{partBytes, partEnd};
+ghost use Rattle.language.specs.BlockText.{partText, partEnd};
 ghost use Rattle.rooms.specs.Contract.{Ready, Blocks};
 ghost use Rattle.blocktext.specs.Plus.{plusR};
 ghost use Rattle.blocktext.specs.HexLines.{hexRestR, hexLineR, hexLinesR};
@@ -82,7 +82,7 @@ fn hex_lines(
     x: usize,
 ) -> Block
     requires { ⌜ Begun (now doc) c e x col ⌝ }
-    ensures { λ r. ⌜ Furthers (now (doc .entry)) c parent BYTES (hexLinesR col (e + 1) (drop (e + 1) (now (doc .entry)))) (partEnd e) partBytes (e + 1) x r (now (rows .entry)) (now (rows .exit)) (now (text .entry)) (now (text .exit)) ⌝ }
+    ensures { λ r. ⌜ Furthers (now (doc .entry)) c parent BYTES (hexLinesR col (e + 1) (drop (e + 1) (now (doc .entry)))) (partEnd e) partText (e + 1) x r (now (rows .entry)) (now (rows .exit)) (now (text .entry)) (now (text .exit)) ⌝ }
 {
     let mut n = Cursor {
         at: e,
@@ -158,7 +158,7 @@ fn property_lines(
     e: usize,
 ) -> Block
     requires { ⌜ Begun (now doc) c e (c .text) col ⌝ }
-    ensures { λ r. ⌜ Furthers (now (doc .entry)) c parent BYTES (plusR (hexLineR col) (hexLinesR col) (e + 1) (drop (e + 1) (now (doc .entry)))) (partEnd 0) partBytes (e + 1) (c .text) r (now (rows .entry)) (now (rows .exit)) (now (text .entry)) (now (text .exit)) ⌝ }
+    ensures { λ r. ⌜ Furthers (now (doc .entry)) c parent BYTES (plusR (hexLineR col) (hexLinesR col) (e + 1) (drop (e + 1) (now (doc .entry)))) (partEnd 0) partText (e + 1) (c .text) r (now (rows .entry)) (now (rows .exit)) (now (text .entry)) (now (text .exit)) ⌝ }
 {
     let a = e + 1;
     let here = Reading { at: a };

@@ -2,7 +2,7 @@
 ghost use Prim.Native.Nat.{_+_, _≤_};
 ghost use lib.ListN.{length, drop};
 ghost use Rattle.language.specs.Kind.{STRING};
-ghost use Rattle.language.specs.BlockText.{partBytes, partEnd};
+ghost use Rattle.language.specs.BlockText.{partText, partEnd};
 ghost use Rattle.exact.specs.Block.{indentedR};
 ghost use Rattle.rooms.specs.Contract.{columns, Ready, Blocks};
 ghost use Rattle.blocktext.specs.Plus.{plusR};
@@ -82,7 +82,7 @@ fn joined_lines(
     x: usize,
 ) -> Block
     requires { ⌜ Begun (now doc) c e x col ⌝ }
-    ensures { λ r. ⌜ Furthers (now (doc .entry)) c parent STRING (furtherR quotes col joinedLineR (e + 1) (drop (e + 1) (now (doc .entry)))) (partEnd e) partBytes (e + 1) x r (now (rows .entry)) (now (rows .exit)) (now (text .entry)) (now (text .exit)) ⌝ }
+    ensures { λ r. ⌜ Furthers (now (doc .entry)) c parent STRING (furtherR quotes col joinedLineR (e + 1) (drop (e + 1) (now (doc .entry)))) (partEnd e) partText (e + 1) x r (now (rows .entry)) (now (rows .exit)) (now (text .entry)) (now (text .exit)) ⌝ }
 {
     let mut n = Cursor {
         at: e,
@@ -123,7 +123,7 @@ fn joined_more(
     x: usize,
 ) -> Block
     requires { ⌜ Begun (now doc) c e x col ⌝ }
-    ensures { λ r. ⌜ Furthers (now (doc .entry)) c parent STRING (plusR (indentedR col joinedLineR) (furtherR quotes col joinedLineR) (e + 1) (drop (e + 1) (now (doc .entry)))) (partEnd 0) partBytes (e + 1) x r (now (rows .entry)) (now (rows .exit)) (now (text .entry)) (now (text .exit)) ⌝ }
+    ensures { λ r. ⌜ Furthers (now (doc .entry)) c parent STRING (plusR (indentedR col joinedLineR) (furtherR quotes col joinedLineR) (e + 1) (drop (e + 1) (now (doc .entry)))) (partEnd 0) partText (e + 1) x r (now (rows .entry)) (now (rows .exit)) (now (text .entry)) (now (text .exit)) ⌝ }
 {
     let next = next_line(&*doc, e + 1, col);
     match next {

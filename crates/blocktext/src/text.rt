@@ -3,6 +3,7 @@ ghost use mathlib.Core.Path.{_≡_};
 ghost use Prim.Native.Nat.{_+_};
 ghost use lib.ListN.{drop};
 ghost use Rattle.language.specs.Kind.{STRING};
+ghost use Rattle.language.specs.Tree.{unescaped};
 ghost use Rattle.language.specs.BlockText.{bodyText, bodyEnd};
 ghost use Rattle.rooms.specs.Contract.{Blocks};
 ghost use Rattle.blocktext.specs.TextLines.{bodyR};
@@ -36,7 +37,7 @@ fn below(
     x: usize,
 ) -> Block
     requires { ⌜ Begun (now doc) c e x col ⌝ }
-    ensures { λ r. ⌜ Furthers (now (doc .entry)) c parent STRING (bodyR col (e + 1) (drop (e + 1) (now (doc .entry)))) (bodyEnd e) bodyText (e + 1) x r (now (rows .entry)) (now (rows .exit)) (now (text .entry)) (now (text .exit)) ⌝ }
+    ensures { λ r. ⌜ Furthers (now (doc .entry)) c parent STRING (bodyR col (e + 1) (drop (e + 1) (now (doc .entry)))) (bodyEnd e) (λ ls. unescaped (bodyText ls)) (e + 1) x r (now (rows .entry)) (now (rows .exit)) (now (text .entry)) (now (text .exit)) ⌝ }
 {
     let got = body(&*doc, e, col);
     match got {
@@ -63,15 +64,15 @@ fn led_string(
     requires { ⌜ Led (now doc) c col a ⌝ }
     ensures { λ r. ⌜ Blocks (now (doc .entry)) c parent (openStringR col (c .at) (drop (c .at) (now (doc .entry)))) r (now (rows .entry)) (now (rows .exit)) (now (text .entry)) (now (text .exit)) ⌝ }
 {
-    let x = c.text;
+    let x = c.spot();
     let here = Reading { at: a };
     match text_line(&*doc, here) {
         Skip::Bad(p) => Block::Bad(p),
         Skip::End(e) => {
+            let n = e - a;
             copy(&*doc, a, e, text, x);
-            let y = x + (e - a);
-            put_byte(text, y, 10);
-            below(&*doc, rows, text, c, parent, col, e, y + 1)
+            put_byte(text, x + n, 10);
+            below(&*doc, rows, text, c, parent, col, e, c.text + n + 1)
         }
     }
 }
@@ -95,7 +96,7 @@ pub fn open_string(
             Step::Byte(b, m) => match b {
                 32 => led_string(&*doc, rows, text, c, parent, col, m.at),
                 10 => {
-                    put_byte(text, c.text, 10);
+                    put_byte(text, c.spot(), 10);
                     below(&*doc, rows, text, c, parent, col, n.at, c.text + 1)
                 }
                 _ => Block::Bad(n.at),

@@ -1,5 +1,5 @@
 -- WHAT THE C FUNCTIONS PROMISE: a number of document 01, 0 for none, and the values put where they are told. `yay_read` promises `Answered` itself, of its number and
--- its two values. Assumes nothing.
+-- its first two values, and `Totals`, of its number and its third. Assumes nothing.
 use mathlib.Core.Path.{_≡_}
 use mathlib.Core.List.{List}
 use Prim.Native.Nat.{ℕ}

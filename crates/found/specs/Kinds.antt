@@ -55,7 +55,7 @@ pairs-listed (F.pair {v = v} is-key y z) r = let l = pairs-listed z (r + 1 + siz
 
 -- a value or key of kind 9 is an object
 of-kind : {t : Tree} {r : ℕ} (u : Tree) → RowOf r u 0 t → Either u → kindOf u ≡ OBJECT → Object t r
-of-kind _ x (inl (formed-word h k)) e = absurd (omega arith)
+of-kind _ x (inl (formed-word h k l)) e = absurd (omega arith)
 of-kind _ x (inl (formed-text h k)) e = absurd (omega arith)
 of-kind _ x (inl (formed-array y)) e = absurd (omega arith)
 of-kind {r = r} _ x (inl (formed-object y)) e = let l = pairs-listed y (r + 1) in record { pairs = l .pairs; is = object-at x (l .are) }
@@ -65,7 +65,7 @@ module _ {t : Tree} {n : ℕ} {table room : List ℕ} (h : Filled t n table room
   kind-word : (r : ℕ) (u : Tree) → Placed table room n r u → word table r 0 ≡ kindOf u
   kind-word r (leaf k a e s) p = leaf-word table room n r k a e s p 0 (omega arith) ∙ by (leb k TRUE)
     where
-      by : (y : Bool) → getD (pick y (rowList k a e 0 0 (p .parent) (r + 1)) (rowList k a e (p .from) (p .from + length s) (p .parent) (r + 1))) 0 0 ≡ k
+      by : (y : Bool) → getD (pick y (rowList k a e 0 0 (p .parent) (r + 1)) (rowList k a e (p .from) (p .from + length (s .bytes)) (p .parent) (r + 1))) 0 0 ≡ k
       by true = refl
       by false = refl
   kind-word r (node k a e c ts) p = node-word table room n r k a e c ts p 0 (omega arith)

@@ -2,7 +2,7 @@
 use mathlib.Core.List.{List, [], _∷_}
 use Prim.Native.Nat.{ℕ, _+_}
 use Rattle.language.specs.Kind.{OBJECT, KEY}
-use Rattle.language.specs.Tree.{Tree, leaf, node, Forest, none, more, size}
+use Rattle.language.specs.Tree.{Decoded, Tree, leaf, node, Forest, none, more, size}
 
 -- "Rows stand in document order": row r is that of the tree u, where the rows of a tree, or of trees one after another, begin with row b
 mutual
@@ -21,8 +21,8 @@ pub data Pair : Type 0 where
 -- "A key's row stands just before its value's row": these trees, whose rows begin with row r, are the keys and values of the pairs
 pub data Pairs : ℕ → Forest → List Pair → Type 0 where
   no-pair : {r : ℕ} → Pairs r none []
-  one-pair : {r a e : ℕ} {s : List ℕ} {v : Tree} {ts : Forest} {fs : List Pair} → Pairs (r + 1 + size v) ts fs
-      → Pairs r (more (leaf KEY a e s) (more v ts)) (pair s (r + 1) v ∷ fs)
+  one-pair : {r a e : ℕ} {s : Decoded} {v : Tree} {ts : Forest} {fs : List Pair} → Pairs (r + 1 + size v) ts fs
+      → Pairs r (more (leaf KEY a e s) (more v ts)) (pair (s .bytes) (r + 1) v ∷ fs)
 
 -- row r of the tree t is that of an object with these pairs
 pub data ObjectAt (t : Tree) (r : ℕ) (fs : List Pair) : Type 0 where

@@ -45,10 +45,10 @@ twins no-pair h g = elim h [ ]
 twins {i = i} {j = j} {s = s} {u = u} {v = v} (one-pair {r = r} {a = a} {e = e} {s = k} {v = w} {ts = ts} {fs = fs} x) h g =
     by (first-or h) (first-or g) (λ y z. twins x y z)
   where
-    later : Keyed s ts → k ≡ s → Twins i j u v (more (leaf KEY a e k) (more w ts))
+    later : Keyed s ts → k .bytes ≡ s → Twins i j u v (more (leaf KEY a e k) (more w ts))
     later z q = apart (z .start) (again (has-later (subst (λ (y : List ℕ). Has y (z .start) ts) (sym q) (z .has))))
 
-    by : (pair s i u ≡ pair k (r + 1) w) ⊎ Holds s i u fs → (pair s j v ≡ pair k (r + 1) w) ⊎ Holds s j v fs
+    by : (pair s i u ≡ pair (k .bytes) (r + 1) w) ⊎ Holds s i u fs → (pair s j v ≡ pair (k .bytes) (r + 1) w) ⊎ Holds s j v fs
         → (Holds s i u fs → Holds s j v fs → Twins i j u v ts) → Twins i j u v (more (leaf KEY a e k) (more w ts))
     by (inl p) (inl q) d = alike (cc) (cc)
     by (inl p) (inr z) d = later (has-key x z) (cc)

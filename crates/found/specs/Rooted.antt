@@ -97,7 +97,7 @@ value-row (object-at x y) h = row-in (within (value-among y h)) x
 -- ONE LIST OF PAIRS for an object's row
 pub one-pairs : {r : ℕ} {ts : Forest} {fs gs : List Pair} → Pairs r ts fs → Pairs r ts gs → fs ≡ gs
 one-pairs no-pair no-pair = refl
-one-pairs (one-pair {r = r} {s = s} {v = v} x) (one-pair y) = ap (λ (l : List Pair). pair s (r + 1) v ∷ l) (one-pairs x y)
+one-pairs (one-pair {r = r} {s = s} {v = v} x) (one-pair y) = ap (λ (l : List Pair). pair (s .bytes) (r + 1) v ∷ l) (one-pairs x y)
 
 pub one-object : {t : Tree} {r : ℕ} {fs gs : List Pair} → ObjectAt t r fs → ObjectAt t r gs → fs ≡ gs
 one-object {r = r} {gs = gs} (object-at {ts = ts} x y) (object-at {ts = us} z w) =

@@ -8,7 +8,7 @@ use lib.ListN.{length, getD}
 use lib.Dec.{leb}
 use Rattle.notation.specs.Class.{pick}
 use Rattle.language.specs.Kind.{TRUE}
-use Rattle.language.specs.Tree.{Tree, leaf, node, Forest, more, width, size, sizes, textOf, textsOf, rowList, leafRow, rowsOf, rowss}
+use Rattle.language.specs.Tree.{Decoded, Tree, leaf, node, Forest, more, width, size, sizes, textOf, textsOf, rowList, leafRow, rowsOf, rowss}
 use Rattle.rooms.specs.Forest.{length-rows}
 use Rattle.questions.specs.Table.{word}
 use Rattle.found.specs.Objects.{RowOf, own, within, RowAmong, in-first, in-further}
@@ -79,8 +79,8 @@ module _ (table room : List ℕ) (n : ℕ) where
 
   -- ---- the words of a row
 
-  pub leaf-word : (r k a e : ℕ) (s : List ℕ) (p : Placed r (leaf k a e s)) (j : ℕ) → j < width
-      → word table r j ≡ getD (leafRow r (p .parent) (p .from) k a e s) j 0
+  pub leaf-word : (r k a e : ℕ) (s : Decoded) (p : Placed r (leaf k a e s)) (j : ℕ) → j < width
+      → word table r j ≡ getD (leafRow r (p .parent) (p .from) k a e (s .bytes)) j 0
   unfolding word rowsOf size
   leaf-word r k a e s p j h = stands-word (p .rows) j (omega (arith, length-rows r (p .parent) (p .from) (leaf k a e s)))
 
@@ -95,7 +95,7 @@ module _ (table room : List ℕ) (n : ℕ) where
   unfolding size
   next-word r (leaf k a e s) p = leaf-word r k a e s p 6 (omega arith) ∙ by (leb k TRUE)
     where
-      by : (y : Bool) → getD (pick y (rowList k a e 0 0 (p .parent) (r + 1)) (rowList k a e (p .from) (p .from + length s) (p .parent) (r + 1))) 6 0 ≡ r + 1
+      by : (y : Bool) → getD (pick y (rowList k a e 0 0 (p .parent) (r + 1)) (rowList k a e (p .from) (p .from + length (s .bytes)) (p .parent) (r + 1))) 6 0 ≡ r + 1
       by true = refl
       by false = refl
   next-word r (node k a e c ts) p = node-word r k a e c ts p 6 (omega arith) ∙ omega arith

@@ -151,7 +151,7 @@ module _ (table : List ℕ) where
 
     tree-rows : (x : ℕ) {b p : ℕ} {t : Tree} → p < b → Stands table (width * b) (rowsOf b p x t) → Placed t → firstByte table p ≤ first t → after t ≤ byteAfter table p
         → Rows p b (size t) (first t) (after t)
-    tree-rows x {b} {p} l h (placed-leaf {k} {a} {e} {s} i) y z = leaf-rows (leaf-own b p x k a e s h) l i y z
+    tree-rows x {b} {p} l h (placed-leaf {k} {a} {e} {s} i) y z = leaf-rows (leaf-own b p x k a e (s .bytes) h) l i y z
     tree-rows x {b} {p} l h (placed-node {k} {a} {e} {c} {ts} i m) y z =
         let w = rowList k a e 0 c p (b + 1 + sizes ts) in
         let v = rowss (b + 1) b x ts in
@@ -174,7 +174,7 @@ module _ (table : List ℕ) where
   pub row-spans : {bytes : ℕ} {t : Tree} → Stands table 0 (rowsOf 0 0 0 t) → Placed t → after t ≤ bytes → RowSpans bytes (size t) table
   unfolding size rowsOf
   row-spans h (placed-leaf {k} {a} {e} {s} i) l =
-      let o = leaf-own 0 0 0 k a e s h in
+      let o = leaf-own 0 0 0 k a e (s .bytes) h in
       record {
         earlier = λ r m n. absurd (omega arith);
         inside = λ r m n. absurd (omega arith);

@@ -7,7 +7,7 @@ use native.Mathlib.Omega.{arith}
 use lib.ListN.{length}
 use borrow.Author.Tests.{lt-ltb, le-leb}
 use Rattle.language.specs.Kind.{OBJECT, KEY}
-use Rattle.language.specs.Tree.{Tree, leaf, node, Forest, more, width, size, sizes, textOf}
+use Rattle.language.specs.Tree.{Decoded, Tree, leaf, node, Forest, more, width, size, sizes, textOf}
 use Rattle.questions.specs.Table.{word, good, readable}
 use Rattle.questions.specs.Text.{part}
 use Rattle.questions.specs.Walk.{Reply, paired, onward, Walk, ends, matches, goes, object, Finds, walked}
@@ -24,7 +24,7 @@ module _ (table room : List ℕ) (n : ℕ) (enough : width * n ≤ length table)
   unfolding good
   good-row r h = both (lt-ltb r n h) (le-leb (width * (r + 1)) (length table) (omega arith))
 
-  module _ (r a e : ℕ) (s : List ℕ) (p : Placed table room n r (leaf KEY a e s)) where
+  module _ (r a e : ℕ) (s : Decoded) (p : Placed table room n r (leaf KEY a e s)) where
     -- a key's row
     key-kind : word table r 0 ≡ KEY
     key-kind = leaf-word table room n r KEY a e s p 0 (omega arith)
@@ -32,20 +32,20 @@ module _ (table room : List ℕ) (n : ℕ) (enough : width * n ≤ length table)
     key-start : word table r 3 ≡ p .from
     key-start = leaf-word table room n r KEY a e s p 3 (omega arith)
 
-    key-end : word table r 4 ≡ p .from + length s
+    key-end : word table r 4 ≡ p .from + length (s .bytes)
     key-end = leaf-word table room n r KEY a e s p 4 (omega arith)
 
     key-paired : r + 1 < n → paired table n room r ≡ true
     unfolding paired readable textOf
     key-paired h =
-        let f : p .from + length s ≤ length room = stands-fits (p .text) in
+        let f : p .from + length (s .bytes) ≤ length room = stands-fits (p .text) in
         rw (key-kind, key-start, key-end)
-        (both (both (good-row r (omega arith)) (both refl (both (le-leb (p .from) (p .from + length s) (omega arith)) (le-leb (p .from + length s) (length room) f)))) (both refl (good-row (r + 1) h)))
+        (both (both (good-row r (omega arith)) (both refl (both (le-leb (p .from) (p .from + length (s .bytes)) (omega arith)) (le-leb (p .from + length (s .bytes)) (length room) f)))) (both refl (good-row (r + 1) h)))
 
-    key-part : part table room r ≡ s
+    key-part : part table room r ≡ s .bytes
     unfolding part textOf
     key-part =
-        let z : p .from + length s - p .from ≡ length s = omega arith in
+        let z : p .from + length (s .bytes) - p .from ≡ length (s .bytes) = omega arith in
         rw (key-start, key-end, z) (stands-part (p .text))
 
   -- the row of a value leads on behind it

@@ -55,7 +55,7 @@ module _ (o : Bool) (r : Reader Tree) (doc : List ℕ) (c : Cursor) (R₀ T₀ S
         counted = refl;
         written = rw (children-none o) (written-none doc (within c) (within c) (c .row) R₀ T₀ (omega arith) (omega arith) refl refl);
         kept = none-kept o doc (c .at + 1) (c .at + 1) (c .row + 1) (c .row) S₀ (omega arith);
-        ready = record { small = d .small; inside = omega arith; fewRows = omega (arith, d .fewRows); fewText = omega (arith, d .fewText) };
+        ready = record { small = d .small; inside = omega arith; fewRows = omega (arith, d .fewRows); fewText = omega (arith, d .fewText); fewEscapes = omega (arith, d .fewEscapes) };
         few = omega arith;
       }
 
@@ -102,6 +102,7 @@ module _ (o : Bool) (r : Reader Tree) (doc : List ℕ) (c : Cursor) (R₀ T₀ S
                 inside = w .inside;
                 fewRows = omega (arith, w .row, l .ready .fewRows, w .fewRows);
                 fewText = omega (arith, w .text, l .ready .fewText, w .fewText);
+                fewEscapes = omega (arith, w .escapes, l .ready .fewEscapes, w .fewEscapes);
               };
           few = omega (arith, l .few, g .ahead, q .to);
         }

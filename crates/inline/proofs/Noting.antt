@@ -150,7 +150,7 @@ module _ (doc : List ℕ) (c : Cursor) (p : ℕ) (r : Reader Tree) (a : Ans) (R 
     label-kept h =
         let g = keyed doc (c .at) (λ k. seqR (wordR (58 ∷ 32 ∷ [])) λ _. retR k) (subst (λ (u : Out Tree). Gives u (label .tree) (m .at)) (sym (label .is)) gives-ok) in
         let b = colon-gives (g .ends) (drop (g .ends) doc) (leaf KEY (c .at) (g .ends) (g .text)) (g .behind) in
-        rw (b .0) (kept-key (c .row) p (g .text) (record { is = g .is; ahead = g .ahead; inside = omega (arith, b .1, label .span .inside) }) (b .1) h)
+        rw (b .0) (kept-key (c .row) p (g .text) (record { escapes = g .text .escapes; is = g .is; ahead = g .ahead; inside = omega (arith, b .1, label .span .inside) }) (b .1) h)
 
     pub pair-noted : (S'' : List ℕ) → S' ≡ noted S p (c .at) → Notes (members false) doc (m .at) (m .row) p (r (m .at) (drop (m .at) doc)) S' S''
         → Notes (members true) doc (c .at) (c .row) p (inlinePairR r (c .at) (drop (c .at) doc)) S S''

@@ -77,6 +77,7 @@ ready-behind doc c n t d s =
       inside = s .inside;
       fewRows = omega (arith, d .fewRows, s .row, s .fewRows);
       fewText = omega (arith, d .fewText, s .text, s .fewText);
+      fewEscapes = omega (arith, d .fewEscapes, s .escapes, s .fewEscapes);
     }
 
 pub ready-after : (doc : List ℕ) (c : Cursor) (p : ℕ) (o : Out Tree) (a : Ans) (n : Cursor) (R R' T T' : List ℕ) → Ready doc c → a ≡ Ok n → Answers doc c p o a R R' T T' → Ready doc n
@@ -90,8 +91,10 @@ span-on doc c m n t i e l s =
       inside = l;
       row = s .row;
       text = s .text;
+      escapes = s .escapes;
       fewRows = omega (arith, s .fewRows);
       fewText = omega (arith, s .fewText);
+      fewEscapes = omega (arith, s .fewEscapes);
     })
 
 -- ---- a key and its colon

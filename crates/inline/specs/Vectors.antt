@@ -6,7 +6,7 @@ use Prim.Native.Nat.{ℕ}
 use Rattle.language.specs.Kind.{INTEGER, FLOAT, STRING, BYTES, KEY}
 use Rattle.language.specs.Scalars.{plain, minus}
 use Rattle.language.specs.Strings.{hexNumber}
-use Rattle.language.specs.Tree.{Tree, leaf, field, arrayTree, objectTree}
+use Rattle.language.specs.Tree.{unescaped, escaped, Tree, leaf, field, arrayTree, objectTree}
 use Rattle.exact.specs.Verdict.{Res, acc, stop}
 use Rattle.exact.specs.Class.{is, only}
 use Rattle.exact.specs.Out.{finish}
@@ -34,15 +34,16 @@ answered : List Example → List Example
 answered [] = []
 answered ((s gives r) ∷ es) = (s gives answer 2 s) ∷ answered es
 
--- READ: `[1, 22]⏎` `[{}]⏎` `{a: [1, 2]}⏎` `{a: <ab cd>, "": nan}⏎` `['b', []]⏎` `1 2⏎`
+-- READ: `[1, 22]⏎` `[{}]⏎` `{a: [1, 2]}⏎` `{a: <ab cd>, "": nan}⏎` `['b', []]⏎` `1 2⏎` `["\n"]⏎`
 read : List Example
 read =
-    ((91 ∷ 49 ∷ 44 ∷ 32 ∷ 50 ∷ 50 ∷ 93 ∷ 10 ∷ []) gives acc (arrayTree 0 7 (leaf INTEGER 1 2 (49 ∷ []) ∷ leaf INTEGER 4 6 (50 ∷ 50 ∷ []) ∷ [])))
+    ((91 ∷ 49 ∷ 44 ∷ 32 ∷ 50 ∷ 50 ∷ 93 ∷ 10 ∷ []) gives acc (arrayTree 0 7 (leaf INTEGER 1 2 (unescaped (49 ∷ [])) ∷ leaf INTEGER 4 6 (unescaped (50 ∷ 50 ∷ [])) ∷ [])))
     ∷ ((91 ∷ 123 ∷ 125 ∷ 93 ∷ 10 ∷ []) gives acc (arrayTree 0 4 (objectTree 1 3 [] ∷ [])))
-    ∷ ((123 ∷ 97 ∷ 58 ∷ 32 ∷ 91 ∷ 49 ∷ 44 ∷ 32 ∷ 50 ∷ 93 ∷ 125 ∷ 10 ∷ []) gives acc (objectTree 0 11 (field (leaf KEY 1 2 (97 ∷ [])) (arrayTree 4 10 (leaf INTEGER 5 6 (49 ∷ []) ∷ leaf INTEGER 8 9 (50 ∷ []) ∷ [])) ∷ [])))
-    ∷ ((123 ∷ 97 ∷ 58 ∷ 32 ∷ 60 ∷ 97 ∷ 98 ∷ 32 ∷ 99 ∷ 100 ∷ 62 ∷ 44 ∷ 32 ∷ 34 ∷ 34 ∷ 58 ∷ 32 ∷ 110 ∷ 97 ∷ 110 ∷ 125 ∷ 10 ∷ []) gives acc (objectTree 0 21 (field (leaf KEY 1 2 (97 ∷ [])) (leaf BYTES 4 11 (171 ∷ 205 ∷ [])) ∷ field (leaf KEY 13 15 []) (leaf FLOAT 17 20 (110 ∷ 97 ∷ 110 ∷ [])) ∷ [])))
-    ∷ ((91 ∷ 39 ∷ 98 ∷ 39 ∷ 44 ∷ 32 ∷ 91 ∷ 93 ∷ 93 ∷ 10 ∷ []) gives acc (arrayTree 0 9 (leaf STRING 1 4 (98 ∷ []) ∷ arrayTree 6 8 [] ∷ [])))
-    ∷ ((49 ∷ 32 ∷ 50 ∷ 10 ∷ []) gives acc (leaf INTEGER 0 3 (49 ∷ 50 ∷ [])))
+    ∷ ((123 ∷ 97 ∷ 58 ∷ 32 ∷ 91 ∷ 49 ∷ 44 ∷ 32 ∷ 50 ∷ 93 ∷ 125 ∷ 10 ∷ []) gives acc (objectTree 0 11 (field (leaf KEY 1 2 (unescaped (97 ∷ []))) (arrayTree 4 10 (leaf INTEGER 5 6 (unescaped (49 ∷ [])) ∷ leaf INTEGER 8 9 (unescaped (50 ∷ [])) ∷ [])) ∷ [])))
+    ∷ ((123 ∷ 97 ∷ 58 ∷ 32 ∷ 60 ∷ 97 ∷ 98 ∷ 32 ∷ 99 ∷ 100 ∷ 62 ∷ 44 ∷ 32 ∷ 34 ∷ 34 ∷ 58 ∷ 32 ∷ 110 ∷ 97 ∷ 110 ∷ 125 ∷ 10 ∷ []) gives acc (objectTree 0 21 (field (leaf KEY 1 2 (unescaped (97 ∷ []))) (leaf BYTES 4 11 (unescaped (171 ∷ 205 ∷ []))) ∷ field (leaf KEY 13 15 (unescaped [])) (leaf FLOAT 17 20 (unescaped (110 ∷ 97 ∷ 110 ∷ []))) ∷ [])))
+    ∷ ((91 ∷ 39 ∷ 98 ∷ 39 ∷ 44 ∷ 32 ∷ 91 ∷ 93 ∷ 93 ∷ 10 ∷ []) gives acc (arrayTree 0 9 (leaf STRING 1 4 (unescaped (98 ∷ [])) ∷ arrayTree 6 8 [] ∷ [])))
+    ∷ ((49 ∷ 32 ∷ 50 ∷ 10 ∷ []) gives acc (leaf INTEGER 0 3 (unescaped (49 ∷ 50 ∷ []))))
+    ∷ ((91 ∷ 34 ∷ 92 ∷ 110 ∷ 34 ∷ 93 ∷ 10 ∷ []) gives acc (arrayTree 0 6 (leaf STRING 1 5 (escaped (10 ∷ [])) ∷ [])))
     ∷ []
 
 read-right : answered read ≡ read

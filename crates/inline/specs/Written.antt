@@ -1,13 +1,14 @@
 -- Trees one behind another in the rooms: what is written from one cursor up to another, put together and closed by a container's own row.
-use mathlib.Core.Path.{_≡_, refl, sym, _∙_}
+use mathlib.Core.Path.{_≡_, refl, sym, ap, _∙_}
 use mathlib.Core.List.{List, [], _∷_, _++_, append-assoc, append-nil}
 use Prim.Native.Nat.{ℕ, _+_, _*_, _≤_, _<_}
 use native.Mathlib.Nat.{add-zero}
 use native.Mathlib.Omega.{arith}
 use lib.ListN.{length, length-append}
 use lib.Seq.{sets}
-use Rattle.language.specs.Tree.{Tree, node, forest, width, size, sizes, textOf, textsOf, rowsOf, rowss, rowList}
+use Rattle.language.specs.Tree.{Tree, node, forest, width, size, sizes, textOf, textsOf, escapesOf, escapesIn, rowsOf, rowss, rowList}
 use Rattle.rooms.specs.declared.Cursor.{Cursor}
+use Rattle.rooms.specs.Told.{spot, tally}
 use Rattle.rooms.specs.Contract.{Span, Filled}
 use Rattle.rooms.specs.Stores.{sets-append, row-behind}
 use Rattle.rooms.specs.Forest.{length-rowss}
@@ -27,6 +28,11 @@ texts-append (t ∷ ts) us = rw (texts-append ts us) (sym (append-assoc (textOf 
 pub length-texts : (ts us : List Tree) → length (textsOf (forest (ts ++ us))) ≡ length (textsOf (forest ts)) + length (textsOf (forest us))
 length-texts ts us = rw (texts-append ts us) (length-append (textsOf (forest ts)) (textsOf (forest us)))
 
+pub escapes-append : (ts us : List Tree) → escapesIn (forest (ts ++ us)) ≡ escapesIn (forest ts) + escapesIn (forest us)
+unfolding escapesIn
+escapes-append [] us = omega arith
+escapes-append (t ∷ ts) us = let h = escapes-append ts us in omega arith
+
 pub rowss-append : (r p x : ℕ) (ts us : List Tree)
     → rowss r p x (forest (ts ++ us)) ≡ rowss r p x (forest ts) ++ rowss (r + sizes (forest ts)) p (x + length (textsOf (forest ts))) (forest us)
 unfolding rowss sizes textsOf
@@ -43,38 +49,44 @@ pub record Written (doc : List ℕ) (c n : Cursor) (parent : ℕ) (ts : List Tre
   pub onward : c .at ≤ n .at
   pub inside : n .at ≤ length doc
   pub row : n .row ≡ c .row + sizes (forest ts)
-  pub text : n .text ≡ c .text + length (textsOf (forest ts))
+  pub text : spot (n .text) ≡ spot (c .text) + length (textsOf (forest ts))
+  pub escapes : tally (n .text) ≡ tally (c .text) + escapesIn (forest ts)
   pub fewRows : c .at + sizes (forest ts) ≤ n .at
   pub fewText : c .at + length (textsOf (forest ts)) ≤ n .at
-  pub table : R' ≡ sets R (width * c .row) (rowss (c .row) parent (c .text) (forest ts))
-  pub room : T' ≡ sets T (c .text) (textsOf (forest ts))
+  pub fewEscapes : c .at + escapesIn (forest ts) ≤ n .at
+  pub table : R' ≡ sets R (width * c .row) (rowss (c .row) parent (spot (c .text)) (forest ts))
+  pub room : T' ≡ sets T (spot (c .text)) (textsOf (forest ts))
 
 module _ (doc : List ℕ) (c n : Cursor) (p : ℕ) where
   -- bytes that are no tree's
   pub written-none : (R T : List ℕ) → c .at ≤ n .at → n .at ≤ length doc → n .row ≡ c .row → n .text ≡ c .text → Written doc c n p [] R R T T
-  unfolding sizes textsOf rowss
+  unfolding sizes textsOf escapesIn rowss
   written-none R T h l e f =
       record {
         onward = h;
         inside = l;
         row = omega arith;
-        text = omega arith;
+        text = ap spot f ∙ sym (add-zero (spot (c .text)));
+        escapes = ap tally f ∙ sym (add-zero (tally (c .text)));
         fewRows = omega arith;
         fewText = omega arith;
+        fewEscapes = omega arith;
         table = refl;
         room = refl;
       }
 
   pub written-one : (t : Tree) (R R' T T' : List ℕ) → Span doc c n t → Filled c p t R R' T T' → Written doc c n p (t ∷ []) R R' T T'
-  unfolding sizes textsOf rowss
+  unfolding sizes textsOf escapesIn rowss
   written-one t R R' T T' s f =
       record {
         onward = omega (arith, s .ahead);
         inside = s .inside;
         row = omega (arith, s .row);
         text = rw append-nil (s .text);
+        escapes = omega (arith, s .escapes);
         fewRows = omega (arith, s .fewRows);
         fewText = rw append-nil (s .fewText);
+        fewEscapes = omega (arith, s .fewEscapes);
         table = rw append-nil (f .table);
         room = rw append-nil (f .room);
       }
@@ -85,20 +97,23 @@ pub written-append : (doc : List ℕ) (c m n : Cursor) (p : ℕ) (ts us : List T
 written-append doc c m n p ts us R R' R'' T T' T'' x y =
     let s = sizes-append ts us in
     let l = length-texts ts us in
-    let k = length-rowss (c .row) p (c .text) (forest ts) in
-    let i : width * m .row ≡ width * c .row + length (rowss (c .row) p (c .text) (forest ts)) = omega (arith, x .row) in
+    let z = escapes-append ts us in
+    let k = length-rowss (c .row) p (spot (c .text)) (forest ts) in
+    let i : width * m .row ≡ width * c .row + length (rowss (c .row) p (spot (c .text)) (forest ts)) = omega (arith, x .row) in
     record {
       onward = omega (arith, x .onward, y .onward);
       inside = y .inside;
       row = omega (arith, x .row, y .row);
       text = omega (arith, x .text, y .text);
+      escapes = omega (arith, x .escapes, y .escapes);
       fewRows = omega (arith, x .fewRows, y .fewRows);
       fewText = omega (arith, x .fewText, y .fewText);
+      fewEscapes = omega (arith, x .fewEscapes, y .fewEscapes);
       table =
           y .table
-          ∙ rw (i, x .table, x .row, x .text, rowss-append (c .row) p (c .text) ts us)
-          (sym (sets-append R (width * c .row) (rowss (c .row) p (c .text) (forest ts)) (rowss (c .row + sizes (forest ts)) p (c .text + length (textsOf (forest ts))) (forest us))));
-      room = y .room ∙ rw (x .room, x .text, texts-append ts us) (sym (sets-append T (c .text) (textsOf (forest ts)) (textsOf (forest us))));
+          ∙ rw (i, x .table, x .row, x .text, rowss-append (c .row) p (spot (c .text)) ts us)
+          (sym (sets-append R (width * c .row) (rowss (c .row) p (spot (c .text)) (forest ts)) (rowss (c .row + sizes (forest ts)) p (spot (c .text) + length (textsOf (forest ts))) (forest us))));
+      room = y .room ∙ rw (x .room, x .text, texts-append ts us) (sym (sets-append T (spot (c .text)) (textsOf (forest ts)) (textsOf (forest us))));
     }
 
 -- A CONTAINER at c, whose children are written from c′ on with its row for their parent, once its own row is stored
@@ -108,15 +123,17 @@ module _ (doc : List ℕ) (c c′ n : Cursor) (p kind cnt : ℕ) (ts : List Tree
   whole = node kind (c .at) (n .at) cnt (forest ts)
 
   pub node-span : Span doc c n whole
-  unfolding size textOf
+  unfolding size textOf escapesOf
   node-span =
       record {
         ahead = omega (arith, w .onward);
         inside = w .inside;
         row = omega (arith, w .row);
         text = rw text at (w .text);
+        escapes = rw text at (w .escapes);
         fewRows = omega (arith, w .fewRows);
         fewText = omega (arith, w .fewText);
+        fewEscapes = omega (arith, w .fewEscapes);
       }
 
   pub node-filled : R'' ≡ sets R' (width * c .row) (rowList kind (c .at) (n .at) 0 cnt p (n .row)) → Filled c p whole R R'' T T'
@@ -126,6 +143,6 @@ module _ (doc : List ℕ) (c c′ n : Cursor) (p kind cnt : ℕ) (ts : List Tree
       record {
         table =
             rw (h, w .table, e, row, text)
-            (row-behind R (width * c .row) (width * (c .row + 1)) (rowList kind (c .at) (n .at) 0 cnt p (c .row + 1 + sizes (forest ts))) (rowss (c .row + 1) (c .row) (c .text) (forest ts)) (omega arith));
+            (row-behind R (width * c .row) (width * (c .row + 1)) (rowList kind (c .at) (n .at) 0 cnt p (c .row + 1 + sizes (forest ts))) (rowss (c .row + 1) (c .row) (spot (c .text)) (forest ts)) (omega arith));
         room = rw text at (w .room);
       }

@@ -6,12 +6,13 @@ use Prim.Native.Nat.{ℕ, suc, _+_, _-_, _*_, _≤_, _<_, max}
 use native.Mathlib.Omega.{arith}
 use lib.ListN.{length, drop, length-drop}
 use lib.Seq.{sets}
-use Rattle.language.specs.Tree.{Tree, node, forest, count, endOf, width, size, sizes, textOf, rowsOf, rowss, rowList}
+use Rattle.language.specs.Tree.{Tree, node, forest, count, endOf, width, size, sizes, textOf, rowsOf, rowss, rowList, escapesOf}
 use Rattle.exact.specs.Out.{Out, fmap, soft, bad}
 use Rattle.exact.specs.Answers.{map-fmap, fmap-none, fmap-join}
 use Rattle.exact.specs.Class.{is}
 use Rattle.exact.specs.Block.{lead, ind-fits}
 use Rattle.exact.specs.Lines.{reached, raised, soft-reached}
+use Rattle.rooms.specs.Told.{spot}
 use Rattle.rooms.specs.declared.Cursor.{Cursor}
 use Rattle.rooms.specs.declared.Block.the-variants.{Done, Bad}
 use Rattle.rooms.specs.Contract.{Ready, Span, Filled, Blocks}
@@ -36,15 +37,17 @@ within c = record { at = c .at; row = c .row + 1; text = c .text }
 module _ (doc : List ℕ) (c n : Cursor) (p kind e cnt : ℕ) (ts : List Tree) (R R' R'' T T' : List ℕ) (spare : c .at + sizes (forest ts) < n .at)
     (w : Written doc (within c) n (c .row) ts R R' T T') where
   whole-span : Span doc c n (node kind (c .at) e cnt (forest ts))
-  unfolding size textOf
+  unfolding size textOf escapesOf
   whole-span =
       record {
         ahead = omega arith;
         inside = w .inside;
         row = omega (arith, w .row);
         text = w .text;
+        escapes = w .escapes;
         fewRows = omega arith;
         fewText = w .fewText;
+        fewEscapes = w .fewEscapes;
       }
 
   whole-filled : R'' ≡ sets R' (width * c .row) (rowList kind (c .at) e 0 cnt p (n .row)) → Filled c p (node kind (c .at) e cnt (forest ts)) R R'' T T'
@@ -54,7 +57,7 @@ module _ (doc : List ℕ) (c n : Cursor) (p kind e cnt : ℕ) (ts : List Tree) (
       record {
         table =
             rw (h, w .table, i)
-            (row-behind R (width * c .row) (width * (c .row + 1)) (rowList kind (c .at) e 0 cnt p (c .row + 1 + sizes (forest ts))) (rowss (c .row + 1) (c .row) (c .text) (forest ts)) (omega arith));
+            (row-behind R (width * c .row) (width * (c .row + 1)) (rowList kind (c .at) e 0 cnt p (c .row + 1 + sizes (forest ts))) (rowss (c .row + 1) (c .row) (spot (c .text)) (forest ts)) (omega arith));
         room = w .room;
       }
 
@@ -107,7 +110,7 @@ module _ (o : Bool) (k n : ℕ) (doc : List ℕ) (c : Cursor) (R₀ T₀ : List 
         counted = refl;
         opened = λ m e. e;
         written = rw (children-none o) (written-none doc (within c) (within c) (c .row) R₀ T₀ (omega arith) (d .inside) refl refl);
-        ready = record { small = d .small; inside = d .inside; fewRows = omega (arith, d .fewRows); fewText = d .fewText };
+        ready = record { small = d .small; inside = d .inside; fewRows = omega (arith, d .fewRows); fewText = d .fewText; fewEscapes = d .fewEscapes };
         few = omega arith;
       }
 
@@ -152,8 +155,10 @@ module _ (o : Bool) (k n : ℕ) (doc : List ℕ) (c : Cursor) (R₀ T₀ : List 
                 inside = x;
                 row = w .row;
                 text = w .text;
+                escapes = w .escapes;
                 fewRows = omega (arith, w .fewRows);
                 fewText = omega (arith, w .fewText);
+                fewEscapes = omega (arith, w .fewEscapes);
                 table = w .table;
                 room = w .room;
               };
@@ -163,6 +168,7 @@ module _ (o : Bool) (k n : ℕ) (doc : List ℕ) (c : Cursor) (R₀ T₀ : List 
                 inside = x;
                 fewRows = omega (arith, s .row, s .fewRows, l .ready .fewRows);
                 fewText = omega (arith, s .text, s .fewText, l .ready .fewText);
+                fewEscapes = omega (arith, s .escapes, s .fewEscapes, l .ready .fewEscapes);
               };
           few = omega arith;
         }

@@ -14,6 +14,7 @@ use Rattle.exact.specs.Answers.{map-fmap}
 use Rattle.exact.specs.Lang.{retR, byteR}
 use Rattle.exact.specs.Comb.{seqR, mapR, altR}
 use Rattle.exact.specs.Place.{peek, peek-in, peek-cons, byte-is, byte-not, alt-is, alt-not}
+use Rattle.rooms.specs.Told.{spot, tally}
 use Rattle.rooms.specs.declared.Cursor.{Cursor}
 use Rattle.rooms.specs.declared.Ans.{Ans}
 use Rattle.rooms.specs.declared.Ans.the-variants.{Ok, No}
@@ -70,7 +71,7 @@ rest-below v n doc c p (two-spaces _ e f) = rest-two v n doc (c .at) e f
 
 pub ready-at : (doc : List ℕ) (c d : Cursor) (a : ℕ) → Ready doc c → c .at ≤ a → a ≤ length doc → d ≡ record { at = a; row = c .row; text = c .text } → Ready doc d
 ready-at doc c d a r h l e =
-    rw e (record { small = r .small; inside = l; fewRows = omega (arith, r .fewRows); fewText = omega (arith, r .fewText) })
+    rw e (record { small = r .small; inside = l; fewRows = omega (arith, r .fewRows); fewText = omega (arith, r .fewText); fewEscapes = omega (arith, r .fewEscapes) })
 
 -- the answer of a block that begins further on, at d
 pub block-from : (doc : List ℕ) (c d : Cursor) (p a : ℕ) (o o′ : Out Tree) (b : Block) (R R' T T' : List ℕ) → o ≡ o′ → c .at ≤ a → d ≡ record { at = a; row = c .row; text = c .text }
@@ -93,9 +94,11 @@ block-from doc c d p a o o′ (Done n far z) R R' T T' h l e w =
                   ahead = omega (arith, s .ahead);
                   inside = s .inside;
                   row = omega (arith, s .row);
-                  text = omega (arith, s .text);
+                  text = rw v at (s .text);
+                  escapes = rw v at (s .escapes);
                   fewRows = omega (arith, s .fewRows);
                   fewText = omega (arith, s .fewText);
+                  fewEscapes = omega (arith, s .fewEscapes);
                 };
             filled = record { table = rw (y, v) at (k .filled .table); room = rw v at (k .filled .room) };
           };
@@ -198,7 +201,13 @@ module _ (doc : List ℕ) (c : Cursor) (p : ℕ) (a : Ans) (R R' T T' : List ℕ
       property-ready r =
           let s = got .span in
           rw y
-          (record { small = r .small; inside = colon-in; fewRows = omega (arith, r .fewRows, s .row, s .fewRows); fewText = omega (arith, r .fewText, s .text, s .fewText) })
+          (record {
+            small = r .small;
+            inside = colon-in;
+            fewRows = omega (arith, r .fewRows, s .row, s .fewRows);
+            fewText = omega (arith, r .fewText, s .text, s .fewText);
+            fewEscapes = omega (arith, r .fewEscapes, s .escapes, s .fewEscapes);
+          })
 
       module _ (k n : ℕ) (R'' T'' : List ℕ) where
         pub property-is : memberR true k n (c .at) (drop (c .at) doc) ≡ fmap (field (got .tree)) (restR (onR k n) (nestedR k (suc (suc n))) (d .at) (drop (d .at) doc))
@@ -226,9 +235,11 @@ module _ (doc : List ℕ) (c : Cursor) (p : ℕ) (a : Ans) (R R' T T' : List ℕ
               onward = omega (arith, w₁ .onward);
               inside = omega (arith, colon-in);
               row = omega (arith, w₁ .row);
-              text = omega (arith, w₁ .text);
+              text = ap spot j ∙ w₁ .text;
+              escapes = ap tally j ∙ w₁ .escapes;
               fewRows = omega (arith, w₁ .fewRows);
               fewText = omega (arith, w₁ .fewText);
+              fewEscapes = omega (arith, w₁ .fewEscapes);
               table = w₁ .table;
               room = w₁ .room;
             } in

@@ -75,7 +75,7 @@ module _ (doc : List ℕ) (c : Cursor) (p k n : ℕ) (o : Bool) (R R' T T' : Lis
       f = went .0
 
       pub member-ready : Stands doc c → Ready doc m
-      member-ready r = rw f (record { small = r .small; inside = went .1; fewRows = omega (arith, r .fewRows); fewText = omega (arith, r .fewText) })
+      member-ready r = rw f (record { small = r .small; inside = went .1; fewRows = omega (arith, r .fewRows); fewText = omega (arith, r .fewText); fewEscapes = omega (arith, r .fewEscapes) })
 
       pub member-is : memberR false k n (c .at) (drop (c .at) doc) ≡ fmap (entry (c .at)) (itemR k (suc (suc n)) (m .at) (drop (m .at) doc))
       unfolding memberR dashedR
@@ -110,9 +110,11 @@ module _ (doc : List ℕ) (c : Cursor) (p k n : ℕ) (o : Bool) (R R' T T' : Lis
                       onward = omega (arith, g .onward);
                       inside = g .inside;
                       row = omega (arith, g .row);
-                      text = omega (arith, g .text);
+                      text = rw i at (g .text);
+                      escapes = rw i at (g .escapes);
                       fewRows = omega (arith, g .fewRows);
                       fewText = omega (arith, g .fewText);
+                      fewEscapes = omega (arith, g .fewEscapes);
                       table = rw (y, i) at (g .table);
                       room = rw i at (g .room);
                     };
@@ -206,7 +208,7 @@ module _ (k n : ℕ) (doc : List ℕ) (c : Cursor) (p : ℕ) (R R' T T' : List �
     bullet-done R'' s = Blocks.bullet-last k n doc c p R T R' T' R'' m f e (member-read false doc (Within c) (c .row) _ a R R' T T' w m f e z) s
 
 pub bullet-ready : (doc : List ℕ) (c : Cursor) → Ready doc c → Stands doc (Within c)
-bullet-ready doc c r = record { small = r .small; inside = r .inside; fewRows = omega (arith, r .fewRows); fewText = r .fewText }
+bullet-ready doc c r = record { small = r .small; inside = r .inside; fewRows = omega (arith, r .fewRows); fewText = r .fewText; fewEscapes = r .fewEscapes }
 
 -- ---- by a look
 

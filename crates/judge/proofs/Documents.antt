@@ -21,6 +21,7 @@ use Rattle.exact.specs.Comb.{seqR, seq-tame, starR}
 use Rattle.exact.specs.Ll.{byte₁}
 use Rattle.exact.specs.Place.{peek, peek-in, peek-cons, There, byte-there, none-there, there, getD-any, runEnd, run-end, run-over, run-none, run-more}
 use Rattle.exact.specs.Lines.{reached, raised, raised-ok, bind-reached}
+use Rattle.rooms.specs.Told.{spot, tally, spot-low, tally-low}
 use Rattle.rooms.specs.declared.Cursor.{Cursor}
 use Rattle.rooms.specs.declared.Ans.{Ans}
 use Rattle.rooms.specs.declared.Ans.the-variants.{Ok, No}
@@ -49,6 +50,13 @@ use Rattle.judge.specs.Blamed.{Blamed}
 use Rattle.judge.specs.Contract.{feedR, endR as lineEnd, Neither, Looked, later, commentLineR, Finished, Known, Checked, Filled}
 use Rattle.judge.proofs.Lining.{later-block}
 use Rattle.judge.proofs.Containers.{looked-dash, looked-key, looked-line}
+
+-- a document begins with no text and no escapes
+spot-none : spot 0 ≡ 0
+spot-none = spot-low 0 (omega arith)
+
+tally-none : tally 0 ≡ 0
+tally-none = tally-low 0 (omega arith)
 
 -- ---- a comment and its LF
 
@@ -243,7 +251,7 @@ module _ (k : ℕ) (doc : List ℕ) where
 
     pub passed-ready : (at : ℕ) → length doc ≤ limit → r ≡ the-variants.End at → Ready doc (record { at = at; row = 0; text = 0 })
     unfolding Skips
-    passed-ready at l e = let z : Ends doc 0 (headR 0 doc) at = rw e at hd in record { small = l; inside = z .inside; fewRows = omega arith; fewText = omega arith }
+    passed-ready at l e = let z : Ends doc 0 (headR 0 doc) at = rw e at hd in record { small = l; inside = z .inside; fewRows = omega arith; fewText = omega (arith, spot-none); fewEscapes = omega (arith, tally-none) }
 
     module _ (at : ℕ) (e : r ≡ the-variants.End at) (b : Block) (R R' T T' : List ℕ)
         (w : Blocks doc (record { at = at; row = 0; text = 0 }) 0 (rootR k at (drop at doc)) b R R' T T') where
@@ -298,7 +306,7 @@ module _ (k : ℕ) (doc : List ℕ) where
             let s = got-root .span in
             let y : m .row ≡ n .row = ap (λ (c : Cursor). c .row) (x .0) in
             let u : m .text ≡ n .text = ap (λ (c : Cursor). c .text) (x .0) in
-            record { tree = got-root .tree; is = whole-yes (x .1); row = omega (arith, s .row); text = omega (arith, s .text) }
+            record { tree = got-root .tree; is = whole-yes (x .1); row = omega (arith, s .row); text = ap spot u ∙ (s .text ∙ omega (arith, spot-none)); escapes = ap tally u ∙ (s .escapes ∙ omega (arith, tally-none)) }
         passed (No p) x = whole-no (x .1) ∙ ap stop (sym (x .0))
 
         pub passed-filled : (a : Ans) → Finished doc n far a → Filled k doc R R' T T'
@@ -307,7 +315,7 @@ module _ (k : ℕ) (doc : List ℕ) where
             record {
               filled = λ t e.
                   let q : t ≡ got-root .tree = let y = whole-yes (x .1) in cc in
-                  (rw q (got-root .filled .table), rw q (got-root .filled .room));
+                  (rw q (rw spot-none at (got-root .filled .table)), rw q (rw spot-none at (got-root .filled .room)));
             }
         passed-filled (No p) x = stopped R R' T T' _ (whole-no (x .1))
 

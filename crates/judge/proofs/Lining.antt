@@ -8,13 +8,14 @@ use lib.ListN.{length, drop}
 use lib.Seq.{sets}
 use borrow.Author.Needs.{needs}
 use Rattle.language.specs.Kind.{ARRAY, OBJECT, KEY}
-use Rattle.language.specs.Tree.{Tree, after, width, size, textOf, rowList}
+use Rattle.language.specs.Tree.{Tree, after, width, size, textOf, rowList, escapesOf, rowsOf, leaf}
 use Rattle.exact.specs.Class.{is, only}
 use Rattle.exact.specs.Out.{Out, Reader, Firm, bind, ok, bad, f-ok, f-bad}
 use Rattle.exact.specs.Lang.{retR, byteR}
 use Rattle.exact.specs.Comb.{seqR, altR}
 use Rattle.exact.specs.Place.{peek, alt-is, alt-not}
 use Rattle.exact.specs.Lines.{reached, raised, raised-ok, bind-reached}
+use Rattle.rooms.specs.Told.{spot, tally}
 use Rattle.rooms.specs.declared.Cursor.{Cursor}
 use Rattle.rooms.specs.declared.Words.{Words}
 use Rattle.rooms.specs.declared.Ans.{Ans}
@@ -55,8 +56,10 @@ span-on doc c n t a h l s =
       inside = l;
       row = s .row;
       text = s .text;
+      escapes = s .escapes;
       fewRows = omega (arith, s .fewRows);
       fewText = omega (arith, s .fewText);
+      fewEscapes = omega (arith, s .fewEscapes);
     }
 
 -- ---- a value and its line's end
@@ -187,7 +190,7 @@ later-block doc c parent o (Bad q) p R R' T T' h = rw h refl
 -- ---- a key and its row
 
 pub key-ready : (doc : List ℕ) (c : Cursor) → Stands doc c → Ready doc (record { at = c .at; row = 0; text = c .text })
-key-ready doc c r = record { small = r .small; inside = r .inside; fewRows = omega arith; fewText = r .fewText }
+key-ready doc c r = record { small = r .small; inside = r .inside; fewRows = omega arith; fewText = r .fewText; fewEscapes = r .fewEscapes }
 
 module _ (doc : List ℕ) (c : Cursor) (p : ℕ) (a : Ans) (W W' R R' T T' : List ℕ)
     (w : Answers doc (record { at = c .at; row = 0; text = c .text }) p (keyR (c .at) (drop (c .at) doc)) a W W' T T') where
@@ -198,8 +201,8 @@ module _ (doc : List ℕ) (c : Cursor) (p : ℕ) (a : Ans) (W W' R R' T T' : Lis
     key-got : Taken doc (record { at = c .at; row = 0; text = c .text }) p (keyR (c .at) (drop (c .at) doc)) n 0 W W' T T'
     key-got = Laws.taken doc _ p _ W W' T T' a n e w
 
-    pub key-small : Stands doc c → Small (c .at) (n .at) (c .text) (n .text) (c .row + 1)
-    key-small r =
+    pub key-small : (x y : ℕ) → x ≡ spot (c .text) → y ≡ spot (n .text) → Stands doc c → Small (c .at) (n .at) x y (c .row + 1)
+    key-small x y h k r =
         let s = key-got .span in
         record {
           first-fits = omega (arith, r .small, r .inside);
@@ -209,24 +212,40 @@ module _ (doc : List ℕ) (c : Cursor) (p : ℕ) (a : Ans) (W W' R R' T T' : Lis
           next-fits = omega (arith, r .small, r .inside, r .fewRows);
         }
 
-    pub key-placed : (x : Words) → x ≡ record { kind = KEY; first = c .at; after = n .at; from = c .text; to = n .text; parent = p; next = c .row + 1 }
+    pub key-placed : (y z : ℕ) (x : Words) → y ≡ spot (c .text) → z ≡ spot (n .text) → x ≡ record { kind = KEY; first = c .at; after = n .at; from = y; to = z; parent = p; next = c .row + 1 }
         → R' ≡ sets R (width * c .row) (rowList (x .kind) (x .first) (x .after) (x .from) (x .to) (x .parent) (x .next))
         → Answers doc c p (keyR (c .at) (drop (c .at) doc)) (Ok (record { at = n .at; row = c .row + 1; text = n .text })) R R' T T'
-    unfolding size textOf
-    key-placed x g s =
+    unfolding size textOf escapesOf rowsOf
+    key-placed y z x h k g s =
         let u = key-leaf (c .at) (drop (c .at) doc) (key-got .tree) (n .at) (drop (n .at) doc) (key-got .is) in
         let v = key-got .span in
-        let t : textOf (key-got .tree) ≡ u .0 = ap textOf (u .1) in
-        let y : n .text ≡ c .text + length (u .0) = v .text ∙ ap (λ (l : List ℕ). c .text + length l) t in
-        let z : c .at + length (u .0) ≤ n .at = rw t at (v .fewText) in
-        rw y
-        (Laws.took doc c p _ R R' T T' _
-        (Laws.leaf-text doc c p (keyR (c .at) (drop (c .at) doc)) KEY (n .at) 0 (v .ahead) (v .inside) R R' T T' (u .0)
-        (key-got .is ∙ ap (λ (l : Tree). ok l (n .at) (drop (n .at) doc)) (u .1))
-        (omega arith)
-        z
-        (s ∙ (ap (λ (m : Words). sets R (width * c .row) (rowList (m .kind) (m .first) (m .after) (m .from) (m .to) (m .parent) (m .next))) g ∙ (ap (λ (j : ℕ). sets R (width * c .row) (rowList KEY (c .at) (n .at) (c .text) j p (c .row + 1))) y)))
-        (key-got .filled .room ∙ ap (sets T (c .text)) t)))
+        let i : textOf (key-got .tree) ≡ u .0 .bytes = ap textOf (u .1) in
+        let j : escapesOf (key-got .tree) ≡ u .0 .escapes = ap escapesOf (u .1) in
+        let e : spot (n .text) ≡ spot (c .text) + length (u .0 .bytes) = v .text ∙ ap (λ (l : List ℕ). spot (c .text) + length l) i in
+        Laws.took doc c p _ R R' T T' _
+        (record {
+          tree = leaf KEY (c .at) (n .at) (u .0);
+          is = key-got .is ∙ ap (λ (l : Tree). ok l (n .at) (drop (n .at) doc)) (u .1);
+          span =
+              record {
+                ahead = v .ahead;
+                inside = v .inside;
+                row = refl;
+                text = e;
+                escapes = v .escapes ∙ ap (λ (m : ℕ). tally (c .text) + m) j;
+                fewRows = omega (arith, v .ahead);
+                fewText = rw i at (v .fewText);
+                fewEscapes = rw j at (v .fewEscapes);
+              };
+          filled =
+              record {
+                table =
+                    s
+                    ∙ (ap (λ (m : Words). sets R (width * c .row) (rowList (m .kind) (m .first) (m .after) (m .from) (m .to) (m .parent) (m .next))) g
+                    ∙ rw (h, k ∙ e) refl);
+                room = key-got .filled .room ∙ ap (sets T (spot (c .text))) i;
+              };
+        })
 
 -- ---- the row of a block
 

@@ -111,8 +111,8 @@ module _ (doc : List ℕ) (c : Cursor) (p : ℕ) (a : Ans) (R R' T T' : List ℕ
         let i : d .row ≡ m .row = ap (λ (i : Cursor). i .row) y in
         let j : size (got .tree) ≡ 1 = ap size (u .1) in
         let r : d .row ≡ c .row + sizes (forest (got .tree ∷ [])) = omega (arith, got .span .row) in
-        let key : KeyAt doc (c .at) (u .0) (m .at) =
-        record { is = got .is ∙ ap (λ (v : Tree). ok v (m .at) (drop (m .at) doc)) (u .1); ahead = got .span .ahead; inside = got .span .inside } in
+        let key : KeyAt doc (c .at) (u .0 .bytes) (m .at) =
+        record { escapes = u .0 .escapes; is = got .is ∙ ap (λ (v : Tree). ok v (m .at) (drop (m .at) doc)) (u .1); ahead = got .span .ahead; inside = got .span .inside } in
         let first : Kept doc (c .at) (flats (c .row) p (forest (got .tree ∷ []))) (d .at) S S₁ =
         rw (u .1) (kept-key (c .row) p (u .0) key (omega arith) l) in
         let z₁ : d .at ≤ d .at = omega arith in

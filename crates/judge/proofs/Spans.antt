@@ -4,7 +4,7 @@ use mathlib.Core.List.{List}
 use mathlib.Core.Bool.{Bool, false}
 use Prim.Native.Nat.{ℕ, zero, suc}
 use Rattle.language.specs.Kind.{KEY}
-use Rattle.language.specs.Tree.{Tree, leaf, first, after}
+use Rattle.language.specs.Tree.{Tree, leaf, first, after, Decoded}
 use Rattle.exact.specs.Class.{is, only}
 use Rattle.exact.specs.Out.{Reader, ok}
 use Rattle.exact.specs.Lang.{byteR}
@@ -25,7 +25,7 @@ Ends v a = after v ≡ a
 leaf-ends : (at a : ℕ) (f : Found) → after (leafOf at a f) ≡ a
 leaf-ends at a (found k s) = refl
 
-spanned-ends : (kind : ℕ) (r : Reader (List ℕ)) (at : ℕ) (s : List ℕ) → Every Ends (spannedR kind r at s)
+spanned-ends : (kind : ℕ) (r : Reader Decoded) (at : ℕ) (s : List ℕ) → Every Ends (spannedR kind r at s)
 unfolding spannedR
 spanned-ends kind r at s = every-bind (r at s) _ (λ v a t. every-ok refl)
 
@@ -53,9 +53,9 @@ value-ends spaced k at s far v a t e = every-reached (value-every spaced k at s)
 
 -- A KEY is a leaf that begins where its reader starts
 abbrev IsKey : ℕ → Tree → ℕ → Type 0
-IsKey at v a = (s : List ℕ) × (v ≡ leaf KEY at a s)
+IsKey at v a = (s : Decoded) × (v ≡ leaf KEY at a s)
 
-pub key-leaf : (at : ℕ) (s : List ℕ) (v : Tree) (a : ℕ) (t : List ℕ) → keyR at s ≡ ok v a t → (s : List ℕ) × (v ≡ leaf KEY at a s)
+pub key-leaf : (at : ℕ) (s : List ℕ) (v : Tree) (a : ℕ) (t : List ℕ) → keyR at s ≡ ok v a t → (s : Decoded) × (v ≡ leaf KEY at a s)
 unfolding keyR spannedR
 key-leaf at s v a t e = every-reached {P = IsKey at} (every-bind (nameR at s) _ (λ v a t. every-ok (v, refl))) 0 v a t e
 

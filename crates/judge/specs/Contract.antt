@@ -5,7 +5,7 @@ use mathlib.Core.Bool.{Bool, true, false}
 use Prim.Native.Nat.{ℕ, _+_, _≤_, _<_, max}
 use lib.ListN.{length, drop}
 use lib.Seq.{sets}
-use Rattle.language.specs.Tree.{Tree, forest, endOf, size, sizes, textOf, rowsOf}
+use Rattle.language.specs.Tree.{Tree, forest, endOf, size, sizes, textOf, rowsOf, escapesOf}
 use Rattle.language.specs.Answered.{limit}
 use Rattle.exact.specs.Class.{is, only}
 use Rattle.exact.specs.Verdict.{acc, stop}
@@ -15,6 +15,7 @@ use Rattle.exact.specs.Comb.{seqR}
 use Rattle.exact.specs.Place.{peek, runEnd}
 use Rattle.exact.specs.Block.{ind, lead}
 use Rattle.exact.specs.Lines.{reached}
+use Rattle.rooms.specs.Told.{spot, tally}
 use Rattle.rooms.specs.declared.Cursor.{Cursor}
 use Rattle.rooms.specs.declared.Ans.{Ans}
 use Rattle.rooms.specs.declared.Ans.the-variants.{Ok, No}
@@ -40,7 +41,8 @@ pub record Stands (doc : List ℕ) (c : Cursor) : Type 0 where
   pub small : length doc ≤ limit
   pub inside : c .at ≤ length doc
   pub fewRows : c .row ≤ c .at + 1
-  pub fewText : c .text ≤ c .at
+  pub fewText : spot (c .text) ≤ c .at
+  pub fewEscapes : tally (c .text) ≤ c .at
 
 -- THE END OF A LINE: LF at the root, elsewhere an optional line comment and LF
 unfoldable pub feedR : Reader ℕ
@@ -127,7 +129,8 @@ pub record Known (k : ℕ) (doc : List ℕ) (n : Cursor) : Type 0 where
   pub tree : Tree
   pub is : verdict k doc ≡ acc tree
   pub row : n .row ≡ size tree
-  pub text : n .text ≡ length (textOf tree)
+  pub text : spot (n .text) ≡ length (textOf tree)
+  pub escapes : tally (n .text) ≡ escapesOf tree
 
 unfoldable pub Checked : ℕ → List ℕ → Ans → Type 0
 Checked k doc (Ok n) = Known k doc n

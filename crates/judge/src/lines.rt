@@ -150,7 +150,7 @@ pub fn key_row(doc: &[u8], rows: &mut [u32], text: &mut [u8], c: Cursor, parent:
     match key(&*doc, &mut words, text, from, parent) {
         Ans::No(p) => Ans::No(p),
         Ans::Ok(n) => {
-            let w = row_of(Kind::KEY, c.at, n.at, c.text, n.text, parent, row + 1);
+            let w = row_of(Kind::KEY, c.at, n.at, c.spot(), n.spot(), parent, row + 1);
             put_row(rows, row, w);
             Ans::Ok(Cursor {
                 at: n.at,

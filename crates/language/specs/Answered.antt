@@ -5,7 +5,7 @@ use lib.ListN.{length, take, drop}
 use Rattle.notation.specs.Lang.{Begins}
 use Rattle.language.specs.declared.Answer.{Answer}
 use Rattle.language.specs.declared.Answer.the-variants.{Accepted, Long, Char, Syntax, Deep, End, Repeat, Rows, Text}
-use Rattle.language.specs.Tree.{Tree, width, size, textOf, rowsOf, Repeats}
+use Rattle.language.specs.Tree.{Tree, width, size, textOf, escapesOf, rowsOf, Repeats}
 use Rattle.language.specs.Characters.{Allowed}
 use Rattle.language.specs.Document.{Document}
 
@@ -44,7 +44,7 @@ TEXT = 8
 -- "Where an answer is an enum, a definition gives this paper's number and values for each of its cases, and the promises use that definition" (01, Expected forms by place).
 -- The number is 0 for an acceptance; the values are the counts, or the place, the rows needed or the bytes needed, and 0
 abbrev pub number : Answer → ℕ
-number (Accepted rows bytes) = 0
+number (Accepted rows bytes escapes) = 0
 number Long = LONG
 number (Char p) = CHAR
 number (Syntax p) = SYNTAX
@@ -55,7 +55,7 @@ number (Rows rows) = ROWS
 number (Text bytes) = TEXT
 
 abbrev pub value : Answer → ℕ
-value (Accepted rows bytes) = rows .0
+value (Accepted rows bytes escapes) = rows .0
 value Long = 0
 value (Char p) = p .0
 value (Syntax p) = p .0
@@ -66,7 +66,7 @@ value (Rows rows) = rows .0
 value (Text bytes) = bytes
 
 abbrev pub second : Answer → ℕ
-second (Accepted rows bytes) = bytes
+second (Accepted rows bytes escapes) = bytes
 second Long = 0
 second (Char p) = 0
 second (Syntax p) = 0
@@ -75,6 +75,18 @@ second (End p) = 0
 second (Repeat p) = 0
 second (Rows rows) = 0
 second (Text bytes) = 0
+
+-- "Acceptance answers with the document's total" (02, Ticket 2); every refusal has none
+abbrev pub third : Answer → ℕ
+third (Accepted rows bytes escapes) = escapes
+third Long = 0
+third (Char p) = 0
+third (Syntax p) = 0
+third (Deep p) = 0
+third (End p) = 0
+third (Repeat p) = 0
+third (Rows rows) = 0
+third (Text bytes) = 0
 
 -- some document begins so, with at most 32 containers one inside another
 abbrev pub Viable : List ℕ → Type 0
@@ -98,7 +110,7 @@ pub record Reads (doc : List ℕ) (t : Tree) : Type 0 where
   pub word : Document deepest doc t
   pub once : (p : ℕ) → Repeats p t → ⊥
 
--- THE PROMISE: the document, table and text room as they were lent; the answer's number and two values; table and text room afterwards.
+-- THE PROMISE: the document, table and text room as they were lent; the answer's number and first two values; table and text room afterwards.
 -- "All refusals leave table and text room unchanged."
 pub data Answered (doc table text : List ℕ) : ℕ → ℕ → ℕ → List ℕ → List ℕ → Type 0 where
   -- the rows and the text of the tree; "words and bytes past the counts keep what they held"
@@ -122,3 +134,8 @@ pub data Answered (doc table text : List ℕ) : ℕ → ℕ → ℕ → List ℕ
   -- "text needed exceeds the bytes lent"
   bytes : (t : Tree) → Reads doc t → width * size t ≤ length table → length text < length (textOf t)
       → Answered doc table text TEXT (length (textOf t)) 0 table text
+
+-- THE PROMISE OF THE THIRD VALUE, by the number beside it: "Acceptance answers with the document's total" (02, Ticket 2); every refusal, ROWS and TEXT too, has none
+pub data Totals (doc : List ℕ) : ℕ → ℕ → Type 0 where
+  total : (t : Tree) → Reads doc t → Totals doc 0 (escapesOf t)
+  untold : (n : ℕ) → 0 < n → Totals doc n 0

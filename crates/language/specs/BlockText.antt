@@ -5,7 +5,7 @@ use lib.ListN.{length}
 use Rattle.notation.specs.Class.{is, only}
 use Rattle.notation.specs.Lang.{Lang, Ret, Here, Byte, Seq, _>>=_, _>>_, Map, Alt, Star, Plus, Word, Indented, cat}
 use Rattle.language.specs.Kind.{STRING, BYTES}
-use Rattle.language.specs.Tree.{Tree, leaf}
+use Rattle.language.specs.Tree.{Decoded, unescaped, _then_, Tree, leaf}
 use Rattle.language.specs.Characters.{Char, dark, Space, Feed, Piece, Comment, Option, LineComment}
 use Rattle.language.specs.Strings.{Pairs}
 
@@ -78,7 +78,7 @@ OpenString c = do
   t ← Option (do Space; ps ← Plus Piece; Ret (cat ps))
   e ← Here
   Feed
-  Map (λ ls. leaf STRING a (bodyEnd e ls) (t ++ 10 ∷ bodyText ls)) (Star (BodyLine c))
+  Map (λ ls. leaf STRING a (bodyEnd e ls) (unescaped (t ++ 10 ∷ bodyText ls))) (Star (BodyLine c))
 
 -- "Property at n: grave, LF."
 abbrev pub PropertyString : ℕ → Lang Tree
@@ -87,19 +87,19 @@ PropertyString n = do
   Byte (is (only 96))
   e ← Here
   Feed
-  Map (λ ls. leaf STRING a (bodyEnd e ls) (bodyText ls)) (Star (BodyLine n))
+  Map (λ ls. leaf STRING a (bodyEnd e ls) (unescaped (bodyText ls))) (Star (BodyLine n))
 
--- bytes that stand on one line, and the place after that line's content
+-- a text that stands on one line, and the place after that line's content
 pub data Part : Type 0 where
-  part : List ℕ → ℕ → Part
+  part : Decoded → ℕ → Part
 
-abbrev pub partBytes : List Part → List ℕ
-partBytes [] = []
-partBytes (part bs e ∷ ps) = bs ++ partBytes ps
+abbrev pub partText : List Part → Decoded
+partText [] = unescaped []
+partText (part s e ∷ ps) = s then partText ps
 
 abbrev pub partEnd : ℕ → List Part → ℕ
 partEnd e [] = e
-partEnd e (part bs f ∷ ps) = partEnd f ps
+partEnd e (part s f ∷ ps) = partEnd f ps
 
 -- "pairs with optional line comment, or a comment"
 abbrev pub HexRest : Lang Part
@@ -107,7 +107,7 @@ HexRest = do
   bs ← Alt (do ps ← Pairs; Option LineComment; Ret ps) (do Comment; Ret [])
   e ← Here
   Feed
-  Ret (part bs e)
+  Ret (part (unescaped bs) e)
 
 abbrev pub HexLine : ℕ → Lang Part
 HexLine c = Deeper c (λ _. HexRest)
@@ -118,7 +118,7 @@ OpenBytes c = do
   a ← Here
   Word (62 ∷ 32 ∷ [])
   h ← HexRest
-  Map (λ hs. leaf BYTES a (partEnd 0 (h ∷ hs)) (partBytes (h ∷ hs))) (Star (HexLine c))
+  Map (λ hs. leaf BYTES a (partEnd 0 (h ∷ hs)) (partText (h ∷ hs))) (Star (HexLine c))
 
 -- "Property at n: `>`, optional space and comment, LF, at least one hex line."
 abbrev pub PropertyBytes : ℕ → Lang Tree
@@ -127,4 +127,4 @@ PropertyBytes n = do
   Byte (is (only 62))
   Option (Space >> Comment)
   Feed
-  Map (λ hs. leaf BYTES a (partEnd 0 hs) (partBytes hs)) (Plus (HexLine n))
+  Map (λ hs. leaf BYTES a (partEnd 0 hs) (partText hs)) (Plus (HexLine n))

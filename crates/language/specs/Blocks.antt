@@ -8,7 +8,7 @@ use Rattle.language.specs.Tree.{Tree, leaf, Field, field, Entry, entry, 
 use Rattle.language.specs.Characters.{Space, Feed, Option, LineComment}
 use Rattle.language.specs.Strings.{Quoted, Key}
 use Rattle.language.specs.Inline.{LineValue}
-use Rattle.language.specs.BlockText.{Part, part, partBytes, partEnd, OpenString, PropertyString, OpenBytes, PropertyBytes}
+use Rattle.language.specs.BlockText.{Part, part, partText, partEnd, OpenString, PropertyString, OpenBytes, PropertyBytes}
 
 -- one or more As, the first of them here and the further ones each on n spaces
 abbrev pub Lines : {X : Type 0} → ℕ → Lang X → Lang (List X)
@@ -62,7 +62,7 @@ abbrev pub Joined : ℕ → Lang Tree
 Joined m = do
   a ← Here
   p ← JoinedLine
-  Map (λ ps. leaf STRING a (partEnd 0 ps) (partBytes (p ∷ ps))) (Plus (Indented m JoinedLine))
+  Map (λ ps. leaf STRING a (partEnd 0 ps) (partText (p ∷ ps))) (Plus (Indented m JoinedLine))
 
 -- "open block string or bytes at c"
 abbrev pub Open : ℕ → Lang Tree

@@ -6,7 +6,7 @@ use lib.Dec.{eqb}
 use Rattle.notation.specs.Class.{pick, _to_, Class, is, only}
 use Rattle.notation.specs.Lang.{Lang, Ret, Here, Byte, Seq, _>>=_, _>>_, Map, Alt, Star, Word}
 use Rattle.language.specs.Kind.{NULL, FALSE, TRUE, INTEGER, FLOAT}
-use Rattle.language.specs.Tree.{Tree, leaf}
+use Rattle.language.specs.Tree.{unescaped, Tree, leaf}
 use Rattle.language.specs.Characters.{Space, Option}
 
 -- "Keywords: `null`, `true`, `false`, `nan`, `infinity`, `-infinity`. The last three are floats, kind 5."
@@ -31,7 +31,7 @@ Keyword kind word text = do
   a ← Here
   Word word
   e ← Here
-  Ret (leaf kind a e text)
+  Ret (leaf kind a e (unescaped text))
 
 abbrev pub Keywords : Lang Tree
 Keywords =
@@ -78,7 +78,7 @@ Integer spaced = do
   m ← Option (One (only 45))
   ds ← Digits spaced
   e ← Here
-  Ret (leaf INTEGER a e (signed m ds))
+  Ret (leaf INTEGER a e (unescaped (signed m ds)))
 
 -- "`d.`, `d.d`, `.d`"
 abbrev pub Pointed : Bool → Lang (List ℕ)
@@ -102,7 +102,7 @@ Float spaced = do
   m ← Option (One (only 45))
   w ← Alt (do p ← Pointed spaced; x ← Option (Exponent spaced); Ret (p ++ x)) (do ds ← Digits spaced; x ← Exponent spaced; Ret (ds ++ x))
   e ← Here
-  Ret (leaf FLOAT a e (m ++ w))
+  Ret (leaf FLOAT a e (unescaped (m ++ w)))
 
 -- a keyword or a number
 abbrev pub Plain : Bool → Lang Tree

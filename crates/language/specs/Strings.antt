@@ -5,9 +5,9 @@ use Prim.Native.Nat.{ℕ, _+_, _-_, _*_}
 use lib.ListN.{length}
 use lib.Dec.{leb}
 use Rattle.notation.specs.Class.{pick, and, _to_, Class, is, only}
-use Rattle.notation.specs.Lang.{Lang, Ret, Here, Byte, Seq, _>>=_, _>>_, Alt, Star, Plus, Such, Word, cat}
+use Rattle.notation.specs.Lang.{Lang, Ret, Here, Byte, Seq, _>>=_, _>>_, Map, Alt, Star, Plus, Such, Word}
 use Rattle.language.specs.Kind.{STRING, BYTES, KEY}
-use Rattle.language.specs.Tree.{Tree, leaf}
+use Rattle.language.specs.Tree.{Decoded, unescaped, escaped, together, Tree, leaf}
 use Rattle.language.specs.Characters.{utf8, Char, Space, Option}
 
 -- "1 to 6 hex digits of either case naming a scalar value (not D800..DFFF, at most 10FFFF)"
@@ -34,37 +34,37 @@ lettered = (34 to 34) ∷ (92 to 92) ∷ (47 to 47) ∷ (98 to 98) ∷ (102 to 1
 abbrev pub standsFor : ℕ → ℕ
 standsFor b = pick (is (only 98) b) 8 (pick (is (only 102) b) 12 (pick (is (only 110) b) 10 (pick (is (only 114) b) 13 (pick (is (only 116) b) 9 b))))
 
-abbrev pub Escape : Lang (List ℕ)
+abbrev pub Escape : Lang Decoded
 Escape = do
   Byte (is (only 92))
-  Alt (do b ← Byte (is lettered); Ret (standsFor b ∷ [])) (do Word (117 ∷ 123 ∷ []); ds ← Code; Byte (is (only 125)); Ret (utf8 (hexNumber 0 ds)))
+  Alt (do b ← Byte (is lettered); Ret (escaped (standsFor b ∷ []))) (do Word (117 ∷ 123 ∷ []); ds ← Code; Byte (is (only 125)); Ret (escaped (utf8 (hexNumber 0 ds))))
 
--- "Single-quoted: .. escapes `\'` and `\\`" (01); "a backslash before any other allowed character but LF stays as itself, that character too" (02, Ticket 3)
-abbrev pub SingleEscape : Lang (List ℕ)
+-- "Single-quoted: .. escapes `\'` and `\\`" (01); "a backslash before any other allowed character but LF stays as itself, that character too, and is not counted as an escape" (02, Ticket 3)
+abbrev pub SingleEscape : Lang Decoded
 SingleEscape = do
   Byte (is (only 92))
-  Alt (do b ← Byte (is ((39 to 39) ∷ (92 to 92) ∷ [])); Ret (b ∷ [])) (do c ← Char ((32 to 38) ∷ (40 to 91) ∷ (93 to 126) ∷ []); Ret (92 ∷ c))
+  Alt (do b ← Byte (is ((39 to 39) ∷ (92 to 92) ∷ [])); Ret (escaped (b ∷ []))) (do c ← Char ((32 to 38) ∷ (40 to 91) ∷ (93 to 126) ∷ []); Ret (unescaped (92 ∷ c)))
 
 -- a quote, escapes and characters, the same quote
-abbrev pub Between : ℕ → Lang (List ℕ) → Class → Lang (List ℕ)
+abbrev pub Between : ℕ → Lang Decoded → Class → Lang Decoded
 Between quote E others = do
   Byte (is (only quote))
-  ps ← Star (Alt E (Char others))
+  ps ← Star (Alt E (Map unescaped (Char others)))
   Byte (is (only quote))
-  Ret (cat ps)
+  Ret (together ps)
 
 -- "characters except LF, `"` and `\`"; "characters except LF, `'` and `\`"
-abbrev pub Double : Lang (List ℕ)
+abbrev pub Double : Lang Decoded
 Double = Between 34 Escape ((32 to 33) ∷ (35 to 91) ∷ (93 to 126) ∷ [])
 
-abbrev pub Single : Lang (List ℕ)
+abbrev pub Single : Lang Decoded
 Single = Between 39 SingleEscape ((32 to 38) ∷ (40 to 91) ∷ (93 to 126) ∷ [])
 
-abbrev pub Quoted : Lang (List ℕ)
+abbrev pub Quoted : Lang Decoded
 Quoted = Alt Double Single
 
 -- a text with its span
-abbrev pub Spanned : ℕ → Lang (List ℕ) → Lang Tree
+abbrev pub Spanned : ℕ → Lang Decoded → Lang Tree
 Spanned kind A = do
   a ← Here
   s ← A
@@ -79,7 +79,7 @@ abbrev pub keybyte : Class
 keybyte = (97 to 122) ∷ (65 to 90) ∷ (48 to 57) ∷ (95 to 95) ∷ (45 to 45) ∷ []
 
 abbrev pub Key : Lang Tree
-Key = Spanned KEY (Alt (Plus (Byte (is keybyte))) Quoted)
+Key = Spanned KEY (Alt (Map unescaped (Plus (Byte (is keybyte)))) Quoted)
 
 -- "Inline bytes: `<`, lowercase hex pairs with at most one space between pairs, `>`; `<>` is empty."
 abbrev pub lowhex : Class
@@ -98,4 +98,4 @@ Pairs = do
   Ret (p ∷ ps)
 
 abbrev pub InlineBytes : Lang Tree
-InlineBytes = Spanned BYTES (do Byte (is (only 60)); bs ← Option Pairs; Byte (is (only 62)); Ret bs)
+InlineBytes = Spanned BYTES (do Byte (is (only 60)); bs ← Option Pairs; Byte (is (only 62)); Ret (unescaped bs))

@@ -6,11 +6,32 @@ use lib.Dec.{leb}
 use Rattle.notation.specs.Class.{pick}
 use Rattle.language.specs.Kind.{TRUE, ARRAY, OBJECT, KEY}
 
+-- A DECODED TEXT: its bytes, and "the count of its escapes, one per backslash form" (02, Ticket 2)
+pub record Decoded : Type 0 where
+  pub bytes : List ℕ
+  pub escapes : ℕ
+
+-- without escapes; what one escape stands for
+abbrev pub unescaped : List ℕ → Decoded
+unescaped s = record { bytes = s; escapes = 0 }
+
+abbrev pub escaped : List ℕ → Decoded
+escaped s = record { bytes = s; escapes = 1 }
+
+-- "hands the sum upward": texts one behind another
+infixr 5 _then_
+abbrev pub _then_ : Decoded → Decoded → Decoded
+s then u = record { bytes = s .bytes ++ u .bytes; escapes = s .escapes + u .escapes }
+
+abbrev pub together : List Decoded → Decoded
+together [] = unescaped []
+together (s ∷ ss) = s then together ss
+
 -- A scalar or a key: its kind, the first byte of its span, the byte after it, its text. A container: its kind, its span, its count, its children.
 -- "A key's row stands just before its value's row, with the object as parent of both": so an object's children are key, value, key, value.
 mutual
   pub data Tree : Type 0 where
-    leaf : ℕ → ℕ → ℕ → List ℕ → Tree
+    leaf : ℕ → ℕ → ℕ → Decoded → Tree
     node : ℕ → ℕ → ℕ → ℕ → Forest → Tree
 
   pub data Forest : Type 0 where
@@ -88,12 +109,22 @@ unfoldable mutual
 -- "Other texts follow one another in row order from 0 without gaps"
 unfoldable mutual
   pub textOf : Tree → List ℕ
-  textOf (leaf k a e s) = s
+  textOf (leaf k a e s) = s .bytes
   textOf (node k a e c ts) = textsOf ts
 
   pub textsOf : Forest → List ℕ
   textsOf none = []
   textsOf (more t ts) = textOf t ++ textsOf ts
+
+-- "the document's total": the escapes of all its keys and values (02, Ticket 2)
+unfoldable mutual
+  pub escapesOf : Tree → ℕ
+  escapesOf (leaf k a e s) = s .escapes
+  escapesOf (node k a e c ts) = escapesIn ts
+
+  pub escapesIn : Forest → ℕ
+  escapesIn none = 0
+  escapesIn (more t ts) = escapesOf t + escapesIn ts
 
 -- "For kinds 1 to 3 both text words are 0"
 abbrev pub leafRow : ℕ → ℕ → ℕ → ℕ → ℕ → ℕ → List ℕ → List ℕ
@@ -102,16 +133,16 @@ leafRow r p x k a e s = pick (leb k TRUE) (rowList k a e 0 0 p (r + 1)) (rowList
 -- the rows of a tree from the row r, with the parent p, and the text from x on; "For 8 and 9 text start is 0 and text end is the number of elements or pairs"
 unfoldable mutual
   pub rowsOf : ℕ → ℕ → ℕ → Tree → List ℕ
-  rowsOf r p x (leaf k a e s) = leafRow r p x k a e s
+  rowsOf r p x (leaf k a e s) = leafRow r p x k a e (s .bytes)
   rowsOf r p x (node k a e c ts) = rowList k a e 0 c p (r + 1 + sizes ts) ++ rowss (r + 1) r x ts
 
   pub rowss : ℕ → ℕ → ℕ → Forest → List ℕ
   rowss r p x none = []
   rowss r p x (more t ts) = rowsOf r p x t ++ rowss (r + size t) p (x + length (textOf t)) ts
 
--- EQUAL KEYS. A key of this text, which starts at a, stands among these children
+-- EQUAL KEYS. A key of this text, which starts at a, stands among these children; how it is escaped is not asked
 pub data Has (s : List ℕ) (a : ℕ) : Forest → Type 0 where
-  has-here : {e : ℕ} {ts : Forest} → Has s a (more (leaf KEY a e s) ts)
+  has-here : {e n : ℕ} {ts : Forest} → Has s a (more (leaf KEY a e (record { bytes = s; escapes = n })) ts)
   has-later : {t : Tree} {ts : Forest} → Has s a ts → Has s a (more t ts)
 
 -- "two equal decoded keys in one object" (01, Numbers of refusal, REPEAT): the key that starts at p equals an earlier one of its object
@@ -120,6 +151,6 @@ mutual
     inside : {k a e c : ℕ} {ts : Forest} → Repeated p ts → Repeats p (node k a e c ts)
 
   pub data Repeated (p : ℕ) : Forest → Type 0 where
-    again : {a e : ℕ} {s : List ℕ} {ts : Forest} → Has s p ts → Repeated p (more (leaf KEY a e s) ts)
+    again : {a e n : ℕ} {s : List ℕ} {ts : Forest} → Has s p ts → Repeated p (more (leaf KEY a e (record { bytes = s; escapes = n })) ts)
     below : {t : Tree} {ts : Forest} → Repeats p t → Repeated p (more t ts)
     beside : {t : Tree} {ts : Forest} → Repeated p ts → Repeated p (more t ts)

@@ -60,9 +60,9 @@ impl Kind {
     }
 }
 
-// What `read` answers: the rows read and the count of text bytes; or a refusal, with its place, the rows needed or the count of text bytes needed.
+// What `read` answers: the rows read, the count of text bytes and that of escapes; or a refusal, with its place, the rows needed or the count of text bytes needed.
 pub enum Answer {
-    Accepted(Row, usize),
+    Accepted(Row, usize, usize),
     Long,
     Char(Place),
     Syntax(Place),
@@ -73,13 +73,13 @@ pub enum Answer {
     Text(usize),
 }
 
-// The number of an answer and its two values, as document 01 counts them.
+// The number of an answer and its three values, as documents 01 and 02 count them.
 impl Answer {
     pub fn number(self) -> u32
         ensures { λ n. ⌜ n ≡ answered.number self ⌝ }
     {
         match self {
-            Answer::Accepted(_, _) => 0,
+            Answer::Accepted(_, _, _) => 0,
             Answer::Long => 1,
             Answer::Char(_) => 2,
             Answer::Syntax(_) => 3,
@@ -95,7 +95,7 @@ impl Answer {
         ensures { λ v. ⌜ v ≡ answered.value self ⌝ }
     {
         match self {
-            Answer::Accepted(rows, _) => rows.0,
+            Answer::Accepted(rows, _, _) => rows.0,
             Answer::Long => 0,
             Answer::Char(p) => p.0,
             Answer::Syntax(p) => p.0,
@@ -111,7 +111,23 @@ impl Answer {
         ensures { λ v. ⌜ v ≡ answered.second self ⌝ }
     {
         match self {
-            Answer::Accepted(_, bytes) => bytes,
+            Answer::Accepted(_, bytes, _) => bytes,
+            Answer::Long => 0,
+            Answer::Char(_) => 0,
+            Answer::Syntax(_) => 0,
+            Answer::Deep(_) => 0,
+            Answer::End(_) => 0,
+            Answer::Repeat(_) => 0,
+            Answer::Rows(_) => 0,
+            Answer::Text(_) => 0,
+        }
+    }
+
+    pub fn third(self) -> usize
+        ensures { λ v. ⌜ v ≡ answered.third self ⌝ }
+    {
+        match self {
+            Answer::Accepted(_, _, escapes) => escapes,
             Answer::Long => 0,
             Answer::Char(_) => 0,
             Answer::Syntax(_) => 0,

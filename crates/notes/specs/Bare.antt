@@ -6,7 +6,7 @@ use Prim.Native.Nat.{ℕ, _≤_, _<_}
 use native.Mathlib.Omega.{arith}
 use lib.ListN.{drop}
 use Rattle.language.specs.Kind.{KEY}
-use Rattle.language.specs.Tree.{Tree, leaf, forest}
+use Rattle.language.specs.Tree.{Decoded, Tree, leaf, forest}
 use Rattle.exact.specs.Class.{pick}
 use Rattle.exact.specs.Out.{Out, Reader, bind, ok, soft, bad, Tamed, t-ok, Moves, forward, rest-of, Firm}
 use Rattle.exact.specs.Comb.{altR}
@@ -59,7 +59,7 @@ module _ {X : Type 0} {P : X → ℕ → Type 0} where
 pub record Bare (t : Tree) : Type 0 where
   pub none : (r p : ℕ) → flat r p t ≡ []
 
-pub spanned-bare : (kind : ℕ) (r : Reader (List ℕ)) (at : ℕ) (s : List ℕ) → ((a e : ℕ) (w : List ℕ) → Bare (leaf kind a e w)) → Always Bare (spannedR kind r at s)
+pub spanned-bare : (kind : ℕ) (r : Reader Decoded) (at : ℕ) (s : List ℕ) → ((a e : ℕ) (w : Decoded) → Bare (leaf kind a e w)) → Always Bare (spannedR kind r at s)
 unfolding spannedR
 spanned-bare kind r at s h = every-bind (r at s) _ (λ w e t. every-ok (h at e w))
 
@@ -72,7 +72,7 @@ module _ {doc : List ℕ} {at row parent : ℕ} {o : Out Tree} {S : List ℕ} wh
 -- ---- the reader of a key
 
 pub data KeyIs (doc : List ℕ) (at : ℕ) : Type 0 where
-  key-read : (m : ℕ) (s : List ℕ) → keyR at (drop at doc) ≡ ok (leaf KEY at m s) m (drop m doc) → at < m → KeyIs doc at
+  key-read : (m : ℕ) (s : Decoded) → keyR at (drop at doc) ≡ ok (leaf KEY at m s) m (drop m doc) → at < m → KeyIs doc at
   key-not : (p : ℕ) → keyR at (drop at doc) ≡ bad p → KeyIs doc at
 
 tamed-ok : {X : Type 0} {d at : ℕ} {s : List ℕ} {v : X} {a : ℕ} {t : List ℕ} → Tamed d at s (ok v a t) → Moves d at s a t
@@ -85,20 +85,20 @@ pub key-is : (doc : List ℕ) (at : ℕ) → KeyIs doc at
 unfolding keyR spannedR
 key-is doc at = go (nameR at (drop at doc)) refl
   where
-    go : (o : Out (List ℕ)) → nameR at (drop at doc) ≡ o → KeyIs doc at
+    go : (o : Out Decoded) → nameR at (drop at doc) ≡ o → KeyIs doc at
     go (ok s m t) e =
-        let k : keyR at (drop at doc) ≡ ok (leaf KEY at m s) m t = ap (λ (u : Out (List ℕ)). bind u (λ s e. ok (leaf KEY at e s) e)) e in
+        let k : keyR at (drop at doc) ≡ ok (leaf KEY at m s) m t = ap (λ (u : Out Decoded). bind u (λ s e. ok (leaf KEY at e s) e)) e in
         let v = tamed-ok (subst (Tamed 1 at (drop at doc)) k (key-ll .exact .moves .tame at (drop at doc))) in
         key-read m s (k ∙ ap (ok (leaf KEY at m s) m) (rest-of doc v)) (omega (arith, forward v))
     go (soft p s m t) e =
-        let k : keyR at (drop at doc) ≡ soft p (leaf KEY at m s) m t = ap (λ (u : Out (List ℕ)). bind u (λ s e. ok (leaf KEY at e s) e)) e in
+        let k : keyR at (drop at doc) ≡ soft p (leaf KEY at m s) m t = ap (λ (u : Out Decoded). bind u (λ s e. ok (leaf KEY at e s) e)) e in
         absurd (firm-soft (subst Firm k (key-ll .firm at (drop at doc))))
-    go (bad p) e = key-not p (ap (λ (u : Out (List ℕ)). bind u (λ s e. ok (leaf KEY at e s) e)) e)
+    go (bad p) e = key-not p (ap (λ (u : Out Decoded). bind u (λ s e. ok (leaf KEY at e s) e)) e)
 
 -- a key and what is behind it
 pub record Keyed {X : Type 0} (doc : List ℕ) (at : ℕ) (k : Tree → Reader X) (v : X) (a : ℕ) : Type 0 where
   pub ends : ℕ
-  pub text : List ℕ
+  pub text : Decoded
   pub is : keyR at (drop at doc) ≡ ok (leaf KEY at ends text) ends (drop ends doc)
   pub ahead : at < ends
   pub behind : Gives (k (leaf KEY at ends text) ends (drop ends doc)) v a
@@ -111,7 +111,7 @@ keyed {X} doc at k {v} {a} g = go (key-is doc at)
     go (key-not p e) = absurd (gives-none (subst (λ (u : Out Tree). Gives (bind u k) v a) e g))
 
 -- the key of a member is noted
-pub kept-key : {doc : List ℕ} {at m a : ℕ} (row parent : ℕ) (s : List ℕ) {S S' : List ℕ} → KeyAt doc at s m → m ≤ a → S' ≡ noted S parent at → Kept doc at (flats row parent (forest (leaf KEY at m s ∷ []))) a S S'
+pub kept-key : {doc : List ℕ} {at m a : ℕ} (row parent : ℕ) (s : Decoded) {S S' : List ℕ} → KeyAt doc at (s .bytes) m → m ≤ a → S' ≡ noted S parent at → Kept doc at (flats row parent (forest (leaf KEY at m s ∷ []))) a S S'
 unfolding flat noteds
 kept-key {at = at} {m} {a} row parent s k h e =
     let z : at ≤ at = omega arith in

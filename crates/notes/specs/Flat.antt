@@ -16,7 +16,7 @@ pub data Named : Type 0 where
 -- "A key's row stands just before its value's row, with the object as parent of both" (01, What the reader takes and gives)
 unfoldable mutual
   pub flat : ℕ → ℕ → Tree → List Named
-  flat r p (leaf k a e s) = pick (eqb k KEY) (named p a s ∷ []) []
+  flat r p (leaf k a e s) = pick (eqb k KEY) (named p a (s .bytes) ∷ []) []
   flat r p (node k a e c ts) = flats (r + 1) r ts
 
   pub flats : ℕ → ℕ → Forest → List Named

@@ -10,9 +10,10 @@ use Rattle.exact.specs.Out.{ok}
 use Rattle.strings.specs.Keys.{keyR}
 use Rattle.notes.specs.Flat.{Named, named}
 
--- a key of that text stands from b up to m
+-- a key of that text stands from b up to m, however it is escaped
 pub record KeyAt (doc : List ℕ) (b : ℕ) (s : List ℕ) (m : ℕ) : Type 0 where
-  pub is : keyR b (drop b doc) ≡ ok (leaf KEY b m s) m (drop m doc)
+  pub escapes : ℕ
+  pub is : keyR b (drop b doc) ≡ ok (leaf KEY b m (record { bytes = s; escapes = escapes })) m (drop m doc)
   pub ahead : b < m
   pub inside : m ≤ length doc
 

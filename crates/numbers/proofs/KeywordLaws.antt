@@ -13,25 +13,27 @@ use Rattle.exact.specs.Out.{bind, ok, bad}
 use Rattle.exact.specs.Class.{pick}
 use Rattle.exact.specs.Lang.{retR}
 use Rattle.exact.specs.Place.{common, common-in, word-all, word-part, slice-at}
+use Rattle.rooms.specs.Told.{spot}
 use Rattle.rooms.specs.declared.Cursor.{Cursor}
 use Rattle.rooms.specs.declared.Words.{Words}
 use Rattle.rooms.specs.declared.Far.the-variants.{Upto, Not}
 use Rattle.rooms.specs.Contract.{Ready, Reaches, Small}
-use Rattle.rooms.specs.Laws.{reaching, not-reached, leaf-text, leaf-bare}
+use Rattle.rooms.specs.Laws.{reaching, not-reached, leaf-bare}
 use Rattle.language.specs.Kind.{TRUE, FLOAT}
-use Rattle.language.specs.Tree.{leaf, width, rowList}
+use Rattle.language.specs.Tree.{unescaped, leaf, width, rowList}
 use Rattle.numbers.specs.Keyword.{keywordR}
 use Rattle.numbers.specs.Contract.{Put}
+use Rattle.numbers.proofs.PutLaws.{text-read}
 
 -- A KEYWORD by the bytes that it has in common with the document
 module _ (doc : List ℕ) (at kind : ℕ) (word text : List ℕ) (n : ℕ) (h : n ≡ common word (drop at doc)) where
-  keyword-ok : n ≡ length word → keywordR kind word text at (drop at doc) ≡ ok (leaf kind at (at + n) text) (at + n) (drop (at + n) doc)
+  keyword-ok : n ≡ length word → keywordR kind word text at (drop at doc) ≡ ok (leaf kind at (at + n) (unescaped text)) (at + n) (drop (at + n) doc)
   unfolding keywordR
-  keyword-ok k = ap (λ o. bind o (λ _ e. retR (leaf kind at e text) e)) (word-all word at (drop at doc) (sym h ∙ k)) ∙ rw (← k, drop-drop n at doc) refl
+  keyword-ok k = ap (λ o. bind o (λ _ e. retR (leaf kind at e (unescaped text)) e)) (word-all word at (drop at doc) (sym h ∙ k)) ∙ rw (← k, drop-drop n at doc) refl
 
   keyword-bad : (n ≡ length word → ⊥) → keywordR kind word text at (drop at doc) ≡ bad (at + n)
   unfolding keywordR
-  keyword-bad k = ap (λ o. bind o (λ _ e. retR (leaf kind at e text) e)) (word-part word at (drop at doc) (λ e. k (h ∙ e))) ∙ rw (← h) refl
+  keyword-bad k = ap (λ o. bind o (λ _ e. retR (leaf kind at e (unescaped text)) e)) (word-part word at (drop at doc) (λ e. k (h ∙ e))) ∙ rw (← h) refl
 
 -- what is in common is the word's beginning
 common-take : (ws s : List ℕ) → common ws s ≡ length ws → take (length ws) s ≡ ws
@@ -55,14 +57,6 @@ module _ (doc : List ℕ) (c : Cursor) (p : ℕ) (word : List ℕ) (n : ℕ) (re
       let r = ready .fewRows in
       record { first-fits = omega arith; after-fits = omega arith; from-fits = omega arith; to-fits = omega arith; next-fits = omega arith }
 
-  pub word-small : Small (c .at) (c .at + n) (c .text) (c .text + n) (c .row + 1)
-  word-small =
-      let i = keyword-in in
-      let l = ready .small in
-      let r = ready .fewRows in
-      let t = ready .fewText in
-      record { first-fits = omega arith; after-fits = omega arith; from-fits = omega arith; to-fits = omega arith; next-fits = omega arith }
-
   module _ (R R' T : List ℕ) (w : Words) where
     pub keyword-read : (kind : ℕ) → kind ≤ TRUE → n ≡ length word
         → w ≡ record { kind = kind; first = c .at; after = c .at + n; from = 0; to = 0; parent = p; next = c .row + 1 }
@@ -73,15 +67,13 @@ module _ (doc : List ℕ) (c : Cursor) (p : ℕ) (word : List ℕ) (n : ℕ) (re
         (leaf-bare doc c p (keywordR kind word [] (c .at) (drop (c .at) doc)) kind (c .at + n) 0 (omega arith) keyword-in R R' T T
         (keyword-ok doc (c .at) kind word [] n h k) l (rw e at r) refl)
 
-  pub float-read : (R R' T T' : List ℕ) (m : Cursor) → n ≡ length word → T' ≡ sets T (c .text) (slice (c .at) (c .at + n) doc)
-      → Put R R' c p FLOAT (c .at + n) (c .text + n) m → Reaches doc c p (keywordR FLOAT word word (c .at) (drop (c .at) doc)) (Upto m 0) R R' T T'
-  float-read R R' T T' m k t q =
+  -- a float's word is its text, which begins at x
+  pub float-read : (x : ℕ) → x ≡ spot (c .text) → (R R' T T' : List ℕ) (m : Cursor) → n ≡ length word → T' ≡ sets T x (slice (c .at) (c .at + n) doc)
+      → Put R R' c p FLOAT (c .at + n) (x + n) m → Reaches doc c p (keywordR FLOAT word word (c .at) (drop (c .at) doc)) (Upto m 0) R R' T T'
+  float-read x e R R' T T' m k t q =
       let z : slice (c .at) (c .at + n) doc ≡ word = sym (slice-at (c .at) n doc) ∙ (rw k (common-take word (drop (c .at) doc) (sym h ∙ k))) in
-      rw (q .next)
-      (reaching doc c p (keywordR FLOAT word word (c .at) (drop (c .at) doc)) R R' T T' (record { at = c .at + n; row = c .row + 1; text = c .text + n }) 0
-      (rw k
-      (leaf-text doc c p (keywordR FLOAT word word (c .at) (drop (c .at) doc)) FLOAT (c .at + length word) 0 (omega arith) (rw (← k) keyword-in) R R' T T' word
-      (rw k at (keyword-ok doc (c .at) FLOAT word word n h k)) (omega arith) (omega arith) (rw k at (q .table)) (rw z at t))))
+      text-read doc c ready word (c .at + n) (x + n) (omega arith) keyword-in (omega arith) p FLOAT 0 (keywordR FLOAT word word (c .at) (drop (c .at) doc)) R R' T T' m
+      (omega arith) (omega arith) (keyword-ok doc (c .at) FLOAT word word n h k) q (rw (e, z) at t)
 
   pub keyword-not : (R T : List ℕ) (kind : ℕ) (text : List ℕ) → (n ≡ length word → ⊥) → Reaches doc c p (keywordR kind word text (c .at) (drop (c .at) doc)) (Not (c .at + n)) R R T T
   keyword-not R T kind text k =
@@ -89,4 +81,4 @@ module _ (doc : List ℕ) (c : Cursor) (p : ℕ) (word : List ℕ) (n : ℕ) (re
 
 pub ruleset keyword-laws = (bare-small, keyword-read, keyword-not, needs)
 
-pub ruleset word-laws = (word-small, float-read, keyword-not, needs)
+pub ruleset word-laws = (float-read, keyword-not, needs)

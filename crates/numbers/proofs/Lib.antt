@@ -5,6 +5,7 @@ pub mod FloatLaws
 pub mod TakeLaws
 pub mod TextLaws
 pub mod IntegerLaws
+pub mod PutLaws
 pub mod KeywordLaws
 pub mod PlainLaws
 pub mod NumberLaws

@@ -2,11 +2,11 @@
 use mathlib.Core.Path.{_≡_, refl, sym, ap, subst, _∙_}
 use mathlib.Core.List.{List, [], _∷_}
 use mathlib.Core.Bool.{Bool, true, false}
-use Prim.Native.Nat.{ℕ, zero, suc, _+_, _-_, _*_, _≤_, _<_}
+use Prim.Native.Nat.{ℕ, zero, suc, _+_, _-_, _≤_, _<_}
 use native.Mathlib.Nat.{add-zero}
 use native.Mathlib.Omega.{arith}
 use lib.ListN.{length, drop, drop-of-length-le}
-use lib.Seq.{sets, slice, length-slice}
+use lib.Seq.{slice, length-slice}
 use lib.Dec.{eqb}
 use borrow.Author.Needs.{needs}
 use Rattle.exact.specs.Out.{Out, bind, soft, bad, Firm}
@@ -23,16 +23,16 @@ use Rattle.characters.specs.declared.Skip.{Skip}
 use Rattle.characters.specs.declared.Skip.the-variants.{End, Bad}
 use Rattle.characters.specs.Reads.{ByteRead, byte-inside, byte-there, byte-next, Skips}
 use Rattle.characters.specs.Takes.{take-byte, take-next, take-other, take-place}
+use Rattle.rooms.specs.Told.{spot}
 use Rattle.rooms.specs.declared.Cursor.{Cursor}
-use Rattle.rooms.specs.declared.Words.{Words}
 use Rattle.rooms.specs.declared.Ans.the-variants.{Ok, No}
 use Rattle.rooms.specs.declared.Far.{Far}
 use Rattle.rooms.specs.declared.Far.the-variants.{Upto, Not}
-use Rattle.rooms.specs.Contract.{ample, Ready, Answers, Reaches, Small}
-use Rattle.rooms.specs.Laws.{reaching, not-reached, reached-taken, reached-refusal, leaf-text}
+use Rattle.rooms.specs.Contract.{Ready, Answers, Reaches, Small}
+use Rattle.rooms.specs.Laws.{not-reached, reached-taken, reached-refusal}
 use Rattle.rooms.specs.Laws
 use Rattle.language.specs.Kind.{TRUE, INTEGER, FLOAT}
-use Rattle.language.specs.Tree.{leaf, width, rowList}
+use Rattle.language.specs.Tree.{unescaped, leaf}
 use Rattle.language.specs.Scalars.{plain, minus}
 use Rattle.numbers.specs.declared.scanning.Numeral.{Numeral}
 use Rattle.numbers.specs.declared.scanning.Scanned.{Scanned}
@@ -44,6 +44,7 @@ use Rattle.numbers.specs.Plain.{signedR, unsignedR, plainR, plain-ll}
 use Rattle.numbers.specs.Opening.{plain-shuts}
 use Rattle.numbers.specs.Contract.{Passed, Stored, Scans, refused, integer, floated, Sign, negative, positive, Writing, Leads, minus-leads, digits-lead, NumberAt, Put}
 use Rattle.numbers.proofs.SqueezeLaws.{squeezed-le}
+use Rattle.numbers.proofs.PutLaws.{text-read}
 use Rattle.numbers.proofs.PlainLaws.{close, plain-by, body-number, body-minus, number-two, via-true, via-false, via-infinity, via-nan, via-null, via-minus}
 
 -- THE FIRST BYTE, taken
@@ -189,59 +190,49 @@ module _ (doc : List ℕ) (c : Cursor) (d : ℕ) (neg spaced : Bool) (s : Numera
   number-known : Known spaced doc d s
   number-known = known s (f .scanned) refl
 
-  pub number-writing : Writing doc s (c .at) d neg (c .text)
-  number-writing =
-      let y = number-known in
-      record {
-        sign = leads-sign (f .leads);
-        some = y .some;
-        inside = y .inside;
-        last = y .solid;
-        small = omega (arith, ready .small, ready .fewText, ready .inside);
-        dense = y .tight;
-      }
-
   text-fits : c .at + length text ≤ s .end
   text-fits = let y = number-known in let z = y .some in number-fit doc (c .at) d (s .end) (s .kind .0) neg (f .leads) (omega arith) (y .inside)
 
-  module _ (T T' : List ℕ) (to : ℕ) (q : Stored T T' (c .text) to text) where
-    pub number-small : Small (c .at) (s .end) (c .text) to (c .row + 1)
-    number-small =
-        let i = number-known .inside in
-        let l = text-fits in
-        let e = q .end in
-        let m = ready .small in
-        let r = ready .fewRows in
-        let t = ready .fewText in
-        let j = ready .inside in
-        record { first-fits = omega arith; after-fits = omega arith; from-fits = omega arith; to-fits = omega arith; next-fits = omega arith }
-
-    pub number-read : (p far : ℕ) (R R' : List ℕ) (n : Cursor) → Put R R' c p (s .kind .0) (s .end) to n → far ≡ farAt spaced doc (s .last)
-        → Reaches doc c p (plainR spaced (c .at) (drop (c .at) doc)) (Upto n far) R R' T T'
-    number-read p far R R' n w z =
+  -- its text begins at x
+  module _ (x : ℕ) (at-x : x ≡ spot (c .text)) where
+    pub number-writing : Writing doc s (c .at) d neg x
+    number-writing =
         let y = number-known in
-        let at = c .at in
-        let g = farAt spaced doc (s .last) in
-        let o : plainR spaced at (drop at doc) ≡ reached far (leaf (s .kind .0) at (s .end) text) (s .end) (drop (s .end) doc) =
-        leads-read spaced doc at d neg (f .leads)
-        ∙ (ap (λ o. bind o (close at)) (y .answer (minusOf neg))
-        ∙ (bind-reached g (found (s .kind .0) text) (s .end) (drop (s .end) doc) (close at)
-        ∙ (raised-ok g (leaf (s .kind .0) at (s .end) text) (s .end) (drop (s .end) doc) ∙ rw z refl))) in
-        let h : at < s .end = omega (arith, y .some, leads-before (f .leads)) in
-        rw (w .next)
-        (reaching doc c p (plainR spaced at (drop at doc)) R R' T T' (record { at = s .end; row = c .row + 1; text = to }) far
-        (rw (q .end)
-        (leaf-text doc c p (plainR spaced at (drop at doc)) (s .kind .0) (s .end) far h (y .inside) R R' T T' text o (y .text) text-fits (rw (q .end) at (w .table)) (q .room))))
+        record {
+          sign = leads-sign (f .leads);
+          some = y .some;
+          inside = y .inside;
+          last = y .solid;
+          small = omega (arith, ready .small, ready .fewText, ready .inside);
+          dense = y .tight;
+        }
 
--- THE ROW
-pub put-read : (c : Cursor) (p kind e to : ℕ) (R R' : List ℕ) (w : Words)
-    → w ≡ record { kind = kind; first = c .at; after = e; from = c .text; to = to; parent = p; next = c .row + 1 }
-    → R' ≡ sets R (width * c .row) (rowList (w .kind) (w .first) (w .after) (w .from) (w .to) (w .parent) (w .next))
-    → Put R R' c p kind e to (record { at = e; row = c .row + 1; text = to })
-put-read c p kind e to R R' w h r = record { next = refl; table = rw h at r }
+    module _ (T T' : List ℕ) (to : ℕ) (q : Stored T T' x to text) where
+      pub number-small : Small (c .at) (s .end) (spot (c .text)) to (c .row + 1)
+      number-small =
+          let i = number-known .inside in
+          let l = text-fits in
+          let e = q .end in
+          let m = ready .small in
+          let r = ready .fewRows in
+          let t = ready .fewText in
+          let j = ready .inside in
+          record { first-fits = omega arith; after-fits = omega arith; from-fits = omega arith; to-fits = omega arith; next-fits = omega arith }
 
-pub small-row : (a e x to n : ℕ) → Small a e x to (n + 1) → n < ample
-small-row a e x to n s = let h = s .next-fits in omega arith
+      pub number-read : (p far : ℕ) (R R' : List ℕ) (n : Cursor) → Put R R' c p (s .kind .0) (s .end) to n → far ≡ farAt spaced doc (s .last)
+          → Reaches doc c p (plainR spaced (c .at) (drop (c .at) doc)) (Upto n far) R R' T T'
+      number-read p far R R' n w z =
+          let y = number-known in
+          let at = c .at in
+          let g = farAt spaced doc (s .last) in
+          let o : plainR spaced at (drop at doc) ≡ reached far (leaf (s .kind .0) at (s .end) (unescaped text)) (s .end) (drop (s .end) doc) =
+          leads-read spaced doc at d neg (f .leads)
+          ∙ (ap (λ o. bind o (close at)) (y .answer (minusOf neg))
+          ∙ (bind-reached g (found (s .kind .0) text) (s .end) (drop (s .end) doc) (close at)
+          ∙ (raised-ok g (leaf (s .kind .0) at (s .end) (unescaped text)) (s .end) (drop (s .end) doc) ∙ rw z refl))) in
+          let h : at < s .end = omega (arith, y .some, leads-before (f .leads)) in
+          text-read doc c ready text (s .end) to h (y .inside) text-fits p (s .kind .0) far (plainR spaced at (drop at doc)) R R' T T' n
+          (omega (arith, q .end)) (y .text) o w (rw at-x at (q .room))
 
 -- HOW FAR
 module _ (doc : List ℕ) (last : ℕ) where
@@ -291,8 +282,6 @@ module _ (doc : List ℕ) (c : Cursor) (p : ℕ) (R R' T T' : List ℕ) (f : Far
       Laws.refused doc c p o R R' T T' q (reached-refusal doc c p o R R' T T' f q e x)
 
 pub ruleset number-laws = (leads-inside, number-not, number-found, needs)
-
-pub ruleset put-laws = (put-read, small-row, needs)
 
 pub ruleset write-laws = (number-writing, number-small, number-read, needs)
 

@@ -19,7 +19,7 @@ use Rattle.rooms.specs.declared.Cursor.{Cursor}
 use Rattle.rooms.specs.declared.Far.{Far}
 use Rattle.rooms.specs.Contract.{Reaches}
 use Rattle.language.specs.Kind.{NULL, FALSE, TRUE, FLOAT}
-use Rattle.language.specs.Tree.{Tree, leaf}
+use Rattle.language.specs.Tree.{unescaped, Tree, leaf}
 use Rattle.language.specs.Scalars.{nullWord, trueWord, falseWord, nanWord, infinityWord}
 use Rattle.numbers.specs.Same.{Found, found, leafOf}
 use Rattle.numbers.specs.Plain.{saidR, nanR, signedR, unsignedR, bodyR, plainR}
@@ -35,7 +35,7 @@ pub plain-by : (spaced : Bool) (at : ℕ) (s : List ℕ) (o : Out Found) → bod
 unfolding plainR
 plain-by spaced at s o h = ap (λ x. bind x (close at)) h
 
-said-close : (at kind : ℕ) (text : List ℕ) (o : Out ℕ) → bind (bind o (λ _. retR (found kind text))) (close at) ≡ bind o (λ _ e. retR (leaf kind at e text) e)
+said-close : (at kind : ℕ) (text : List ℕ) (o : Out ℕ) → bind (bind o (λ _. retR (found kind text))) (close at) ≡ bind o (λ _ e. retR (leaf kind at e (unescaped text)) e)
 said-close at kind text (ok v a t) = refl
 said-close at kind text (soft p v a t) = refl
 said-close at kind text (bad p) = refl

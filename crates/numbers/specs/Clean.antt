@@ -6,7 +6,7 @@ use Prim.Native.Nat.{ℕ}
 use Rattle.notation.specs.Class.{_to_, only}
 use Rattle.utf8.specs.Clean.{Clean, ret-clean, here-clean, byte-clean, word-clean, seq-clean, alt-clean, star-clean}
 use Rattle.language.specs.Kind.{NULL, FALSE, TRUE, INTEGER, FLOAT}
-use Rattle.language.specs.Tree.{leaf}
+use Rattle.language.specs.Tree.{unescaped, leaf}
 use Rattle.language.specs.Scalars.{nullWord, trueWord, falseWord, nanWord, infinityWord, Keyword, Keywords, digit, Further, Digits, signed, Integer, Pointed, Exponent, Float, Plain}
 
 further-clean : (spaced : Bool) → Clean (Further spaced)
@@ -35,7 +35,7 @@ module _ (spaced : Bool) where
   integer-clean =
       seq-clean here-clean λ a.
       seq-clean (alt-clean (seq-clean (byte-clean (only 45) refl) λ b. ret-clean (b ∷ [])) (ret-clean [])) λ m.
-      seq-clean digits-clean λ ds. seq-clean here-clean λ e. ret-clean (leaf INTEGER a e (signed m ds))
+      seq-clean digits-clean λ ds. seq-clean here-clean λ e. ret-clean (leaf INTEGER a e (unescaped (signed m ds)))
 
   float-clean : Clean (Float spaced)
   float-clean =
@@ -45,7 +45,7 @@ module _ (spaced : Bool) where
       (alt-clean
       (seq-clean pointed-clean λ p. seq-clean (alt-clean exponent-clean (ret-clean [])) λ x. ret-clean (p ++ x))
       (seq-clean digits-clean λ ds. seq-clean exponent-clean λ x. ret-clean (ds ++ x)))
-      λ w. seq-clean here-clean λ e. ret-clean (leaf FLOAT a e (m ++ w))
+      λ w. seq-clean here-clean λ e. ret-clean (leaf FLOAT a e (unescaped (m ++ w)))
 
 keywords-clean : Clean Keywords
 keywords-clean =
@@ -58,7 +58,7 @@ keywords-clean =
     (said FLOAT (45 ∷ infinityWord) (45 ∷ infinityWord) (word-clean (45 ∷ infinityWord) refl))))
   where
     said : (kind : ℕ) (word text : List ℕ) → Clean (Rattle.notation.specs.Lang.Word word) → Clean (Keyword kind word text)
-    said kind word text c = seq-clean here-clean λ a. seq-clean c λ _. seq-clean here-clean λ e. ret-clean (leaf kind a e text)
+    said kind word text c = seq-clean here-clean λ a. seq-clean c λ _. seq-clean here-clean λ e. ret-clean (leaf kind a e (unescaped text))
 
 pub plain-clean : (spaced : Bool) → Clean (Plain spaced)
 plain-clean spaced = alt-clean keywords-clean (alt-clean (integer-clean spaced) (float-clean spaced))

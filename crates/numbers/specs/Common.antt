@@ -5,7 +5,7 @@ use Prim.Native.Nat.{ℕ}
 use Rattle.notation.specs.Class.{is, only}
 use Rattle.notation.specs.Lang.{Lang, Ret, ret, Here, Byte, Seq, _>>=_, _>>_, Alt, one, two, Word}
 use Rattle.language.specs.Kind.{NULL, FALSE, TRUE, INTEGER, FLOAT}
-use Rattle.language.specs.Tree.{Tree, leaf}
+use Rattle.language.specs.Tree.{unescaped, Tree, leaf}
 use Rattle.language.specs.Characters.{Option}
 use Rattle.language.specs.Scalars.{nullWord, trueWord, falseWord, nanWord, infinityWord, Keyword, Digits, One, signed, Pointed, Exponent, Plain}
 use Rattle.numbers.specs.Same.{Same, seq, given, same-trans, alt-same, Found, found, Close, Spanned, spanned-same, spanned-alt}
@@ -165,7 +165,7 @@ keyword-same kind word text =
 
 number-same : {X : Type 0} (kind : ℕ) (A : Lang X) (text : List ℕ → X → List ℕ)
     → Same
-    (do a ← Here; m ← Option (One (only 45)); w ← A; e ← Here; Ret (leaf kind a e (text m w)))
+    (do a ← Here; m ← Option (One (only 45)); w ← A; e ← Here; Ret (leaf kind a e (unescaped (text m w))))
     (Spanned (do m ← Option (One (only 45)); w ← A; Ret (found kind (text m w))))
 number-same kind A text =
     record {

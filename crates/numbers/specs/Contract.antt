@@ -10,7 +10,9 @@ use Rattle.exact.specs.Lines.{reached}
 use Rattle.exact.specs.Place.{peek, runEnd}
 use Rattle.language.specs.Kind.{INTEGER, FLOAT}
 use Rattle.language.specs.Tree.{width, rowList}
+use Rattle.rooms.specs.Told.{spot, tally}
 use Rattle.rooms.specs.declared.Cursor.{Cursor}
+use Rattle.rooms.specs.Contract.{ample}
 use Rattle.characters.specs.declared.Skip.{Skip}
 use Rattle.characters.specs.declared.Skip.the-variants.{End, Bad}
 use Rattle.characters.specs.Plains.{RunTo}
@@ -146,7 +148,12 @@ pub record NumberAt (doc : List ℕ) (at d : ℕ) (neg spaced : Bool) (s : Numer
   pub leads : Leads doc at d neg
   pub scanned : Scans spaced doc d (Number s)
 
+-- the text may get longer, up to `to`: what comes next begins no later, and the escapes so far are few
+pub record Longer (c : Cursor) (to : ℕ) : Type 0 where
+  pub ahead : spot (c .text) ≤ to
+  pub few : tally (c .text) < ample
+
 -- the row of a leaf with a text is written, and the cursor n stands behind it
 pub record Put (rows rows' : List ℕ) (c : Cursor) (parent kind e to : ℕ) (n : Cursor) : Type 0 where
-  pub next : n ≡ record { at = e; row = c .row + 1; text = to }
-  pub table : rows' ≡ sets rows (width * c .row) (rowList kind (c .at) e (c .text) to parent (c .row + 1))
+  pub next : n ≡ record { at = e; row = c .row + 1; text = c .text + (to - spot (c .text)) }
+  pub table : rows' ≡ sets rows (width * c .row) (rowList kind (c .at) e (spot (c .text)) to parent (c .row + 1))

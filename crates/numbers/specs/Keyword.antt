@@ -5,7 +5,7 @@ use Rattle.exact.specs.Out.{Reader}
 use Rattle.exact.specs.Lang.{retR}
 use Rattle.exact.specs.Comb.{seqR}
 use Rattle.exact.specs.Ll.{hereR, wordR}
-use Rattle.language.specs.Tree.{Tree, leaf}
+use Rattle.language.specs.Tree.{unescaped, Tree, leaf}
 
 unfoldable pub keywordR : ℕ → List ℕ → List ℕ → Reader Tree
-keywordR kind word text = seqR hereR λ a. seqR (wordR word) λ _. seqR hereR λ e. retR (leaf kind a e text)
+keywordR kind word text = seqR hereR λ a. seqR (wordR word) λ _. seqR hereR λ e. retR (leaf kind a e (unescaped text))

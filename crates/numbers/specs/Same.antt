@@ -2,7 +2,7 @@
 use mathlib.Core.List.{List}
 use Prim.Native.Nat.{ℕ}
 use Rattle.notation.specs.Lang.{Lang, Ret, ret, Here, Seq, _>>=_, Alt, one, two}
-use Rattle.language.specs.Tree.{Tree, leaf}
+use Rattle.language.specs.Tree.{unescaped, Tree, leaf}
 
 pub record Same {X : Type 0} (A B : Lang X) : Type 0 where
   pub to : {at : ℕ} {s : List ℕ} {v : X} {at′ : ℕ} {t : List ℕ} → A at s v at′ t → B at s v at′ t
@@ -37,7 +37,7 @@ pub data Found : Type 0 where
   found : ℕ → List ℕ → Found
 
 abbrev pub leafOf : ℕ → ℕ → Found → Tree
-leafOf a e (found kind text) = leaf kind a e text
+leafOf a e (found kind text) = leaf kind a e (unescaped text)
 
 abbrev pub Close : ℕ → Found → Lang Tree
 Close a f = do

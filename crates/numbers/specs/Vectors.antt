@@ -10,7 +10,7 @@ use Rattle.exact.specs.Lang.{retR, byteR, endR}
 use Rattle.exact.specs.Comb.{seqR}
 use Rattle.language.specs.Kind.{NULL, INTEGER, FLOAT}
 use Rattle.language.specs.Scalars.{nanWord, infinityWord, plain, minus}
-use Rattle.language.specs.Tree.{Tree, leaf}
+use Rattle.language.specs.Tree.{unescaped, Tree, leaf}
 use Rattle.numbers.specs.Digits.{digitsR, moreR}
 use Rattle.numbers.specs.Plain.{plainR, bodyR, nanR, signedR, unsignedR, fractionR, dottedR, exponentR, afterR}
 
@@ -30,21 +30,21 @@ answered spaced ((s gives r) ∷ es) = (s gives answer spaced s) ∷ answered sp
 -- READ: `1⏎` `-0⏎` `007⏎` `-00⏎` `-007⏎` `-1 0⏎` `1 2 3⏎` `1.⏎` `.5⏎` `1e5⏎` `1 0.5 5⏎` `-1.e-5⏎` `-infinity⏎` `nan⏎` `null⏎`
 read : List Example
 read =
-    ((49 ∷ 10 ∷ []) gives acc (leaf INTEGER 0 1 (49 ∷ [])))
-    ∷ ((45 ∷ 48 ∷ 10 ∷ []) gives acc (leaf INTEGER 0 2 (48 ∷ [])))
-    ∷ ((48 ∷ 48 ∷ 55 ∷ 10 ∷ []) gives acc (leaf INTEGER 0 3 (55 ∷ [])))
-    ∷ ((45 ∷ 48 ∷ 48 ∷ 10 ∷ []) gives acc (leaf INTEGER 0 3 (48 ∷ [])))
-    ∷ ((45 ∷ 48 ∷ 48 ∷ 55 ∷ 10 ∷ []) gives acc (leaf INTEGER 0 4 (45 ∷ 55 ∷ [])))
-    ∷ ((45 ∷ 49 ∷ 32 ∷ 48 ∷ 10 ∷ []) gives acc (leaf INTEGER 0 4 (45 ∷ 49 ∷ 48 ∷ [])))
-    ∷ ((49 ∷ 32 ∷ 50 ∷ 32 ∷ 51 ∷ 10 ∷ []) gives acc (leaf INTEGER 0 5 (49 ∷ 50 ∷ 51 ∷ [])))
-    ∷ ((49 ∷ 46 ∷ 10 ∷ []) gives acc (leaf FLOAT 0 2 (49 ∷ 46 ∷ [])))
-    ∷ ((46 ∷ 53 ∷ 10 ∷ []) gives acc (leaf FLOAT 0 2 (46 ∷ 53 ∷ [])))
-    ∷ ((49 ∷ 101 ∷ 53 ∷ 10 ∷ []) gives acc (leaf FLOAT 0 3 (49 ∷ 101 ∷ 53 ∷ [])))
-    ∷ ((49 ∷ 32 ∷ 48 ∷ 46 ∷ 53 ∷ 32 ∷ 53 ∷ 10 ∷ []) gives acc (leaf FLOAT 0 7 (49 ∷ 48 ∷ 46 ∷ 53 ∷ 53 ∷ [])))
-    ∷ ((45 ∷ 49 ∷ 46 ∷ 101 ∷ 45 ∷ 53 ∷ 10 ∷ []) gives acc (leaf FLOAT 0 6 (45 ∷ 49 ∷ 46 ∷ 101 ∷ 45 ∷ 53 ∷ [])))
-    ∷ ((45 ∷ 105 ∷ 110 ∷ 102 ∷ 105 ∷ 110 ∷ 105 ∷ 116 ∷ 121 ∷ 10 ∷ []) gives acc (leaf FLOAT 0 9 (45 ∷ infinityWord)))
-    ∷ ((110 ∷ 97 ∷ 110 ∷ 10 ∷ []) gives acc (leaf FLOAT 0 3 nanWord))
-    ∷ ((110 ∷ 117 ∷ 108 ∷ 108 ∷ 10 ∷ []) gives acc (leaf NULL 0 4 []))
+    ((49 ∷ 10 ∷ []) gives acc (leaf INTEGER 0 1 (unescaped (49 ∷ []))))
+    ∷ ((45 ∷ 48 ∷ 10 ∷ []) gives acc (leaf INTEGER 0 2 (unescaped (48 ∷ []))))
+    ∷ ((48 ∷ 48 ∷ 55 ∷ 10 ∷ []) gives acc (leaf INTEGER 0 3 (unescaped (55 ∷ []))))
+    ∷ ((45 ∷ 48 ∷ 48 ∷ 10 ∷ []) gives acc (leaf INTEGER 0 3 (unescaped (48 ∷ []))))
+    ∷ ((45 ∷ 48 ∷ 48 ∷ 55 ∷ 10 ∷ []) gives acc (leaf INTEGER 0 4 (unescaped (45 ∷ 55 ∷ []))))
+    ∷ ((45 ∷ 49 ∷ 32 ∷ 48 ∷ 10 ∷ []) gives acc (leaf INTEGER 0 4 (unescaped (45 ∷ 49 ∷ 48 ∷ []))))
+    ∷ ((49 ∷ 32 ∷ 50 ∷ 32 ∷ 51 ∷ 10 ∷ []) gives acc (leaf INTEGER 0 5 (unescaped (49 ∷ 50 ∷ 51 ∷ []))))
+    ∷ ((49 ∷ 46 ∷ 10 ∷ []) gives acc (leaf FLOAT 0 2 (unescaped (49 ∷ 46 ∷ []))))
+    ∷ ((46 ∷ 53 ∷ 10 ∷ []) gives acc (leaf FLOAT 0 2 (unescaped (46 ∷ 53 ∷ []))))
+    ∷ ((49 ∷ 101 ∷ 53 ∷ 10 ∷ []) gives acc (leaf FLOAT 0 3 (unescaped (49 ∷ 101 ∷ 53 ∷ []))))
+    ∷ ((49 ∷ 32 ∷ 48 ∷ 46 ∷ 53 ∷ 32 ∷ 53 ∷ 10 ∷ []) gives acc (leaf FLOAT 0 7 (unescaped (49 ∷ 48 ∷ 46 ∷ 53 ∷ 53 ∷ []))))
+    ∷ ((45 ∷ 49 ∷ 46 ∷ 101 ∷ 45 ∷ 53 ∷ 10 ∷ []) gives acc (leaf FLOAT 0 6 (unescaped (45 ∷ 49 ∷ 46 ∷ 101 ∷ 45 ∷ 53 ∷ []))))
+    ∷ ((45 ∷ 105 ∷ 110 ∷ 102 ∷ 105 ∷ 110 ∷ 105 ∷ 116 ∷ 121 ∷ 10 ∷ []) gives acc (leaf FLOAT 0 9 (unescaped (45 ∷ infinityWord))))
+    ∷ ((110 ∷ 97 ∷ 110 ∷ 10 ∷ []) gives acc (leaf FLOAT 0 3 (unescaped nanWord)))
+    ∷ ((110 ∷ 117 ∷ 108 ∷ 108 ∷ 10 ∷ []) gives acc (leaf NULL 0 4 (unescaped [])))
     ∷ []
 
 read-right : answered true read ≡ read

@@ -5,11 +5,12 @@ ghost use mathlib.Core.Bool.{false};
 ghost use Prim.Native.Nat.{ℕ, _+_, _≤_, _<_};
 ghost use lib.ListN.{length, drop};
 ghost use Rattle.language.specs.Kind.{TRUE, FLOAT};
+ghost use Rattle.rooms.specs.Told.{spot};
 ghost use Rattle.rooms.specs.Contract.{Ready, Answers, Reaches, Small};
 ghost use Rattle.numbers.specs.Places.{farAt};
 ghost use Rattle.numbers.specs.Plain.{plainR};
 ghost use Rattle.numbers.specs.Keyword.{keywordR};
-ghost use Rattle.numbers.specs.Contract.{Passed, Leads, NumberAt, Put};
+ghost use Rattle.numbers.specs.Contract.{Passed, Leads, NumberAt, Longer, Put};
 use characters::Reading;
 use characters::Skip;
 use characters::Took;
@@ -44,18 +45,20 @@ fn beyond(doc: &[u8], last: usize, spaced: bool) -> usize
     0
 }
 
-// The row of what stands from the cursor up to e, whose text goes up to `to`; the cursor behind it.
+// The row of what stands from the cursor up to e, whose text has no escapes and goes up to `to`; the cursor behind it.
 fn put_leaf(rows: &mut [u32], c: Cursor, parent: u32, kind: Kind, e: usize, to: usize) -> Cursor
-    requires { ⌜ Small (c .at) e (c .text) to (c .row + 1) ⌝ }
+    requires { ⌜ Small (c .at) e (spot (c .text)) to (c .row + 1) ⌝ }
+    requires { ⌜ Longer c to ⌝ }
     ensures { λ r. ⌜ Put (now (rows .entry)) (now (rows .exit)) c parent (kind .0) e to r ⌝ }
 {
     let row = c.row;
     let next = row + 1;
-    put_row(rows, row, row_of(kind, c.at, e, c.text, to, parent, next));
+    let from = c.spot();
+    put_row(rows, row, row_of(kind, c.at, e, from, to, parent, next));
     Cursor {
         at: e,
         row: next,
-        text: to,
+        text: c.text + (to - from),
     }
 }
 
@@ -77,7 +80,7 @@ fn write(
 {
     let kind = s.kind;
     let far = beyond(&*doc, s.last, spaced);
-    let to = number_text(&*doc, text, s, c.at, d, neg, c.text);
+    let to = number_text(&*doc, text, s, c.at, d, neg, c.spot());
     let n = put_leaf(rows, c, parent, kind, s.end, to);
     Far::Upto(n, far)
 }
@@ -151,7 +154,7 @@ fn float_word(
     ensures { λ r. ⌜ Reaches (now (doc .entry)) c parent (keywordR FLOAT (now (word .entry)) (now (word .entry)) (c .at) (drop (c .at) (now (doc .entry)))) r (now (rows .entry)) (now (rows .exit)) (now (text .entry)) (now (text .exit)) ⌝ }
 {
     let at = c.at;
-    let x = c.text;
+    let x = c.spot();
     let n = same(&*doc, at, word);
     let e = at + n;
     if n == word.len() {

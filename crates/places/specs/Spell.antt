@@ -7,13 +7,14 @@ use native.Mathlib.Omega.{arith}
 use lib.ListN.{length, take, drop, set}
 use lib.Seq.{sets, slice, length-sets, take-set-le}
 use borrow.Author.Needs.{needs}
-use Rattle.language.specs.Tree.{Tree}
+use Rattle.language.specs.Tree.{Tree, textOf}
 use Rattle.language.specs.Answered.{limit}
 use Rattle.exact.specs.Out.{Out, ok, soft, bad}
 use Rattle.strings.specs.Keys.{keyR}
 use Rattle.rooms.specs.declared.Cursor.{Cursor}
 use Rattle.rooms.specs.declared.Ans.{Ans}
 use Rattle.rooms.specs.declared.Ans.the-variants.{Ok, No}
+use Rattle.rooms.specs.Told.{ESCAPE, spot, tally, spot-low, tally-low}
 use Rattle.rooms.specs.Contract.{Ready, Answers}
 use Rattle.rooms.specs.Laws.{taken, refusal}
 use Rattle.notes.specs.Lie.{KeyAt}
@@ -41,16 +42,31 @@ is-ok (soft p t m s) = 1
 is-ok (bad p) = 0
 
 module _ (doc : List ℕ) (at x : ℕ) (w : Spellable doc at x) where
+  low : x < ESCAPE
+  low = omega (arith, w .few, w .short, w .key .ahead, w .key .inside)
+
   pub spell-ready : Ready doc (record { at = at; row = 0; text = x })
-  spell-ready = record { small = w .short; inside = omega (arith, w .key .ahead, w .key .inside); fewRows = omega arith; fewText = w .few }
+  spell-ready =
+      record {
+        small = w .short;
+        inside = omega (arith, w .key .ahead, w .key .inside);
+        fewRows = omega arith;
+        fewText = omega (arith, spot-low x low, w .few);
+        fewEscapes = omega (arith, tally-low x low);
+      }
 
   module _ (p : ℕ) (R R' T T' : List ℕ) (a : Ans) (h : Answers doc (record { at = at; row = 0; text = x }) p (keyR at (drop at doc)) a R R' T T') where
-    pub spell-ok : (n : Cursor) → a ≡ Ok n → Spelled doc at x (n .text) T T'
-    spell-ok n e =
+    pub spell-ok : (n : Cursor) (r : ℕ) → a ≡ Ok n → r ≡ spot (n .text) → Spelled doc at x r T T'
+    spell-ok n r e f =
         let z = taken doc (record { at = at; row = 0; text = x }) p (keyR at (drop at doc)) R R' T T' a n e h in
         let s = spelled-is doc (z .tree) at (n .at) (drop (n .at) doc) (z .is) in
         let m = ends-is doc (z .tree) at (n .at) (drop (n .at) doc) (z .is) in
-        record { end = rw s (z .span .text); fits = rw (s, m) (z .span .fewText); room = rw s (z .filled .room) }
+        let l = spot-low x low in
+        record {
+          end = rw s (omega (arith, z .span .text));
+          fits = rw (s, m) (z .span .fewText);
+          room = rw s (z .filled .room ∙ ap (λ (i : ℕ). sets T i (textOf (z .tree))) l);
+        }
 
     pub spell-no : (q : ℕ) → a ≡ No q → Spelled doc at x x T T'
     unfolding is-ok

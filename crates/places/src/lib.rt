@@ -61,7 +61,7 @@ fn spell(doc: &[u8], text: &mut [u8], at: usize, x: usize) -> usize
         text: x,
     };
     match key(&*doc, &mut none, text, c, 0) {
-        Ans::Ok(n) => n.text,
+        Ans::Ok(n) => n.spot(),
         Ans::No(_) => x,
     }
 }

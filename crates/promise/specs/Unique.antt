@@ -1,4 +1,4 @@
--- THE PROMISE ADMITS ONE ANSWER ONLY (`one-answer`), if a document has one tree and is made of allowed characters. Assumes nothing else.
+-- THE PROMISE ADMITS ONE ANSWER ONLY (`one-answer`, `one-total`), if a document has one tree and is made of allowed characters. Assumes nothing else.
 use mathlib.Core.Path.{_≡_, refl, sym, ap, subst, _∙_}
 use mathlib.Core.List.{List, [], _∷_, _++_}
 use mathlib.Core.Bool.{Bool, true, false}
@@ -14,10 +14,10 @@ use Rattle.notation.specs.Lang.{Begins}
 use Rattle.exact.specs.Verdict.{Far, less, whole}
 use Rattle.language.specs.declared.Answer.{Answer}
 use Rattle.language.specs.declared.Answer.the-variants.{Accepted, Long, Char, Syntax, Deep, End, Repeat, Rows, Text}
-use Rattle.language.specs.Tree.{Tree, width, size, textOf, rowsOf, Repeats}
+use Rattle.language.specs.Tree.{Tree, width, size, textOf, escapesOf, rowsOf, Repeats}
 use Rattle.language.specs.Characters.{Allowed}
 use Rattle.language.specs.Document.{Document}
-use Rattle.language.specs.Answered.{limit, deepest, LONG, CHAR, SYNTAX, DEEP, END, REPEAT, ROWS, TEXT, number, value, second, Viable, Stops, char, syntax, deep, end, Reads, Answered, accepted, long, stopped, repeated, rows, bytes}
+use Rattle.language.specs.Answered.{limit, deepest, LONG, CHAR, SYNTAX, DEEP, END, REPEAT, ROWS, TEXT, number, value, second, third, Viable, Stops, char, syntax, deep, end, Reads, Answered, accepted, long, stopped, repeated, rows, bytes, Totals, total, untold}
 
 -- WHAT IS TAKEN FROM THE READERS: a document has one tree, and is a sequence of allowed characters
 pub record Known : Type 0 where
@@ -165,9 +165,16 @@ module _ (κ : Known) where
           ap (λ (o : Outcome). o .text-after) e,
         )
 
+  -- ONE TOTAL ONLY beside a number: an acceptance has the escapes of the document's one tree, a refusal none
+  pub one-total : {doc : List ℕ} {n z z₂ : ℕ} → Totals doc n z → Totals doc n z₂ → z ≡ z₂
+  one-total {doc} (total t x) (total u y) = ap escapesOf (same-tree doc t u (x .word) (y .word))
+  one-total (total t x) (untold n h) = absurd (omega arith)
+  one-total (untold n h) (total t x) = absurd (omega arith)
+  one-total (untold n h) (untold m k) = refl
+
 -- THE CASE of an answer is told by its number and its values
-answerOf : ℕ → ℕ → ℕ → Answer
-answerOf n v s =
+answerOf : ℕ → ℕ → ℕ → ℕ → Answer
+answerOf n v s z =
     pick (eqb n LONG) Long
     (pick (eqb n CHAR) (Char (record { 0 = v }))
     (pick (eqb n SYNTAX) (Syntax (record { 0 = v }))
@@ -176,11 +183,11 @@ answerOf n v s =
     (pick (eqb n REPEAT) (Repeat (record { 0 = v }))
     (pick (eqb n ROWS) (Rows (record { 0 = v }))
     (pick (eqb n TEXT) (Text v)
-    (Accepted (record { 0 = v }) s))))))))
+    (Accepted (record { 0 = v }) s z))))))))
 
-is-answer : (a : Answer) → answerOf (number a) (value a) (second a) ≡ a
+is-answer : (a : Answer) → answerOf (number a) (value a) (second a) (third a) ≡ a
 unfolding answerOf
-is-answer (Accepted n m) = refl
+is-answer (Accepted n m z) = refl
 is-answer Long = refl
 is-answer (Char p) = refl
 is-answer (Syntax p) = refl
@@ -190,13 +197,14 @@ is-answer (Repeat p) = refl
 is-answer (Rows n) = refl
 is-answer (Text m) = refl
 
-pub answer-tells : (a b : Answer) → number a ≡ number b → value a ≡ value b → second a ≡ second b → a ≡ b
-answer-tells a b n v s = sym (is-answer a) ∙ (rw (n, v, s) refl ∙ is-answer b)
+pub answer-tells : (a b : Answer) → number a ≡ number b → value a ≡ value b → second a ≡ second b → third a ≡ third b → a ≡ b
+answer-tells a b n v s z = sym (is-answer a) ∙ (rw (n, v, s, z) refl ∙ is-answer b)
 
 -- ONE ANSWER as `read` has it
 pub one-read : Known → (doc table text : List ℕ) (a b : Answer) (table′ text′ table″ text″ : List ℕ)
-    → Answered doc table text (number a) (value a) (second a) table′ text′ → Answered doc table text (number b) (value b) (second b) table″ text″
+    → Answered doc table text (number a) (value a) (second a) table′ text′ → Totals doc (number a) (third a)
+    → Answered doc table text (number b) (value b) (second b) table″ text″ → Totals doc (number b) (third b)
     → (a ≡ b) × (table′ ≡ table″) × (text′ ≡ text″)
-one-read κ doc table text a b table′ text′ table″ text″ x y =
+one-read κ doc table text a b table′ text′ table″ text″ x z y w =
     let e = one-answer κ x y in
-    (answer-tells a b (e .0) (e .1) (e .2), e .3, e .4)
+    (answer-tells a b (e .0) (e .1) (e .2) (one-total κ z (rw (e .0) w)), e .3, e .4)

@@ -27,7 +27,7 @@ mutual
 
   -- a tree's own key, and those below it
   count-flat : (r p : ℕ) (t : Tree) → count (flat r p t) ≡ isKey t + keysIn t
-  count-flat r p (leaf k a e s) = let h = count-leaf (eqb k KEY) (named p a s) in omega arith
+  count-flat r p (leaf k a e s) = let h = count-leaf (eqb k KEY) (named p a (s .bytes)) in omega arith
   count-flat r p (node k a e c ts) = let h = count-flats (r + 1) r ts in omega arith
 
   count-flats : (r p : ℕ) (ts : Forest) → count (flats r p ts) ≡ keysAmong ts

@@ -1,5 +1,5 @@
 -- HOW THE ANSWER FOLLOWS where a document was read into rooms of our own, whose rows may be too few. Assumes nothing.
-use mathlib.Core.Path.{_≡_, refl, sym, subst}
+use mathlib.Core.Path.{_≡_, refl, sym, subst, _∙_}
 use mathlib.Core.List.{List}
 use Prim.Native.Nat.{ℕ, _+_, _*_, _≤_, _<_}
 use native.Mathlib.Omega.{arith}
@@ -7,12 +7,13 @@ use lib.ListN.{length}
 use Rattle.rooms.specs.declared.Cursor.{Cursor}
 use Rattle.rooms.specs.declared.Ans.{Ans}
 use Rattle.rooms.specs.declared.Ans.the-variants.{Ok}
+use Rattle.rooms.specs.Told.{spot, tally}
 use Rattle.rooms.specs.Forest.{length-rows}
 use Rattle.reader.specs.declared.Tried.{Tried}
 use Rattle.reader.specs.declared.Tried.the-variants.{Settled, TooFew}
 use Rattle.language.specs.declared.Answer.{Answer}
 use Rattle.language.specs.Tree.{width, textOf, rowsOf}
-use Rattle.language.specs.Answered.{limit, deepest, number, value, second, Answered}
+use Rattle.language.specs.Answered.{limit, deepest, number, value, second, third, Answered, Totals}
 use Rattle.spans.specs.Document.{few-rows, few-text}
 use Rattle.repeats.specs.Chains.{most-rows}
 use Rattle.repeats.specs.Listed.{Stands}
@@ -20,7 +21,7 @@ use Rattle.repeats.specs.Told.{stands-sets}
 use Rattle.answers.specs.Held.{Held}
 use Rattle.judge.specs.Blamed.{Blamed}
 use Rattle.judge.specs.Contract.{Known, Checked, Filled}
-use Rattle.reader.specs.Judged.{accepts, answer-stop}
+use Rattle.reader.specs.Judged.{accepts, answer-stop, stop-total}
 
 -- few bytes, and some
 abbrev pub few-bytes : ℕ
@@ -35,24 +36,24 @@ pub record Texted (doc R T : List ℕ) : Type 0 where
   pub rows-few : length R ≤ width * most-rows
   pub text-fits : length doc ≤ length T
 
--- n rows and m text bytes were read into rooms of our own, which hold them if there are rows enough
-pub record Read (doc R T : List ℕ) (n m : ℕ) : Type 0 where
+-- n rows, m text bytes and z escapes were read into rooms of our own, which hold them if there are rows enough
+pub record Read (doc R T : List ℕ) (n m z : ℕ) : Type 0 where
   pub few : n ≤ limit
-  pub held : width * n ≤ length R → Held doc R T n m
+  pub held : width * n ≤ length R → Held doc R T n m z
 
 -- AN ATTEMPT: the answer; or the rows of our own are too few, and nothing lent is changed
 unfoldable pub Attempted : List ℕ → List ℕ → List ℕ → Tried → List ℕ → List ℕ → Type 0
-Attempted doc table text (Settled a) table′ text′ = Answered doc table text (number a) (value a) (second a) table′ text′
+Attempted doc table text (Settled a) table′ text′ = Answered doc table text (number a) (value a) (second a) table′ text′ × Totals doc (number a) (third a)
 Attempted doc table text TooFew table′ text′ = (table′ ≡ table) × (text′ ≡ text)
 
-pub reads : (doc R R' T T' : List ℕ) (a : Ans) (c : Cursor) → Texted doc R T → Checked deepest doc a → a ≡ Ok c → Filled deepest doc R R' T T'
-    → length R' ≡ length R → length T' ≡ length T → Read doc R' T' (c .row) (c .text)
+pub reads : (doc R R' T T' : List ℕ) (a : Ans) (c : Cursor) (m z : ℕ) → m ≡ spot (c .text) → z ≡ tally (c .text) → Texted doc R T → Checked deepest doc a → a ≡ Ok c → Filled deepest doc R R' T T'
+    → length R' ≡ length R → length T' ≡ length T → Read doc R' T' (c .row) m z
 unfolding Checked
-reads doc R R' T T' a c f x e w u v =
+reads doc R R' T T' a c m z p q f x e w u v =
     let g : Known deepest doc c = rw e at x in
     let t = g .tree in
     let d = accepts deepest doc t (g .is) in
-    let z = w .filled t (g .is) in
+    let y = w .filled t (g .is) in
     let n = length-rows 0 0 0 t in
     let h = few-rows deepest doc t d in
     let k = few-text deepest doc t d in
@@ -67,36 +68,42 @@ reads doc R R' T T' a c f x e w u v =
             short = l;
             word = d;
             row = g .row;
-            text-count = g .text;
+            text-count = p ∙ g .text;
+            escape-count = q ∙ g .escapes;
             few = i;
             linked = omega arith;
             fits = omega (arith, g .text);
             small = omega (arith, g .row, g .text);
-            table-is = subst (λ (s : List ℕ). Stands s 0 (rowsOf 0 0 0 t)) (sym (z .0)) (stands-sets R 0 (rowsOf 0 0 0 t) (omega (arith, g .row)));
-            text-is = subst (λ (s : List ℕ). Stands s 0 (textOf t)) (sym (z .1)) (stands-sets T 0 (textOf t) (omega arith));
+            table-is = subst (λ (s : List ℕ). Stands s 0 (rowsOf 0 0 0 t)) (sym (y .0)) (stands-sets R 0 (rowsOf 0 0 0 t) (omega (arith, g .row)));
+            text-is = subst (λ (s : List ℕ). Stands s 0 (textOf t)) (sym (y .1)) (stands-sets T 0 (textOf t) (omega arith));
           };
     }
 
-pub read-holds : (doc R T : List ℕ) (n m : ℕ) → Read doc R T n m → width * n ≤ length R → Held doc R T n m
-read-holds doc R T n m f i = f .held i
+pub read-holds : (doc R T : List ℕ) (n m z : ℕ) → Read doc R T n m z → width * n ≤ length R → Held doc R T n m z
+read-holds doc R T n m z f i = f .held i
 
 module _ (doc table text : List ℕ) where
   pub attempt-stop : (a : Answer) → length doc ≤ limit → Blamed doc a → Attempted doc table text (Settled a) table text
   unfolding Attempted
-  attempt-stop a l x = answer-stop doc table text a l x
+  attempt-stop a l x = (answer-stop doc table text a l x, stop-total doc a x)
 
   pub attempt-few : Attempted doc table text TooFew table text
   unfolding Attempted
   attempt-few = (refl, refl)
 
-  pub attempt-done : (a : Answer) (table′ text′ : List ℕ) → Answered doc table text (number a) (value a) (second a) table′ text′ → Attempted doc table text (Settled a) table′ text′
+  pub attempt-done : (a : Answer) (table′ text′ : List ℕ) → Answered doc table text (number a) (value a) (second a) table′ text′ → Totals doc (number a) (third a)
+      → Attempted doc table text (Settled a) table′ text′
   unfolding Attempted
-  attempt-done a table′ text′ x = x
+  attempt-done a table′ text′ x y = (x, y)
 
   module _ (r : Tried) (table′ text′ : List ℕ) (x : Attempted doc table text r table′ text′) where
     pub tried-answer : (a : Answer) → r ≡ Settled a → Answered doc table text (number a) (value a) (second a) table′ text′
     unfolding Attempted
-    tried-answer a e = rw e at x
+    tried-answer a e = (rw e at x) .0
+
+    pub tried-total : (a : Answer) → r ≡ Settled a → Totals doc (number a) (third a)
+    unfolding Attempted
+    tried-total a e = (rw e at x) .1
 
     -- the rooms lent are as they came, for the next class
     pub tried-again : (a : Answer) (table″ text″ : List ℕ) → r ≡ TooFew → Answered doc table′ text′ (number a) (value a) (second a) table″ text″

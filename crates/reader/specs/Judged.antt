@@ -8,9 +8,10 @@ use Rattle.exact.specs.Verdict.{Res, Verdict, acc, stop, takes, stops}
 use Rattle.rooms.specs.declared.Ans.{Ans}
 use Rattle.rooms.specs.declared.Ans.the-variants.{No}
 use Rattle.language.specs.declared.Answer.{Answer}
+use Rattle.language.specs.declared.Answer.the-variants.{Accepted, Long, Char, Syntax, Deep, End, Repeat, Rows, Text}
 use Rattle.language.specs.Tree.{Tree}
 use Rattle.language.specs.Document.{Document}
-use Rattle.language.specs.Answered.{limit, deepest, LONG, number, value, second, Answered, long, stopped}
+use Rattle.language.specs.Answered.{limit, deepest, LONG, number, value, second, third, Stops, Answered, long, stopped, Totals, untold}
 use Rattle.blocks.specs.Document.{verdict, exact}
 use Rattle.judge.specs.Blamed.{Blamed}
 use Rattle.judge.specs.Contract.{Checked}
@@ -40,6 +41,24 @@ answer-long doc table text l = long l
 
 pub answer-stop : (doc table text : List ℕ) (a : Answer) → length doc ≤ limit → Blamed doc a → Answered doc table text (number a) (value a) (second a) table text
 answer-stop doc table text a l x = rw (x .alone) (stopped (number a) (value a) l (x .stops))
+
+-- a refusal has no escapes
+pub no-total : (doc : List ℕ) (n : ℕ) → 0 < n → Totals doc n 0
+no-total doc n h = untold n h
+
+pub stop-total : (doc : List ℕ) (a : Answer) → Blamed doc a → Totals doc (number a) (third a)
+stop-total doc (Accepted r b e) x = absurd (never (x .stops))
+  where
+    never : {p : ℕ} → Stops doc 0 p → ⊥
+    never y = elim y [ ]
+stop-total doc Long x = no-total doc 1 (omega arith)
+stop-total doc (Char p) x = no-total doc 2 (omega arith)
+stop-total doc (Syntax p) x = no-total doc 3 (omega arith)
+stop-total doc (Deep p) x = no-total doc 4 (omega arith)
+stop-total doc (End p) x = no-total doc 5 (omega arith)
+stop-total doc (Repeat p) x = no-total doc 6 (omega arith)
+stop-total doc (Rows r) x = no-total doc 7 (omega arith)
+stop-total doc (Text b) x = no-total doc 8 (omega arith)
 
 -- the rooms lent came through unchanged, and so the answer is for them as they were lent
 pub answer-same : (doc table table₁ table₂ text text₁ text₂ : List ℕ) (n v s : ℕ) → (table₁ ≡ table) × (text₁ ≡ text) → Answered doc table₁ text₁ n v s table₂ text₂

@@ -1,14 +1,15 @@
 -- HOW THE ANSWER FOLLOWS where a document was passed over and its keys were noted, and it is read again into the rooms lent. Assumes nothing.
-use mathlib.Core.Path.{_≡_, subst}
+use mathlib.Core.Path.{_≡_, subst, _∙_}
 use mathlib.Core.List.{List}
 use Prim.Native.Nat.{ℕ, suc, _*_, _≤_, _<_}
 use native.Mathlib.Omega.{arith}
 use lib.ListN.{length, replicate}
+use Rattle.rooms.specs.Told.{spot, tally}
 use Rattle.rooms.specs.declared.Cursor.{Cursor}
 use Rattle.rooms.specs.declared.Ans.{Ans}
 use Rattle.rooms.specs.declared.Ans.the-variants.{Ok}
-use Rattle.language.specs.Tree.{Tree, width, size, textOf, Repeats}
-use Rattle.language.specs.Answered.{limit, deepest, REPEAT, ROWS, TEXT, Answered}
+use Rattle.language.specs.Tree.{Tree, width, size, textOf, escapesOf, Repeats}
+use Rattle.language.specs.Answered.{limit, deepest, REPEAT, ROWS, TEXT, Answered, Totals}
 use Rattle.blocks.specs.Document.{one-tree}
 use Rattle.spans.specs.Document.{few-rows}
 use Rattle.repeats.specs.declared.Repeat.{Repeat}
@@ -16,37 +17,39 @@ use Rattle.repeats.specs.declared.Repeat.the-variants.{At, Nowhere}
 use Rattle.repeats.specs.Later.{Names}
 use Rattle.places.specs.Places.{most-keys}
 use Rattle.places.specs.Log.{Log, Told}
-use Rattle.answers.specs.Counted.{Counted, counted-repeat, counted-rows, counted-bytes, counted-all}
+use Rattle.answers.specs.Counted.{Counted, counted-repeat, counted-rows, counted-bytes, counted-all, counted-total}
 use Rattle.judge.specs.Contract.{Known, Checked, Filled, Logged}
 use Rattle.reader.specs.Count.{few-noted}
 use Rattle.reader.specs.Judged.{accepts, accepted}
 
--- the document has n rows and m text bytes, and its keys are noted
-pub record Passed (doc keys : List ℕ) (n m : ℕ) : Type 0 where
+-- the document has n rows, m text bytes and z escapes, and its keys are noted
+pub record Passed (doc keys : List ℕ) (n m z : ℕ) : Type 0 where
   pub log : Log doc keys
   pub row : n ≡ size (log .tree)
   pub text-count : m ≡ length (textOf (log .tree))
+  pub escape-count : z ≡ escapesOf (log .tree)
   pub few : n ≤ limit
 
 -- so it is after a pass over the document with a room that had none
-pub passes : (doc keys : List ℕ) (a : Ans) (c : Cursor) → length doc ≤ limit → Checked deepest doc a → a ≡ Ok c → Logged deepest doc (replicate (suc most-keys) 0) keys
-    → Passed doc keys (c .row) (c .text)
+pub passes : (doc keys : List ℕ) (a : Ans) (c : Cursor) (m z : ℕ) → m ≡ spot (c .text) → z ≡ tally (c .text) → length doc ≤ limit → Checked deepest doc a → a ≡ Ok c → Logged deepest doc (replicate (suc most-keys) 0) keys
+    → Passed doc keys (c .row) m z
 unfolding Checked
-passes doc keys a c l x e w =
+passes doc keys a c m z p q l x e w =
     let g : Known deepest doc c = rw e at x in
     let d = accepts deepest doc (g .tree) (g .is) in
     let h = few-rows deepest doc (g .tree) d in
     record {
       log = record { tree = g .tree; short = l; word = d; kept = w .logged (g .tree) (g .is); few = few-noted deepest doc (g .tree) d };
       row = g .row;
-      text-count = g .text;
+      text-count = p ∙ g .text;
+      escape-count = q ∙ g .escapes;
       few = omega (arith, g .row);
     }
 
 -- ---- what `filled` shows, once the log has told the first repeated key
 
-module _ (doc keys : List ℕ) (n m : ℕ) (f : Passed doc keys n m) (a : Repeat) (h : Told doc a) (table text : List ℕ) where
-  counted : Counted doc n m a
+module _ (doc keys : List ℕ) (n m z : ℕ) (f : Passed doc keys n m z) (a : Repeat) (h : Told doc a) (table text : List ℕ) where
+  counted : Counted doc n m z a
   counted =
       let t = f .log .tree in
       let e : h .tree ≡ t = one-tree deepest doc (h .tree) t (h .word) (f .log .word) in
@@ -56,6 +59,7 @@ module _ (doc keys : List ℕ) (n m : ℕ) (f : Passed doc keys n m) (a : Repeat
         word = f .log .word;
         row = f .row;
         text-count = f .text-count;
+        escape-count = f .escape-count;
         names = subst (λ (u : Tree). Names (λ p. Repeats p u) a) e (h .names);
       }
 
@@ -74,3 +78,6 @@ module _ (doc keys : List ℕ) (n m : ℕ) (f : Passed doc keys n m) (a : Repeat
   filled-all e l k table′ text′ w =
       let z = w .filled (f .log .tree) (accepted deepest doc (f .log .tree) (f .log .word)) in
       counted-all counted table text e l k table′ text′ (z .0) (z .1)
+
+  pub filled-total : a ≡ Nowhere → Totals doc 0 z
+  filled-total e = counted-total counted e

@@ -1,7 +1,7 @@
 // Reads a document into the rooms lent.
 ghost use Prim.Native.Nat.{_≤_};
 ghost use lib.ListN.{length};
-ghost use Rattle.language.specs.Answered.{number, value, second, Answered, limit};
+ghost use Rattle.language.specs.Answered.{number, value, second, third, Answered, Totals, limit};
 ghost use Rattle.reader.specs.Filling.{few-bytes, some-bytes, Texted, Read, Attempted};
 ghost use Rattle.reader.specs.Lent.{Passed};
 use answers::answer;
@@ -47,7 +47,16 @@ fn attempt(
     let mut none = [0u32; 1];
     match pass(&*doc, rows, bytes, &mut none, DEEPEST) {
         Ans::No(p) => Tried::Settled(blame(&*doc, rows, bytes, p)),
-        Ans::Ok(c) => settled(&*doc, &*rows, &*bytes, c.row, c.text, table, text),
+        Ans::Ok(c) => settled(
+            &*doc,
+            &*rows,
+            &*bytes,
+            c.row,
+            c.spot(),
+            c.tally(),
+            table,
+            text,
+        ),
     }
 }
 
@@ -58,16 +67,17 @@ fn settled(
     bytes: &[u8],
     n: usize,
     m: usize,
+    escapes: usize,
     table: &mut [u32],
     text: &mut [u8],
 ) -> Tried
-    requires { ⌜ Read (now doc) (now rows) (now bytes) n m ⌝ }
+    requires { ⌜ Read (now doc) (now rows) (now bytes) n m escapes ⌝ }
     ensures { λ r. ⌜ Attempted (now (doc .entry)) (now (table .entry)) (now (text .entry)) r (now (table .exit)) (now (text .exit)) ⌝ }
 {
     if rows.len() < WIDTH * n {
         return Tried::TooFew;
     }
-    Tried::Settled(answer(&*doc, &*rows, &*bytes, n, m, table, text))
+    Tried::Settled(answer(&*doc, &*rows, &*bytes, n, m, escapes, table, text))
 }
 
 // The answer by rooms of our own for documents of few bytes, and of some.
@@ -89,17 +99,19 @@ fn of_some_bytes(doc: &[u8], table: &mut [u32], text: &mut [u8]) -> Tried
     attempt(&*doc, &mut rows, &mut bytes, table, text)
 }
 
-// The answer for a document of n rows and m text bytes whose keys are noted: it is read again, into the rooms lent.
+// The answer for a document of n rows, m text bytes and so many escapes whose keys are noted: it is read again, into the rooms lent.
 fn filled(
     doc: &[u8],
     keys: &mut [u32],
     n: usize,
     m: usize,
+    escapes: usize,
     table: &mut [u32],
     text: &mut [u8],
 ) -> Answer
-    requires { ⌜ Passed (now doc) (now keys) n m ⌝ }
+    requires { ⌜ Passed (now doc) (now keys) n m escapes ⌝ }
     ensures { λ r. ⌜ Answered (now (doc .entry)) (now (table .entry)) (now (text .entry)) (number r) (value r) (second r) (now (table .exit)) (now (text .exit)) ⌝ }
+    ensures { λ r. ⌜ Totals (now (doc .entry)) (number r) (third r) ⌝ }
 {
     match first_again(&*doc, &*keys) {
         Repeat::At(p) => {
@@ -114,18 +126,19 @@ fn filled(
         return Answer::Text(m);
     }
     pass(&*doc, table, text, &mut keys[..0], DEEPEST);
-    Answer::Accepted(Row(n), m)
+    Answer::Accepted(Row(n), m, escapes)
 }
 
 // The answer for any document: it is passed over first, and its keys are noted.
 fn of_many_bytes(doc: &[u8], table: &mut [u32], text: &mut [u8]) -> Answer
     requires { ⌜ length (now doc) ≤ limit ⌝ }
     ensures { λ r. ⌜ Answered (now (doc .entry)) (now (table .entry)) (now (text .entry)) (number r) (value r) (second r) (now (table .exit)) (now (text .exit)) ⌝ }
+    ensures { λ r. ⌜ Totals (now (doc .entry)) (number r) (third r) ⌝ }
 {
     let mut keys = [0u32; MOST + 1];
     match check(&*doc, table, text, &mut keys, DEEPEST) {
         Ans::No(p) => blame(&*doc, table, text, p),
-        Ans::Ok(c) => filled(&*doc, &mut keys, c.row, c.text, table, text),
+        Ans::Ok(c) => filled(&*doc, &mut keys, c.row, c.spot(), c.tally(), table, text),
     }
 }
 
@@ -160,6 +173,7 @@ fn dense(doc: &[u8]) -> bool
 fn by_class(doc: &[u8], table: &mut [u32], text: &mut [u8], class: usize) -> Answer
     requires { ⌜ length (now doc) ≤ limit ⌝ }
     ensures { λ r. ⌜ Answered (now (doc .entry)) (now (table .entry)) (now (text .entry)) (number r) (value r) (second r) (now (table .exit)) (now (text .exit)) ⌝ }
+    ensures { λ r. ⌜ Totals (now (doc .entry)) (number r) (third r) ⌝ }
 {
     let n = doc.len();
     match class {
@@ -188,6 +202,7 @@ fn by_class(doc: &[u8], table: &mut [u32], text: &mut [u8], class: usize) -> Ans
 // Reads a document into the rooms lent; a refusal leaves them as they came.
 pub fn read(doc: &[u8], table: &mut [u32], text: &mut [u8]) -> Answer
     ensures { λ r. ⌜ Answered (now (doc .entry)) (now (table .entry)) (now (text .entry)) (number r) (value r) (second r) (now (table .exit)) (now (text .exit)) ⌝ }
+    ensures { λ r. ⌜ Totals (now (doc .entry)) (number r) (third r) ⌝ }
 {
     if LIMIT < doc.len() {
         return Answer::Long;

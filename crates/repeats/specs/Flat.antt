@@ -107,7 +107,7 @@ mutual
       (in-split (flat r p t) (flats (r + size t) p ts) x)
 
   pub object : (r p : ℕ) (t : Tree) {q a : ℕ} {s : List ℕ} → In q a s (flat r p t) → (q ≡ p) ⊎ Below r (size t) q
-  object r p (leaf k a e s) x = inl (leaf-object k p a s (eqb k KEY) refl x .1)
+  object r p (leaf k a e s) x = inl (leaf-object k p a (s .bytes) (eqb k KEY) refl x .1)
   object r p (node k a e c ts) x = inr (within (objects (r + 1) r ts x))
     where
       within : {q : ℕ} → (q ≡ r) ⊎ Below (r + 1) (sizes ts) q → Below r (suc (sizes ts)) q

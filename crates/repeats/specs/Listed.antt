@@ -98,7 +98,7 @@ module _ (rows text : List ℕ) where
 
     -- THE ROWS OF A TREE name its keys
     pub listed-tree : (r p x : ℕ) (t : Tree) → Sound t → Stands rows (width * r) (rowsOf r p x t) → Stands text x (textOf t) → listed (size t) r rows text ≡ flat r p t
-    listed-tree r p x (leaf k a e s) sound-leaf h t = append-nil (keyRow rows text r) ∙ leaf-row r p x k a e s h t
+    listed-tree r p x (leaf k a e s) sound-leaf h t = append-nil (keyRow rows text r) ∙ leaf-row r p x k a e (s .bytes) h t
     listed-tree r p x (node k a e c ts) (sound-node n m) h t =
         let w = rowList k a e 0 c p (r + 1 + sizes ts) in
         let y : getD rows (width * r) 0 ≡ k = ap (λ (j : ℕ). getD rows j 0) (sym (add-zero (width * r))) ∙ stands-word rows (width * r) w 0 (omega arith) (stands-left rows (width * r) w (rowss (r + 1) r x ts) h) in

@@ -8,7 +8,7 @@ use native.Mathlib.Omega.{arith}
 use lib.Dec.{eqb}
 use Rattle.notation.specs.Class.{pick}
 use Rattle.language.specs.Kind.{KEY}
-use Rattle.language.specs.Tree.{Tree, leaf, node, Forest, none, more, size, sizes, Has, has-here, has-later, Repeats, inside, Repeated, again, below, beside}
+use Rattle.language.specs.Tree.{Decoded, Tree, leaf, node, Forest, none, more, size, sizes, Has, has-here, has-later, Repeats, inside, Repeated, again, below, beside}
 use Rattle.repeats.specs.Flat.{named, flat, flats, In, in-here, Twice, twice-here, twice-later, in-right, in-split, twice-left, twice-right, Split, in-first, in-second, across, twice-split, Below, leaf-object, either, object, objects}
 
 -- ---- from the tree to the list
@@ -38,11 +38,13 @@ in-has r p none l x = elim x [ ]
 in-has r p {s} {a} (more t ts) l x =
     either (λ y. child t y) (λ y. has-later (in-has (r + size t) p ts (omega arith) y)) (in-split (flat r p t) (flats (r + size t) p ts) x)
   where
-    own : (k b e : ℕ) (u : List ℕ) → (k ≡ KEY) × (p ≡ p) × (a ≡ b) × (s ≡ u) → Has s a (more (leaf k b e u) ts)
-    own k b e u h = subst (λ (i : ℕ). Has s a (more (leaf i b e u) ts)) (sym (h .0)) (subst (λ (i : ℕ). Has s a (more (leaf KEY i e u) ts)) (h .2) (subst (λ (v : List ℕ). Has s a (more (leaf KEY a e v) ts)) (h .3) has-here))
+    own : (k b e : ℕ) (u : Decoded) → (k ≡ KEY) × (p ≡ p) × (a ≡ b) × (s ≡ u .bytes) → Has s a (more (leaf k b e u) ts)
+    own k b e u h =
+        subst (λ (i : ℕ). Has s a (more (leaf i b e u) ts)) (sym (h .0))
+        (subst (λ (i : ℕ). Has s a (more (leaf KEY i e u) ts)) (h .2) (subst (λ (v : List ℕ). Has s a (more (leaf KEY a e (record { bytes = v; escapes = u .escapes })) ts)) (h .3) has-here))
 
     child : (t : Tree) → In p a s (flat r p t) → Has s a (more t ts)
-    child (leaf k b e u) y = own k b e u (leaf-object k p b u (eqb k KEY) refl y)
+    child (leaf k b e u) y = own k b e u (leaf-object k p b (u .bytes) (eqb k KEY) refl y)
     child (node k b e c us) y = absurd (no (objects (r + 1) r us y))
       where
         no : (p ≡ r) ⊎ Below (r + 1) (sizes us) p → ⊥
@@ -52,11 +54,11 @@ in-has r p {s} {a} (more t ts) l x =
 -- a key of a tree, and one of the same object and text behind the tree
 meet : (r p : ℕ) {q a i : ℕ} {s : List ℕ} (t : Tree) (ts : Forest) → p < r → In q a s (flat r p t) → In q i s (flats (r + size t) p ts) → Repeated i (more t ts)
 unfolding flat size
-meet r p {q} {a} {i} {s} (leaf k b e u) ts l x y = own (leaf-object k p b u (eqb k KEY) refl x)
+meet r p {q} {a} {i} {s} (leaf k b e u) ts l x y = own (leaf-object k p b (u .bytes) (eqb k KEY) refl x)
   where
-    own : (k ≡ KEY) × (q ≡ p) × (a ≡ b) × (s ≡ u) → Repeated i (more (leaf k b e u) ts)
+    own : (k ≡ KEY) × (q ≡ p) × (a ≡ b) × (s ≡ u .bytes) → Repeated i (more (leaf k b e u) ts)
     own h =
-        let z : Has u i ts = in-has (r + 1) p ts (omega arith) (rw (h .1, h .3) at y) in
+        let z : Has (u .bytes) i ts = in-has (r + 1) p ts (omega arith) (rw (h .1, h .3) at y) in
         subst (λ (j : ℕ). Repeated i (more (leaf j b e u) ts)) (sym (h .0)) (again z)
 meet r p {q} {a} {i} {s} (node k b e c us) ts l x y = absurd (no (object r p (node k b e c us) x) (objects (r + suc (sizes us)) p ts y))
   where
@@ -78,7 +80,7 @@ mutual
   unfolding flat
 
   pub twice-repeats : (r p : ℕ) {i : ℕ} (t : Tree) → p < r + 1 → Twice i (flat r p t) → Repeats i t
-  twice-repeats r p (leaf k a e s) l x = absurd (one-key k p a s (eqb k KEY) x)
+  twice-repeats r p (leaf k a e s) l x = absurd (one-key k p a (s .bytes) (eqb k KEY) x)
   twice-repeats r p (node k a e c ts) l x = inside (twice-repeated (r + 1) r ts (omega arith) x)
 
   pub twice-repeated : (r p : ℕ) {i : ℕ} (ts : Forest) → p < r → Twice i (flats r p ts) → Repeated i ts

@@ -8,7 +8,7 @@ use native.Mathlib.Decide.{decLt}
 use lib.ListN.{length, getD, take, drop, length-append, length-take}
 use lib.Seq.{sets, sets-eq, drop-at}
 use Rattle.language.specs.Kind.{KEY}
-use Rattle.language.specs.Tree.{Tree, leaf, node, Forest, none, more, width, size, sizes, textOf, textsOf, rowList, rowsOf, rowss, Repeats}
+use Rattle.language.specs.Tree.{Decoded, Tree, leaf, node, Forest, none, more, width, size, sizes, textOf, textsOf, rowList, rowsOf, rowss, Repeats}
 use Rattle.language.specs.Answered.{limit}
 use Rattle.spans.specs.Formed.{Sound, sound-leaf, sound-node, Sounds, sound-none, sound-more}
 use Rattle.rooms.specs.Forest.{length-rows}
@@ -35,10 +35,10 @@ module _ (rows text : List ℕ) where
     ordered : fromOf rows k ≤ toOf rows k
     fits : toOf rows k ≤ length text
 
-  leaf-within : (r p x k a e : ℕ) (s : List ℕ) → Stands rows (width * r) (rowsOf r p x (leaf k a e s)) → x + length s ≤ length text → kindOf rows r ≡ KEY → Within r
+  leaf-within : (r p x k a e : ℕ) (s : Decoded) → Stands rows (width * r) (rowsOf r p x (leaf k a e s)) → x + length (s .bytes) ≤ length text → kindOf rows r ≡ KEY → Within r
   unfolding rowsOf
   leaf-within r p x k a e s h l m =
-      let w = key-word rows text r p x k a e s (sym (leaf-kind rows text r p x k a e s h) ∙ m) h in
+      let w = key-word rows text r p x k a e (s .bytes) (sym (leaf-kind rows text r p x k a e (s .bytes) h) ∙ m) h in
       record { ordered = omega (arith, w 3 (omega arith), w 4 (omega arith)); fits = omega (arith, w 4 (omega arith)) }
 
   mutual

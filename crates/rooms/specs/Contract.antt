@@ -7,8 +7,9 @@ use lib.Seq.{sets}
 use Rattle.exact.specs.Out.{Out, ok, soft, bad}
 use Rattle.exact.specs.Lines.{reached}
 use Rattle.exact.specs.Place.{peek}
-use Rattle.language.specs.Tree.{Tree, after, width, size, textOf, rowsOf}
+use Rattle.language.specs.Tree.{Tree, after, width, size, textOf, escapesOf, rowsOf}
 use Rattle.language.specs.Answered.{limit, deepest}
+use Rattle.rooms.specs.Told.{spot, tally}
 use Rattle.rooms.specs.declared.Cursor.{Cursor}
 use Rattle.rooms.specs.declared.Step.{Step}
 use Rattle.rooms.specs.declared.Step.the-variants.{Byte, Over}
@@ -41,26 +42,29 @@ unfoldable pub Takes : List ℕ → Cursor → ℕ → Ans → Type 0
 Takes doc c b (Ok n) = (n ≡ onward c 1) × (b ≡ peek doc (c .at))
 Takes doc c b (No p) = (p ≡ c .at) × (peek doc (c .at) ≡ b → ⊥)
 
--- ASKED of a cursor: it stands in a document within the limit, and neither its row nor its text is ahead of it
+-- ASKED of a cursor: it stands in a document within the limit, and neither its row nor its text nor the escapes so far are ahead of it
 pub record Ready (doc : List ℕ) (c : Cursor) : Type 0 where
   pub small : length doc ≤ limit
   pub inside : c .at ≤ length doc
   pub fewRows : c .row ≤ c .at
-  pub fewText : c .text ≤ c .at
+  pub fewText : spot (c .text) ≤ c .at
+  pub fewEscapes : tally (c .text) ≤ c .at
 
 -- PROMISED of a tree read from the cursor c up to n: where n stands,
 pub record Span (doc : List ℕ) (c n : Cursor) (t : Tree) : Type 0 where
   pub ahead : c .at < n .at
   pub inside : n .at ≤ length doc
   pub row : n .row ≡ c .row + size t
-  pub text : n .text ≡ c .text + length (textOf t)
+  pub text : spot (n .text) ≡ spot (c .text) + length (textOf t)
+  pub escapes : tally (n .text) ≡ tally (c .text) + escapesOf t
   pub fewRows : c .at + size t ≤ n .at
   pub fewText : c .at + length (textOf t) ≤ n .at
+  pub fewEscapes : c .at + escapesOf t ≤ n .at
 
 -- and what the rooms hold, as far as they reach,
 pub record Filled (c : Cursor) (parent : ℕ) (t : Tree) (rows rows' text text' : List ℕ) : Type 0 where
-  pub table : rows' ≡ sets rows (width * c .row) (rowsOf (c .row) parent (c .text) t)
-  pub room : text' ≡ sets text (c .text) (textOf t)
+  pub table : rows' ≡ sets rows (width * c .row) (rowsOf (c .row) parent (spot (c .text)) t)
+  pub room : text' ≡ sets text (spot (c .text)) (textOf t)
 
 -- where the reader's answer o is that tree, and what is left from n on; what is longer stays viable up to far, 0 for nowhere
 pub record Taken (doc : List ℕ) (c : Cursor) (parent : ℕ) (o : Out Tree) (n : Cursor) (far : ℕ) (rows rows' text text' : List ℕ) : Type 0 where

@@ -17,7 +17,7 @@ mutual
   unfolding rowsOf size
 
   pub length-rows : (r p x : ℕ) (t : Tree) → length (rowsOf r p x t) ≡ width * size t
-  length-rows r p x (leaf k a e s) = leaf-length (leb k 3) (rowList k a e 0 0 p (r + 1)) (rowList k a e x (x + length s) p (r + 1)) refl refl
+  length-rows r p x (leaf k a e s) = leaf-length (leb k 3) (rowList k a e 0 0 p (r + 1)) (rowList k a e x (x + length (s .bytes)) p (r + 1)) refl refl
   length-rows r p x (node k a e c ts) = let h = length-rowss (r + 1) r x ts in omega arith
 
   pub length-rowss : (r p x : ℕ) (ts : Forest) → length (rowss r p x ts) ≡ width * sizes ts

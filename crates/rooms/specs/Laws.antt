@@ -15,7 +15,8 @@ use Rattle.exact.specs.Comb.{altR}
 use Rattle.exact.specs.Lines.{reached}
 use Rattle.exact.specs.Place.{peek, getD-any, alt-is, alt-not}
 use Rattle.language.specs.Kind.{TRUE}
-use Rattle.language.specs.Tree.{Tree, leaf, width, size, textOf, rowsOf, rowList}
+use Rattle.language.specs.Tree.{Decoded, unescaped, Tree, leaf, width, size, textOf, escapesOf, rowsOf, rowList}
+use Rattle.rooms.specs.Told.{ESCAPE, spot, tally, told, spot-on, tally-on}
 use Rattle.rooms.specs.declared.Cursor.{Cursor}
 use Rattle.rooms.specs.declared.Step.{Step}
 use Rattle.rooms.specs.declared.Step.the-variants.{Byte, Over}
@@ -139,28 +140,39 @@ module _ (doc : List ℕ) (c : Cursor) (p : ℕ) (o : Out Tree) (R R' T T' : Lis
 -- ---- a leaf, of a kind with a text and of one without
 
 module _ (doc : List ℕ) (c : Cursor) (p : ℕ) (o : Out Tree) (k e far : ℕ) (ahead : c .at < e) (inside : e ≤ length doc) (R R' T T' : List ℕ) where
-  pub leaf-text : (s : List ℕ) → o ≡ reached far (leaf k (c .at) e s) e (drop e doc) → TRUE < k → c .at + length s ≤ e
-      → R' ≡ sets R (width * c .row) (rowList k (c .at) e (c .text) (c .text + length s) p (c .row + 1)) → T' ≡ sets T (c .text) s
-      → Taken doc c p o (record { at = e; row = c .row + 1; text = c .text + length s }) far R R' T T'
-  unfolding size textOf rowsOf
-  leaf-text s h l f r t =
+  pub leaf-text : (s : Decoded) → Ready doc c → o ≡ reached far (leaf k (c .at) e s) e (drop e doc) → TRUE < k → c .at + length (s .bytes) ≤ e → c .at + s .escapes ≤ e
+      → R' ≡ sets R (width * c .row) (rowList k (c .at) e (spot (c .text)) (spot (c .text) + length (s .bytes)) p (c .row + 1)) → T' ≡ sets T (spot (c .text)) (s .bytes)
+      → Taken doc c p o (record { at = e; row = c .row + 1; text = c .text + told s }) far R R' T T'
+  unfolding size textOf escapesOf rowsOf
+  leaf-text s d h l f g r t =
       let z : leb k TRUE ≡ false = lt-leb k TRUE l in
+      let b : spot (c .text) + length (s .bytes) < ESCAPE = omega (arith, d .small, d .fewText) in
       record {
         tree = leaf k (c .at) e s;
         is = h;
-        span = record { ahead = ahead; inside = inside; row = refl; text = refl; fewRows = omega arith; fewText = f };
+        span =
+            record {
+              ahead = ahead;
+              inside = inside;
+              row = refl;
+              text = spot-on (c .text) (length (s .bytes)) (s .escapes) b;
+              escapes = tally-on (c .text) (length (s .bytes)) (s .escapes) b;
+              fewRows = omega arith;
+              fewText = f;
+              fewEscapes = g;
+            };
         filled = record { table = rw z r; room = t };
       }
 
-  pub leaf-bare : o ≡ reached far (leaf k (c .at) e []) e (drop e doc) → k ≤ TRUE → R' ≡ sets R (width * c .row) (rowList k (c .at) e 0 0 p (c .row + 1)) → T' ≡ T
+  pub leaf-bare : o ≡ reached far (leaf k (c .at) e (unescaped [])) e (drop e doc) → k ≤ TRUE → R' ≡ sets R (width * c .row) (rowList k (c .at) e 0 0 p (c .row + 1)) → T' ≡ T
       → Taken doc c p o (record { at = e; row = c .row + 1; text = c .text }) far R R' T T'
-  unfolding size textOf rowsOf
+  unfolding size textOf escapesOf rowsOf
   leaf-bare h l r t =
       let z : leb k TRUE ≡ true = le-leb k TRUE l in
       record {
-        tree = leaf k (c .at) e [];
+        tree = leaf k (c .at) e (unescaped []);
         is = h;
-        span = record { ahead = ahead; inside = inside; row = refl; text = sym (add-zero (c .text)); fewRows = omega arith; fewText = omega arith };
+        span = record { ahead = ahead; inside = inside; row = refl; text = sym (add-zero (spot (c .text))); escapes = sym (add-zero (tally (c .text))); fewRows = omega arith; fewText = omega arith; fewEscapes = omega arith };
         filled = record { table = rw z r; room = t };
       }
 

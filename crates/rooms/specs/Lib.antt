@@ -1,3 +1,4 @@
+pub mod Told
 pub mod Contract
 pub mod Stores
 pub mod Forest

@@ -7,11 +7,15 @@ ghost use lib.Seq.{sets, slice};
 ghost use Rattle.exact.specs.Place.{peek, common};
 ghost use Rattle.exact.specs.Block.{lead};
 ghost use Rattle.language.specs.Tree.{width, rowList};
+ghost use Rattle.rooms.specs.Told as told;
 ghost use Rattle.rooms.specs.Contract.{ample, Stepped, Takes, Small};
 use language::Kind;
 use language::WIDTH;
 
-// Where a reader stands: the byte, the row and the text byte that come next.
+// An escape in a cursor's text word; every text byte is below it.
+pub const ESCAPE: usize = 4294967296;
+
+// Where a reader stands: the byte and the row that come next, and the text byte that comes next with the escapes read so far, in one word.
 pub struct Cursor {
     pub at: usize,
     pub row: usize,
@@ -88,6 +92,20 @@ pub struct Words {
 }
 
 impl Cursor {
+    // The text byte that comes next.
+    pub fn spot(self) -> usize
+        ensures { λ r. ⌜ r ≡ told.spot (self .text) ⌝ }
+    {
+        self.text % ESCAPE
+    }
+
+    // The escapes read so far.
+    pub fn tally(self) -> usize
+        ensures { λ r. ⌜ r ≡ told.tally (self .text) ⌝ }
+    {
+        self.text / ESCAPE
+    }
+
     // The byte at the cursor, 256 at the end.
     pub fn look(self, doc: &[u8]) -> u32
         ensures { λ r. ⌜ r ≡ peek (now (doc .entry)) (self .at) ⌝ }

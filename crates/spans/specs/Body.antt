@@ -6,7 +6,7 @@ use native.Mathlib.Omega.{arith}
 use lib.ListN.{length}
 use Rattle.notation.specs.Lang.{Lang, Star, cat}
 use Rattle.language.specs.Kind.{STRING}
-use Rattle.language.specs.Tree.{leaf}
+use Rattle.language.specs.Tree.{unescaped, leaf}
 use Rattle.language.specs.BlockText.{Line, blank, line, Deeper, TextLine, BodyLine, hold, trim, lowest, spaces, unlines, bodyText, bodyEnd, OpenString, PropertyString}
 use Rattle.spans.specs.Every.{Every, InFront, ret-every, here-then, byte-then, bind-every, via, map-every, alt-every, star-every, indented-every}
 use Rattle.spans.specs.Formed.{Formed, formed-text}
@@ -85,16 +85,16 @@ body-every c at =
     at
 
 -- a block string: its leader's LF stands at e, and s is its text
-string-leaf : {a e at′ : ℕ} {ls : List Line} {s : List ℕ} → a < e → Body (suc e) ls at′ → suc a + length s ≤ at′ → Lies Formed 1 a (leaf STRING a (bodyEnd e ls) s) at′
+string-leaf : {a e at′ : ℕ} {ls : List Line} {s : List ℕ} → a < e → Body (suc e) ls at′ → suc a + length s ≤ at′ → Lies Formed 1 a (leaf STRING a (bodyEnd e ls) (unescaped s)) at′
 string-leaf {e = e} h x k =
     let b = x .begins e (omega arith) in
     let f = x .ends e (omega arith) in
     leaf-lies (formed-text (omega arith) (omega arith)) (omega arith) (omega arith) (omega arith) (omega arith)
 
-open-leaf : {a e at′ : ℕ} (t : List ℕ) {ls : List Line} → Fits (suc a) t e → Body (suc e) ls at′ → Lies Formed 1 a (leaf STRING a (bodyEnd e ls) (t ++ 10 ∷ bodyText ls)) at′
+open-leaf : {a e at′ : ℕ} (t : List ℕ) {ls : List Line} → Fits (suc a) t e → Body (suc e) ls at′ → Lies Formed 1 a (leaf STRING a (bodyEnd e ls) (unescaped (t ++ 10 ∷ bodyText ls))) at′
 open-leaf t {ls} h x = let f = x .fits in string-leaf (omega arith) x (omega (arith, joined t (10 ∷ bodyText ls), body-le ls))
 
-property-leaf : {a at′ : ℕ} {ls : List Line} → Body (suc (suc a)) ls at′ → Lies Formed 1 a (leaf STRING a (bodyEnd (suc a) ls) (bodyText ls)) at′
+property-leaf : {a at′ : ℕ} {ls : List Line} → Body (suc (suc a)) ls at′ → Lies Formed 1 a (leaf STRING a (bodyEnd (suc a) ls) (unescaped (bodyText ls))) at′
 property-leaf {ls = ls} x = let f = x .fits in string-leaf (omega arith) x (omega (arith, body-le ls))
 
 pub open-string-lies : (c at : ℕ) → Every (OpenString c) at (Lies Formed 1 at)

@@ -1,4 +1,4 @@
--- EVERY DOCUMENT'S TREE: its rows and its text are fewer than the document's bytes, its keys a fourth of them at most, its spans and its kinds are in their place. Assumes nothing.
+-- EVERY DOCUMENT'S TREE: its rows, and its text with its escapes, are fewer than the document's bytes, its keys a fourth of them at most, its spans and its kinds are in their place. Assumes nothing.
 use mathlib.Core.Path.{_≡_}
 use mathlib.Core.List.{List}
 use mathlib.Core.Logic.{inl}
@@ -7,7 +7,7 @@ use Prim.Native.Nat.{ℕ, zero, suc, _+_, _*_, _≤_, _<_}
 use native.Mathlib.Omega.{arith}
 use lib.ListN.{length}
 use Rattle.notation.specs.Lang.{End, end}
-use Rattle.language.specs.Tree.{Tree, leaf, node, Forest, first, after, size, textOf}
+use Rattle.language.specs.Tree.{Decoded, Tree, leaf, node, Forest, first, after, size, textOf, escapesOf}
 use Rattle.language.specs.Document.{RootLine, Root, Whole, Document}
 use Rattle.spans.specs.Every.{ret-every, byte-every, byte-then, bind-every, alt-every}
 use Rattle.spans.specs.Placed.{Placed, Child, Siblings, Within, Inside, span-some, child-inside, siblings-ordered, within-placed, within-inside}
@@ -52,6 +52,13 @@ module _ (k : ℕ) (doc : List ℕ) (t : Tree) (d : Document k doc t) where
   pub few-text : length (textOf t) < length doc
   few-text = let h = document-lies .text in omega arith
 
+  -- so are text and escapes together; and there are no more escapes than bytes
+  pub text-and-escapes : length (textOf t) + escapesOf t < length doc
+  text-and-escapes = let h = document-lies .text in omega arith
+
+  pub few-escapes : escapesOf t ≤ length doc
+  few-escapes = let h = text-and-escapes in omega arith
+
   -- four bytes or more belong to each key
   pub few-keys : 4 * keysIn t ≤ length doc
   few-keys = let h = document-lies .keys in omega arith
@@ -84,7 +91,7 @@ module _ (k : ℕ) (doc : List ℕ) (t : Tree) (d : Document k doc t) where
   containers w = either-contains (within-either (inl sound) w)
 
   -- and a leaf is of a kind from 1 to 7, with no text up to 3, or a key
-  pub leaves : {q a e : ℕ} {s : List ℕ} → Within (leaf q a e s) t → Tells s q
+  pub leaves : {q a e : ℕ} {s : Decoded} → Within (leaf q a e s) t → Tells s q
   leaves w = either-tells (within-either (inl sound) w)
 
   -- no container is a key

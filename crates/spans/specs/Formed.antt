@@ -1,17 +1,17 @@
 -- KINDS IN THEIR PLACE: what a tree of a value looks like, by its kinds, counts and texts (01, What the reader takes and gives). Assumes nothing.
 use mathlib.Core.Path.{_≡_, refl, ap}
-use mathlib.Core.List.{List, []}
+use mathlib.Core.List.{[]}
 use Prim.Native.Nat.{ℕ, suc, _+_, _≤_, _<_}
 use native.Mathlib.Omega.{arith}
 use Rattle.language.specs.Kind.{NULL, TRUE, INTEGER, BYTES, ARRAY, OBJECT, KEY}
-use Rattle.language.specs.Tree.{Tree, leaf, node, Forest, none, more}
+use Rattle.language.specs.Tree.{Decoded, unescaped, Tree, leaf, node, Forest, none, more}
 
--- Formed: null, false and true have no text; a number, a string or bytes has its text; an array has values, and an object pairs of a key and a value
+-- Formed: null, false and true have no text, and no escape; a number, a string or bytes has its text; an array has values, and an object pairs of a key and a value
 -- ("A key's row stands just before its value's row"), and its count is their number. So a key is no value, and no container is a key.
 mutual
   pub data Formed : Tree → Type 0 where
-    formed-word : {k a e : ℕ} → NULL ≤ k → k ≤ TRUE → Formed (leaf k a e [])
-    formed-text : {k a e : ℕ} {s : List ℕ} → INTEGER ≤ k → k ≤ BYTES → Formed (leaf k a e s)
+    formed-word : {k a e : ℕ} {s : Decoded} → NULL ≤ k → k ≤ TRUE → s ≡ unescaped [] → Formed (leaf k a e s)
+    formed-text : {k a e : ℕ} {s : Decoded} → INTEGER ≤ k → k ≤ BYTES → Formed (leaf k a e s)
     formed-array : {a e c : ℕ} {ts : Forest} → Elements c ts → Formed (node ARRAY a e c ts)
     formed-object : {a e c : ℕ} {ts : Forest} → Pairs c ts → Formed (node OBJECT a e c ts)
 
@@ -25,7 +25,7 @@ mutual
 
   -- a key
   pub data IsKey : Tree → Type 0 where
-    is-key : {a e : ℕ} {s : List ℕ} → IsKey (leaf KEY a e s)
+    is-key : {a e : ℕ} {s : Decoded} → IsKey (leaf KEY a e s)
 
 abbrev pub kindOf : Tree → ℕ
 kindOf (leaf k a e s) = k
@@ -33,7 +33,7 @@ kindOf (node k a e c ts) = k
 
 -- a value is no key
 pub no-key : {t : Tree} → Formed t → kindOf t < KEY
-no-key (formed-word h k) = omega arith
+no-key (formed-word h k l) = omega arith
 no-key (formed-text h k) = omega arith
 no-key (formed-array x) = omega arith
 no-key (formed-object x) = omega arith
@@ -54,7 +54,7 @@ pairs-count (pair x y z) = let h = pairs-count z in omega arith
 -- no container is a key
 mutual
   pub data Sound : Tree → Type 0 where
-    sound-leaf : {k a e : ℕ} {s : List ℕ} → Sound (leaf k a e s)
+    sound-leaf : {k a e : ℕ} {s : Decoded} → Sound (leaf k a e s)
     sound-node : {k a e c : ℕ} {ts : Forest} → (k ≡ KEY → ⊥) → Sounds ts → Sound (node k a e c ts)
 
   pub data Sounds : Forest → Type 0 where
@@ -72,7 +72,7 @@ object-no-key h = omega arith
 
 mutual
   pub formed-sound : {t : Tree} → Formed t → Sound t
-  formed-sound (formed-word h k) = sound-leaf
+  formed-sound (formed-word h k l) = sound-leaf
   formed-sound (formed-text h k) = sound-leaf
   formed-sound (formed-array x) = sound-node array-no-key (elements-sound x)
   formed-sound (formed-object x) = sound-node object-no-key (pairs-sound x)

@@ -26,7 +26,7 @@ unfoldable mutual
 -- a value is no key, and a key has none below it
 pub value-none : {t : Tree} → Formed t → isKey t ≡ 0
 unfolding isKey
-value-none (formed-word {k = k} h l) = rw (ne-eqb k KEY (λ e. omega arith)) refl
+value-none (formed-word {k = k} h l i) = rw (ne-eqb k KEY (λ e. omega arith)) refl
 value-none (formed-text {k = k} h l) = rw (ne-eqb k KEY (λ e. omega arith)) refl
 value-none (formed-array x) = refl
 value-none (formed-object x) = refl

@@ -1,10 +1,10 @@
 -- KINDS AT ANY DEPTH: what each container and each leaf of a value's tree is, and where keys stand. Assumes nothing.
 use mathlib.Core.Path.{_≡_, refl}
-use mathlib.Core.List.{List, []}
+use mathlib.Core.List.{[]}
 use mathlib.Core.Logic.{_⊎_, inl, inr}
 use Prim.Native.Nat.{ℕ, _≤_}
 use Rattle.language.specs.Kind.{NULL, TRUE, INTEGER, BYTES, ARRAY, OBJECT, KEY}
-use Rattle.language.specs.Tree.{Tree, leaf, node, Forest}
+use Rattle.language.specs.Tree.{Decoded, unescaped, Tree, leaf, node, Forest}
 use Rattle.spans.specs.Placed.{Among, Child, Within, among-first, among-later, child, itself, below}
 use Rattle.spans.specs.Formed.{Formed, Elements, Pairs, IsKey, formed-word, formed-text, formed-array, formed-object, element, pair, is-key}
 
@@ -54,19 +54,19 @@ pub either-contains : {k a e c : ℕ} {ts : Forest} → Either (node k a e c ts)
 either-contains (inl x) = formed-contains x
 either-contains (inr x) = absurd (key-childless x tt)
 
--- A LEAF is a value or a key; null, false and true have no text
-pub data Tells (s : List ℕ) (k : ℕ) : Type 0 where
-  word-of : NULL ≤ k → k ≤ TRUE → s ≡ [] → Tells s k
+-- A LEAF is a value or a key; null, false and true have no text, and no escape
+pub data Tells (s : Decoded) (k : ℕ) : Type 0 where
+  word-of : NULL ≤ k → k ≤ TRUE → s ≡ unescaped [] → Tells s k
   text-of : INTEGER ≤ k → k ≤ BYTES → Tells s k
   key-of : k ≡ KEY → Tells s k
 
-formed-tells : {k a e : ℕ} {s : List ℕ} → Formed (leaf k a e s) → Tells s k
-formed-tells (formed-word h l) = word-of h l refl
+formed-tells : {k a e : ℕ} {s : Decoded} → Formed (leaf k a e s) → Tells s k
+formed-tells (formed-word h l i) = word-of h l i
 formed-tells (formed-text h l) = text-of h l
 
-key-tells : {k a e : ℕ} {s : List ℕ} → IsKey (leaf k a e s) → Tells s k
+key-tells : {k a e : ℕ} {s : Decoded} → IsKey (leaf k a e s) → Tells s k
 key-tells is-key = key-of refl
 
-pub either-tells : {k a e : ℕ} {s : List ℕ} → Either (leaf k a e s) → Tells s k
+pub either-tells : {k a e : ℕ} {s : Decoded} → Either (leaf k a e s) → Tells s k
 either-tells (inl x) = formed-tells x
 either-tells (inr x) = key-tells x

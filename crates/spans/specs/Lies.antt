@@ -1,21 +1,21 @@
--- TREES IN THEIR BYTES: a tree that was read from the byte `at` up to the byte at′ has its span, its rows, its text and its keys there. Assumes nothing.
+-- TREES IN THEIR BYTES: a tree that was read from the byte `at` up to the byte at′ has its span, its rows, its text with its escapes, and its keys there. Assumes nothing.
 use mathlib.Core.List.{List, [], _∷_, _++_}
 use Prim.Native.Nat.{ℕ, suc, _+_, _*_, _≤_, _<_}
 use native.Mathlib.Omega.{arith}
 use lib.ListN.{length, length-append}
-use Rattle.language.specs.Tree.{Tree, leaf, node, Forest, forest, count, first, after, Field, field, fields, Entry, entry, entries, endOf, arrayTree, objectTree, blockArray, blockObject, size, sizes, textOf, textsOf}
+use Rattle.language.specs.Tree.{Decoded, Tree, leaf, node, Forest, forest, count, first, after, Field, field, fields, Entry, entry, entries, endOf, arrayTree, objectTree, blockArray, blockObject, size, sizes, textOf, textsOf, escapesOf, escapesIn}
 use Rattle.spans.specs.Placed.{Placed, Along, placed-leaf, placed-node, along-none, along-more, along-wide, along-end, along-le, end-le, span-some}
 use Rattle.spans.specs.Formed.{Formed, Elements, Pairs, IsKey, no-element, element, no-pair, pair, formed-array, formed-object}
 use Rattle.spans.specs.Keys.{keysIn, keysAmong, value-none, key-one}
 
--- its rows and its text are each fewer than the bytes, or as many, with so many bytes to spare; and each of its keys takes four bytes, beside `free` ones.
+-- its rows, and its text and its escapes together, are each fewer than the bytes, or as many, with so many bytes to spare; and each of its keys takes four bytes, beside `free` ones.
 -- F: what it is by its kinds
 pub record LiesIn (F : Tree → Type 0) (spare free at : ℕ) (t : Tree) (at′ : ℕ) : Type 0 where
   pub begins : at ≤ first t
   pub ends : after t ≤ at′
   pub placed : Placed t
   pub rows : spare + at + size t ≤ at′
-  pub text : spare + at + length (textOf t) ≤ at′
+  pub text : spare + at + (length (textOf t) + escapesOf t) ≤ at′
   pub keys : free + at + 4 * keysIn t ≤ at′
   pub formed : F t
 
@@ -27,7 +27,7 @@ Lies F n = LiesIn F n (suc n)
 pub record Lie (at : ℕ) (ts : List Tree) (at′ : ℕ) : Type 0 where
   pub along : Along at (forest ts) at′
   pub rows : at + sizes (forest ts) ≤ at′
-  pub text : at + length (textsOf (forest ts)) ≤ at′
+  pub text : at + (length (textsOf (forest ts)) + escapesIn (forest ts)) ≤ at′
   pub keys : at + 4 * keysAmong (forest ts) ≤ at′
 
 -- the elements of an array; the pairs of an object
@@ -81,17 +81,17 @@ lies-less x =
     record { begins = x .begins; ends = x .ends; placed = x .placed; rows = x .rows; text = x .text; keys = omega arith; formed = x .formed }
 
 -- a leaf whose span begins where it was read
-pub leaf-lies : {F : Tree → Type 0} {n k a e at′ : ℕ} {s : List ℕ} → F (leaf k a e s) → a < e → e ≤ at′ → n + suc a ≤ at′ → n + a + length s ≤ at′ → Lies F n a (leaf k a e s) at′
-unfolding size textOf keysIn
+pub leaf-lies : {F : Tree → Type 0} {n k a e at′ : ℕ} {s : Decoded} → F (leaf k a e s) → a < e → e ≤ at′ → n + suc a ≤ at′ → n + a + (length (s .bytes) + s .escapes) ≤ at′ → Lies F n a (leaf k a e s) at′
+unfolding size textOf escapesOf keysIn
 leaf-lies f h k l m = record { begins = omega arith; ends = k; placed = placed-leaf h; rows = omega arith; text = m; keys = omega arith; formed = f }
 
 pub lie-none : (at : ℕ) → Lie at [] at
-unfolding sizes textsOf keysAmong
+unfolding sizes textsOf escapesIn keysAmong
 lie-none at = record { along = along-none {a = at} {e = at} (omega arith); rows = omega arith; text = omega arith; keys = omega arith }
 
 -- one tree more in front, with the bytes of its keys
 lie-more : {F : Tree → Type 0} {n j a m b e : ℕ} {t : Tree} {ts : List Tree} → LiesIn F n j a t m → m ≤ b → Lie b ts e → a + 4 * keysAmong (forest (t ∷ ts)) ≤ e → Lie a (t ∷ ts) e
-unfolding sizes textsOf
+unfolding sizes textsOf escapesIn
 lie-more {a = a} {b = b} {e = e} {t = t} {ts = ts} x h y i =
     let p : a ≤ first t = x .begins in
     let q = x .ends in
@@ -122,8 +122,8 @@ pair-more {m = m} {b = b} x h y z = let l : m ≤ b = omega arith in lie-more x 
 
 -- a container
 node-lies : {n j k at a e c at′ : ℕ} {ts : Forest} → Formed (node k a e c ts) → at ≤ a → a < e → e ≤ at′ → Along a ts e
-    → n + suc at + sizes ts ≤ at′ → n + at + length (textsOf ts) ≤ at′ → j + at + 4 * keysAmong ts ≤ at′ → LiesIn Formed n j at (node k a e c ts) at′
-unfolding size textOf keysIn
+    → n + suc at + sizes ts ≤ at′ → n + at + (length (textsOf ts) + escapesIn ts) ≤ at′ → j + at + 4 * keysAmong ts ≤ at′ → LiesIn Formed n j at (node k a e c ts) at′
+unfolding size textOf escapesOf keysIn
 node-lies f b h k l x y z = record { begins = b; ends = k; placed = placed-node h l; rows = omega arith; text = y; keys = z; formed = f }
 
 -- inline, between brackets
@@ -145,7 +145,7 @@ inline-object-lies x = inline-lies (x .lie) (formed-object (x .all))
 
 -- a block array, from its first dash on
 pub block-array-lies : {a at′ : ℕ} {v : Tree} (es : List Entry) → ElementsLie (suc (suc a)) (v ∷ entries es) at′ → Lies Formed 1 a (blockArray (entry a v ∷ es)) at′
-unfolding sizes textsOf
+unfolding sizes textsOf escapesIn
 block-array-lies {a} {at′} {v} es x = by (x .lie .along)
   where
     by : Along (suc (suc a)) (forest (v ∷ entries es)) at′ → Lies Formed 1 a (blockArray (entry a v ∷ es)) at′
@@ -163,7 +163,7 @@ block-array-lies {a} {at′} {v} es x = by (x .lie .along)
 -- a block object, from its first key on; behind the key stand a colon and a space or an LF
 pub block-object-lies : {a m e at′ : ℕ} {k v : Tree} {fs : List Field} → Lies IsKey 0 a k m → Lies Formed 1 (suc (suc m)) v e → PairsLie e fs at′
     → LiesIn Formed 1 1 a (blockObject (field k v ∷ fs)) at′
-unfolding sizes textsOf
+unfolding sizes textsOf escapesIn
 block-object-lies {a} {m} {e} {at′} {k} {v} {fs} x y z =
     let ts = fields fs in
     let b : first k < after k = span-some (x .placed) in
@@ -175,11 +175,11 @@ block-object-lies {a} {m} {e} {at′} {k} {v} {fs} x y z =
     let n : Along (after k) (forest (v ∷ ts)) (endOf (after k) (v ∷ ts)) = along-end (v ∷ ts) g in
     let o = along-le n in
     let p : 0 + a + size k ≤ m = x .rows in
-    let q : 0 + a + length (textOf k) ≤ m = x .text in
+    let q : 0 + a + (length (textOf k) + escapesOf k) ≤ m = x .text in
     let r : 1 + suc (suc m) + size v ≤ e = y .rows in
-    let s : 1 + suc (suc m) + length (textOf v) ≤ e = y .text in
+    let s : 1 + suc (suc m) + (length (textOf v) + escapesOf v) ≤ e = y .text in
     let t : e + sizes (forest ts) ≤ at′ = z .lie .rows in
-    let u : e + length (textsOf (forest ts)) ≤ at′ = z .lie .text in
+    let u : e + (length (textsOf (forest ts)) + escapesIn (forest ts)) ≤ at′ = z .lie .text in
     let w = length-append (textOf k) (textOf v ++ textsOf (forest ts)) in
     let j = length-append (textOf v) (textsOf (forest ts)) in
     let f : suc (suc m) ≤ suc (suc m) = omega arith in

@@ -2,12 +2,12 @@
 use mathlib.Core.List.{List, [], _∷_}
 use Prim.Native.Nat.{ℕ, _≤_, _<_}
 use native.Mathlib.Omega.{arith}
-use Rattle.language.specs.Tree.{Tree, leaf, node, Forest, none, more, forest, first, after, endOf}
+use Rattle.language.specs.Tree.{Decoded, Tree, leaf, node, Forest, none, more, forest, first, after, endOf}
 
 -- Placed: a span is not empty, and a node's children lie one after another in its span. Along: trees lie so from the byte a up to the byte e
 mutual
   pub data Placed : Tree → Type 0 where
-    placed-leaf : {k a e : ℕ} {s : List ℕ} → a < e → Placed (leaf k a e s)
+    placed-leaf : {k a e : ℕ} {s : Decoded} → a < e → Placed (leaf k a e s)
     placed-node : {k a e c : ℕ} {ts : Forest} → a < e → Along a ts e → Placed (node k a e c ts)
 
   pub data Along : ℕ → Forest → ℕ → Type 0 where

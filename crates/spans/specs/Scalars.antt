@@ -1,4 +1,5 @@
 -- KEYWORDS AND NUMBERS in their bytes. Assumes nothing.
+use mathlib.Core.Path.{refl}
 use mathlib.Core.List.{List, [], _∷_, _++_}
 use mathlib.Core.Bool.{Bool, true, false}
 use Prim.Native.Nat.{ℕ, suc, _+_, _≤_, _<_}
@@ -7,20 +8,20 @@ use lib.ListN.{length}
 use lib.Dec.{eqb}
 use Rattle.notation.specs.Class.{Class, only, _to_}
 use Rattle.language.specs.Kind.{NULL, FALSE, TRUE, INTEGER, FLOAT}
-use Rattle.language.specs.Tree.{leaf}
+use Rattle.language.specs.Tree.{unescaped, leaf}
 use Rattle.language.specs.Scalars.{nullWord, trueWord, falseWord, nanWord, infinityWord, Keyword, Keywords, Further, Digits, One, plain, minus, signed, Integer, Pointed, Exponent, Float, Plain}
 use Rattle.spans.specs.Every.{Every, ret-every, here-then, byte-every, byte-then, bind-every, via, map-every, alt-every, word-then}
 use Rattle.spans.specs.Formed.{Formed, formed-word, formed-text}
 use Rattle.spans.specs.Lies.{Lies, leaf-lies}
 use Rattle.spans.specs.Texts.{Fits, Some, Steps, joined, star-fits, byte-steps, option-fits, pick-le}
 
-keyword-lies : (kind : ℕ) (word text : List ℕ) → 0 < length word → length text ≤ length word → ((a e : ℕ) → Formed (leaf kind a e text))
+keyword-lies : (kind : ℕ) (word text : List ℕ) → 0 < length word → length text ≤ length word → ((a e : ℕ) → Formed (leaf kind a e (unescaped text)))
     → (at : ℕ) → Every (Keyword kind word text) at (Lies Formed 0 at)
 keyword-lies kind word text h k f at =
     here-then (word-then word (λ m l. here-then (ret-every (leaf-lies (f at m) (omega arith) (omega arith) (omega arith) (omega arith)))))
 
 empty-lies : (kind : ℕ) (word : List ℕ) → 0 < length word → NULL ≤ kind → kind ≤ TRUE → (at : ℕ) → Every (Keyword kind word []) at (Lies Formed 0 at)
-empty-lies kind word h k l = keyword-lies kind word [] h (omega arith) (λ a e. formed-word k l)
+empty-lies kind word h k l = keyword-lies kind word [] h (omega arith) (λ a e. formed-word k l refl)
 
 float-word-lies : (word : List ℕ) → 0 < length word → (at : ℕ) → Every (Keyword FLOAT word word) at (Lies Formed 0 at)
 float-word-lies word h = keyword-lies FLOAT word word h (omega arith) (λ a e. formed-text (omega arith) (omega arith))
@@ -75,7 +76,7 @@ integer-lies spaced at =
     (option-fits at (one-fits (only 45) at))
     (λ m n h. bind-every (digits-some spaced n) (λ ds e k. here-then (ret-every (by m ds e h (k .0) (k .1))))))
   where
-    by : {n : ℕ} (m ds : List ℕ) (e : ℕ) → Fits at m n → Fits n ds e → n < e → Lies Formed 0 at (leaf INTEGER at e (signed m ds)) e
+    by : {n : ℕ} (m ds : List ℕ) (e : ℕ) → Fits at m n → Fits n ds e → n < e → Lies Formed 0 at (leaf INTEGER at e (unescaped (signed m ds))) e
     by m ds e h k l = let q = signed-le m ds in leaf-lies (formed-text (omega arith) (omega arith)) (omega arith) (omega arith) (omega arith) (omega arith)
 
 pointed-some : (spaced : Bool) (at : ℕ) → Every (Pointed spaced) at (Some at)
@@ -115,7 +116,7 @@ float-lies spaced at =
     two : {n m e : ℕ} (p x : List ℕ) → Fits n p m → n < m → Fits m x e → Some n (p ++ x) e
     two p x h k l = let y = joined p x in (omega arith, omega arith)
 
-    by : {n : ℕ} (m w : List ℕ) (e : ℕ) → Fits at m n → Fits n w e → n < e → Lies Formed 0 at (leaf FLOAT at e (m ++ w)) e
+    by : {n : ℕ} (m w : List ℕ) (e : ℕ) → Fits at m n → Fits n w e → n < e → Lies Formed 0 at (leaf FLOAT at e (unescaped (m ++ w))) e
     by m w e h k l = let q = joined m w in leaf-lies (formed-text (omega arith) (omega arith)) (omega arith) (omega arith) (omega arith) (omega arith)
 
 pub plain-lies : (spaced : Bool) (at : ℕ) → Every (Plain spaced) at (Lies Formed 0 at)

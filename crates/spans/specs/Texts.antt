@@ -1,4 +1,4 @@
--- TEXTS IN THEIR BYTES: a text that was read is not longer than the bytes it was read from. Characters, comments, and lists of what was read. Assumes nothing.
+-- TEXTS IN THEIR BYTES: a text that was read, with its escapes, is not longer than the bytes it was read from. Characters, comments, and lists of what was read. Assumes nothing.
 use mathlib.Core.Path.{_≡_, refl}
 use mathlib.Core.List.{List, [], _∷_, _++_}
 use mathlib.Core.Bool.{Bool, true, false}
@@ -7,11 +7,12 @@ use native.Mathlib.Omega.{arith}
 use lib.ListN.{length, length-append}
 use lib.Dec.{leb}
 use Rattle.notation.specs.Class.{pick, Class}
-use Rattle.notation.specs.Lang.{Lang, Byte, Star, Plus, cat}
+use Rattle.notation.specs.Lang.{Lang, Byte, Map, Star, Plus, cat}
+use Rattle.language.specs.Tree.{Decoded, unescaped, together}
 use Rattle.language.specs.Characters.{utf8, Char, char, Piece, Comment, Option, LineComment}
 use Rattle.spans.specs.Every.{Every, InFront, ret-every, byte-every, byte-then, bind-every, via, map-every, alt-every, star-every, plus-every, word-then}
 
--- the text s was read from `at` up to at′
+-- the bytes s were read from `at` up to at′
 abbrev pub Fits : ℕ → List ℕ → ℕ → Type 0
 Fits at s at′ = at + length s ≤ at′
 
@@ -22,6 +23,17 @@ Some at s at′ = Fits at s at′ × (at < at′)
 -- pieces, put together
 abbrev pub FitsAll : ℕ → List (List ℕ) → ℕ → Type 0
 FitsAll at ws at′ = at + length (cat ws) ≤ at′
+
+-- the decoded text s was: an escape is a byte longer than what it stands for, or more, so that the text's bytes and its escapes together are not more than the bytes read
+abbrev pub FitsText : ℕ → Decoded → ℕ → Type 0
+FitsText at s at′ = at + (length (s .bytes) + s .escapes) ≤ at′
+
+abbrev pub SomeText : ℕ → Decoded → ℕ → Type 0
+SomeText at s at′ = FitsText at s at′ × (at < at′)
+
+-- decoded texts, put together
+abbrev pub FitsTexts : ℕ → List Decoded → ℕ → Type 0
+FitsTexts at ss at′ = FitsText at (together ss) at′
 
 -- nothing but that places go on
 abbrev pub Goes : {X : Type 0} → ℕ → X → ℕ → Type 0
@@ -46,7 +58,7 @@ module _ {A : Lang ℕ} (g : (at : ℕ) → Every A at (Steps at)) where
   pub plus-some : (at : ℕ) → Every (Plus A) at (Some at)
   plus-some at = plus-every Fits star-fits (via (g at) (λ v m h vs at′ k. (omega arith, omega arith)))
 
--- texts, put together
+-- pieces, put together
 module _ {A : Lang (List ℕ)} (g : (at : ℕ) → Every A at (Fits at)) where
   cat-more : (at : ℕ) → Every A at (InFront FitsAll (FitsAll at))
   cat-more at = via (g at) (λ v m h vs at′ k. omega (arith, joined v (cat vs)))
@@ -56,6 +68,17 @@ module _ {A : Lang (List ℕ)} (g : (at : ℕ) → Every A at (Fits at)) where
 
   pub plus-cat : (at : ℕ) → Every (Plus A) at (FitsAll at)
   plus-cat at = plus-every FitsAll star-cat (cat-more at)
+
+-- bytes without escapes are a text as long as they are
+pub plain-fit : (at : ℕ) (s : List ℕ) {at′ : ℕ} → Fits at s at′ → FitsText at (unescaped s) at′
+plain-fit at s h = omega arith
+
+pub plain-fits : {A : Lang (List ℕ)} {at : ℕ} → Every A at (Fits at) → Every (Map unescaped A) at (FitsText at)
+plain-fits {at = at} g = map-every unescaped (via g (λ s m h. plain-fit at s h))
+
+-- decoded texts, put together
+pub star-together : {A : Lang Decoded} → ((at : ℕ) → Every A at (FitsText at)) → (at : ℕ) → Every (Star A) at (FitsTexts at)
+star-together g at = star-every FitsTexts (λ at. omega arith) (λ at. via (g at) (λ s m h ss at′ k. omega (arith, joined (s .bytes) (together ss .bytes)))) at
 
 pub byte-steps : {f : ℕ → Bool} (at : ℕ) → Every (Byte f) at (Steps at)
 byte-steps at = byte-every (λ b. omega arith)

@@ -16,6 +16,7 @@ use Rattle.exact.specs.Block.{lead}
 use Rattle.exact.specs.Place.{peek, peek-in, There, byte-there, none-there, there, alt-peek, byte-is, byte-not}
 use Rattle.language.specs.Kind.{BYTES}
 use Rattle.language.specs.Strings.{lowhex}
+use Rattle.language.specs.Tree.{Decoded, unescaped}
 use Rattle.rooms.specs.declared.Cursor.{Cursor}
 use Rattle.rooms.specs.declared.Ans.{Ans}
 use Rattle.rooms.specs.declared.Ans.the-variants.{Ok, No}
@@ -53,12 +54,12 @@ space-peek doc at = by (there doc at)
     by (byte-there p) = ap spaceNext p
     by (none-there p q) = ap spaceNext p ∙ sym (ap (is (only 32)) q)
 
-abbrev closeR : List ℕ → Reader (List ℕ)
-closeR bs = seqR (byteR (is (only 62))) λ _. retR bs
+abbrev closeR : List ℕ → Reader Decoded
+closeR bs = seqR (byteR (is (only 62))) λ _. retR (unescaped bs)
 
 -- ---- behind `<`
 
-abbrev innerR : Reader (List ℕ)
+abbrev innerR : Reader Decoded
 innerR = seqR (altR (is lowhex) insideR (retR [])) closeR
 
 module _ (doc : List ℕ) (n : Cursor) (b d : ℕ) (look : b ≡ peek doc (n .at)) (a : d ≡ digitOf lowhex b) where
@@ -79,9 +80,9 @@ module _ (doc : List ℕ) (n : Cursor) (b d : ℕ) (look : b ≡ peek doc (n .at
       let i = peek-in doc (n .at) 62 (h .1) (omega arith) in
       rw (h .0)
       (record {
-        value = [];
+        value = unescaped [];
         is = opened ∙ rw (low-none doc (n .at) d here z, byte-is doc (n .at) 62 62 (omega arith) (h .1) refl) refl;
-        spelt = record { ahead = omega arith; inside = omega arith; row = refl; end = sym (add-zero (n .text)); few = omega arith; room = refl };
+        spelt = record { ahead = omega arith; inside = omega arith; row = refl; end = sym (add-zero (n .text)); few = omega arith; scant = omega arith; room = refl };
       })
   inner-empty T (No p) z h = opened ∙ rw (low-none doc (n .at) d here z, byte-not doc (n .at) 62 (peek doc (n .at)) (omega arith) refl (h .1), h .0) refl
 
@@ -119,7 +120,7 @@ module _ (doc : List ℕ) (n : Cursor) (b d : ℕ) (look : b ≡ peek doc (n .at
           let y : is (only 32) (peek doc (m .at)) ≡ false = ap (is (only 32)) (sym (h .1)) in
           rw (h .0)
           (record {
-            value = t .value;
+            value = unescaped (t .value);
             is = ended ∙ rw (y, byte-is doc (m .at) 62 62 (omega arith) (h .1) refl) refl;
             spelt =
                 record {
@@ -128,6 +129,7 @@ module _ (doc : List ℕ) (n : Cursor) (b d : ℕ) (look : b ≡ peek doc (n .at
                   row = s .row;
                   end = s .end;
                   few = omega (arith, s .few);
+                  scant = omega (arith, s .scant);
                   room = s .room;
                 };
           })
@@ -167,8 +169,8 @@ module _ (doc : List ℕ) (c : Cursor) (p : ℕ) (a : Ans) (T T' : List ℕ) (h 
   unfolding inlineBytesR
   bytes-not R R' q e = spanned-bad BYTES angledR doc c p a T T' h R R' q e
 
-  pub bytes-taken : (R R' : List ℕ) (n m : Cursor) → a ≡ Ok n → Leafed c n p BYTES m R R' → Answers doc c p (inlineBytesR (c .at) (drop (c .at) doc)) (Ok m) R R' T T'
+  pub bytes-taken : (R R' : List ℕ) (n m : Cursor) → Ready doc c → a ≡ Ok n → Leafed c n p BYTES m R R' → Answers doc c p (inlineBytesR (c .at) (drop (c .at) doc)) (Ok m) R R' T T'
   unfolding inlineBytesR
-  bytes-taken R R' n m e f = spanned-read BYTES angledR doc c p a T T' h R R' n m (omega arith) e f
+  bytes-taken R R' n m ready e f = spanned-read BYTES angledR doc c p a T T' h R R' n m ready (omega arith) e f
 
 pub ruleset bytes = (text-close, bytes-not, bytes-taken, needs)

@@ -23,6 +23,10 @@ use Rattle.characters.specs.declared.Read.the-variants.{Scalar, Not}
 use Rattle.characters.specs.Reads.{ByteRead, byte-inside, byte-there, byte-next, Stands, ReadAt}
 use Rattle.characters.specs.Going.{low-stands}
 use Rattle.characters.specs.Plains.{Quote, double, single, plainOf, RunTo}
+use Rattle.language.specs.Tree.{unescaped, _then_}
+use Rattle.exact.specs.Comb.{mapR}
+use Rattle.exact.specs.Lang.{retR}
+use Rattle.strings.specs.Joining.{then-none, then-join}
 use Rattle.strings.specs.Plain.{char-plain, char-none}
 use Rattle.strings.specs.Quoted.{pieceS, escape-ll, singleEscape-ll}
 use Rattle.strings.specs.Rest.{rest-run, rest-at}
@@ -104,11 +108,11 @@ sides single =
 module _ (q : ℕ) (doc : List ℕ) (quote : Quote q) where
   -- the bytes from `at` up to e are read as they stand
   abbrev As : ℕ → ℕ → Type 0
-  As at e = leftR q at (drop at doc) ≡ fmap (slice at e doc ++_) (leftR q e (drop e doc))
+  As at e = leftR q at (drop at doc) ≡ fmap (unescaped (slice at e doc) then_) (leftR q e (drop e doc))
 
   as-join : (at e f : ℕ) → at ≤ e → e ≤ f → As at e → As e f → As at f
   as-join at e f h k x y =
-      x ∙ (ap (fmap (slice at e doc ++_)) y ∙ (fmap-join (slice at e doc) (slice e f doc) (leftR q f (drop f doc)) ∙ ap (λ v. fmap (v ++_) (leftR q f (drop f doc))) (slice-join at e f doc h k)))
+      x ∙ (ap (fmap (unescaped (slice at e doc) then_)) y ∙ (then-join (unescaped (slice at e doc)) (unescaped (slice e f doc)) (leftR q f (drop f doc)) ∙ ap (λ v. fmap (unescaped v then_) (leftR q f (drop f doc))) (slice-join at e f doc h k)))
 
   as-run : (at e : ℕ) → RunTo (plainOf q) doc at e → As at e
   as-run at e r = rw (r .is) (rest-run q (escapesR q) (plainOf q) (sides quote .tame) (sides quote .low) (sides quote .dark) doc at)
@@ -124,13 +128,14 @@ module _ (q : ℕ) (doc : List ℕ) (quote : Quote q) where
 
   as-char : (e v n : ℕ) → Char (plainOf q) doc e v n → As e n
   as-char e v n w =
-      let o : specialR q e (drop e doc) ≡ ok (utf8 v) n (drop n doc) =
-      alt-not doc e 92 (peek doc e) (omega arith) refl (escapesR q) (charR (plainOf q)) (begins-not e v n 92 w (omega arith) (sides quote .no-back)) ∙ w .is in
+      let o : specialR q e (drop e doc) ≡ ok (unescaped (utf8 v)) n (drop n doc) =
+      alt-not doc e 92 (peek doc e) (omega arith) refl (escapesR q) (mapR unescaped (charR (plainOf q))) (begins-not e v n 92 w (omega arith) (sides quote .no-back))
+      ∙ ap (λ r. bind r (λ s. retR (unescaped s))) (w .is) in
       rest-at q (escapesR q) (plainOf q) (sides quote .tame) doc e (begins-not e v n q w (sides quote .small) (sides quote .no-quote))
-      ∙ (ap (λ r. bind r (λ v a t. fmap (v ++_) (leftR q a t))) o ∙ ap (λ v. fmap (v ++_) (leftR q n (drop n doc))) (sym (w .bytes)))
+      ∙ (ap (λ r. bind r (λ v a t. fmap (v then_) (leftR q a t))) o ∙ ap (λ v. fmap (unescaped v then_) (leftR q n (drop n doc))) (sym (w .bytes)))
 
   pub clean-first : (e : ℕ) → e ≤ length doc → CleanUpto q doc e e
-  clean-first e l = record { reads = rw (slice-empty e doc) (sym (fmap-none (leftR q e (drop e doc)))); from = omega arith; inside = l }
+  clean-first e l = record { reads = rw (slice-empty e doc) (sym (then-none (leftR q e (drop e doc)))); from = omega arith; inside = l }
 
   -- where no character stands, no plain byte does
   plain-not : (e p : ℕ) → charR (plainOf q) e (drop e doc) ≡ bad p → is (plainOf q) (peek doc e) ≡ false

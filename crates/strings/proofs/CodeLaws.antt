@@ -37,7 +37,7 @@ bound-least (suc (suc (suc (suc zero)))) l = omega arith
 bound-least (suc (suc (suc (suc (suc zero))))) l = omega arith
 bound-least (suc (suc (suc (suc (suc (suc n)))))) l = absurd (omega arith)
 
-utf8-most : (v : ℕ) → length (utf8 v) ≤ 4
+pub utf8-most : (v : ℕ) → length (utf8 v) ≤ 4
 utf8-most v = by (leb v 127) (leb v 2047) (leb v 65535)
   where
     by : (x y z : Bool) → length (pick x (v ∷ []) (pick y ((192 + v / 64) ∷ (128 + v % 64) ∷ []) (pick z ((224 + v / 4096) ∷ (128 + v / 64 % 64) ∷ (128 + v % 64) ∷ []) ((240 + v / 262144) ∷ (128 + v / 4096 % 64) ∷ (128 + v / 64 % 64) ∷ (128 + v % 64) ∷ [])))) ≤ 4

@@ -3,7 +3,7 @@ use mathlib.Core.Path.{_≡_, refl, sym, _∙_}
 use mathlib.Core.List.{List, [], _∷_}
 use mathlib.Core.Logic.{_⊎_, inl, inr}
 use mathlib.Core.Bool.{Bool, true, false}
-use Prim.Native.Nat.{ℕ, suc, _+_, _<_}
+use Prim.Native.Nat.{ℕ, suc, _+_, _<_, _-_, _≤_, _^_}
 use native.Mathlib.Numerals.{add-one}
 use native.Mathlib.Omega.{arith}
 use lib.ListN.{drop, set}
@@ -21,6 +21,8 @@ use Rattle.characters.specs.declared.Reading.{Reading}
 use Rattle.characters.specs.declared.Skip.{Skip}
 use Rattle.characters.specs.declared.Skip.the-variants.{End, Bad}
 use Rattle.characters.specs.Reads.{Skips, ends-of, bad-of}
+use Rattle.language.specs.Tree.{Decoded, escaped}
+use Rattle.rooms.specs.Told.{ESCAPE, spot}
 use Rattle.rooms.specs.declared.Cursor.{Cursor}
 use Rattle.rooms.specs.declared.Step.{Step}
 use Rattle.rooms.specs.declared.Step.the-variants.{Byte, Over}
@@ -33,7 +35,8 @@ use Rattle.strings.specs.declared.escapes.Coded.the-variants.{Named, Unn
 use Rattle.strings.specs.Code.{codeR}
 use Rattle.strings.specs.Quoted.{letterR, bracedR, codedR, behindR, escapeR}
 use Rattle.strings.specs.Contract.{lettering, Letter, Naming, CodeAt, Stored, Texts}
-use Rattle.strings.proofs.TextLaws.{text-refused, spelling, front-not, front-ready, front-read}
+use Rattle.strings.proofs.CodeLaws.{utf8-most}
+use Rattle.strings.proofs.TextLaws.{text-refused, spelling, front-not, front-ready, front-read, escape-fits, escape-adds}
 
 -- ---- behind the backslash
 
@@ -84,17 +87,17 @@ module _ (doc : List ℕ) (c : Cursor) where
       here : b ≡ peek doc (c .at)
       here = step-byte doc c t h b n e
 
-      pub letter-read : (T T' : List ℕ) → (r ≡ 256 → ⊥) → T' ≡ set T (c .text) r → Behind (Ok (record { at = n .at; row = c .row; text = c .text + 1 })) T T'
-      letter-read T T' m k = by (lettered-of b)
+      pub letter-read : (x : ℕ) (T T' : List ℕ) → (r ≡ 256 → ⊥) → x ≡ spot (c .text) → T' ≡ set T x r → Behind (Ok (record { at = n .at; row = c .row; text = c .text + ESCAPE + 1 })) T T'
+      letter-read p T T' m q k = by (lettered-of b)
         where
-          by : Lettered b → Behind (Ok (record { at = n .at; row = c .row; text = c .text + 1 })) T T'
+          by : Lettered b → Behind (Ok (record { at = n .at; row = c .row; text = c .text + ESCAPE + 1 })) T T'
           by (no-letter x y) = absurd (m (l .is ∙ y))
           by (letter x y) =
               let i = step-inside doc c t h b n e in
               let z : r ≡ standsFor b = l .is ∙ y in
-              let f : letterR (c .at) (drop (c .at) doc) ≡ ok (standsFor b ∷ []) (suc (c .at)) (drop (suc (c .at)) doc) = rw (byte-peek doc (c .at) lettered refl, ← here, x) refl in
+              let f : letterR (c .at) (drop (c .at) doc) ≡ ok (escaped (standsFor b ∷ [])) (suc (c .at)) (drop (suc (c .at)) doc) = rw (byte-peek doc (c .at) lettered refl, ← here, x) refl in
               rw (step-next doc c t h b n e)
-              (spelling doc c _ T T' (r ∷ []) (c .at + 1) (c .text + 1) (choice ∙ rw (← here, x, f, ← z, add-one) refl) (omega arith) (omega arith) refl (omega arith) k)
+              (spelling doc c _ T T' (escaped (r ∷ [])) (c .at + 1) (c .text + ESCAPE + 1) (choice ∙ rw (← here, x, f, ← z, add-one) refl) (omega arith) (omega arith) (omega arith) (omega arith) (omega arith) (rw q at k))
 
       pub letter-none : (a : Ans) (T T' : List ℕ) → r ≡ 256 → Texts doc c (codedR (c .at) (drop (c .at) doc)) a T T' → Behind a T T'
       letter-none a T T' z k = by (lettered-of b)
@@ -103,7 +106,7 @@ module _ (doc : List ℕ) (c : Cursor) where
           by (no-letter x y) = rw (choice, ← here, x) k
           by (letter x y) = absurd (let f = letter-low b x in let g : 256 ≡ standsFor b = sym z ∙ (l .is ∙ y) in omega arith)
 
-pub ruleset lettering-on = (letter-over, letter-read, letter-none, needs)
+pub ruleset lettering-on = (letter-over, letter-read, letter-none, escape-fits, escape-adds, needs)
 
 -- ---- `u{..}`
 
@@ -127,13 +130,20 @@ module _ (doc : List ℕ) (c : Cursor) (r : Coded) (code : CodeAt doc (c .at) r)
       pub coded-open : (T : List ℕ) (p : ℕ) → s ≡ Bad p → Braced (No p) T T
       coded-open T p e = text-refused doc c _ T T p (rw (naming .is, bad-of doc (m .at) _ s p e shut) refl)
 
-      pub coded-read : (e x : ℕ) (T T' : List ℕ) → s ≡ End e → Stored T T' (c .text) v x → Braced (Ok (record { at = e; row = c .row; text = x })) T T'
-      coded-read e x T T' k t =
-          let z = ends-of doc (m .at) _ s e k shut in
-          spelling doc c _ T T' (utf8 v) e x (rw (naming .is, z .is, naming .number) refl)
-          (omega (arith, naming .ahead, z .behind)) (z .inside) (t .end) (omega (arith, naming .few, z .behind)) (t .room)
+      -- a scalar value has a few bytes
+      pub coded-more : (x from : ℕ) (T T' : List ℕ) → Stored T T' from v x → from ≤ x
+      coded-more x from T T' t = omega (arith, t .end)
 
-pub ruleset bracing = (coded-bad, coded-top, coded-open, coded-read, needs)
+      pub coded-fits : (x from : ℕ) (T T' : List ℕ) → Ready doc c → Stored T T' from v x → c .text + ESCAPE + (x - from) < 2 ^ 64
+      coded-fits x from T T' ready t = escape-adds doc c ready (x - from) (omega (arith, t .end, utf8-most v))
+
+      pub coded-read : (e x : ℕ) (T T' : List ℕ) → s ≡ End e → (from : ℕ) → from ≡ spot (c .text) → Stored T T' from v x → Braced (Ok (record { at = e; row = c .row; text = c .text + ESCAPE + (x - from) })) T T'
+      coded-read e x T T' k from y t =
+          let z = ends-of doc (m .at) _ s e k shut in
+          spelling doc c _ T T' (escaped (utf8 v)) e (c .text + ESCAPE + (x - from)) (rw (naming .is, z .is, naming .number) refl)
+          (omega (arith, naming .ahead, z .behind)) (z .inside) (omega (arith, t .end)) (omega (arith, naming .few, z .behind)) (omega (arith, naming .ahead, z .behind)) (rw y at (t .room))
+
+pub ruleset bracing = (coded-bad, coded-top, coded-open, coded-more, coded-fits, coded-read, escape-fits, needs)
 
 -- ---- a backslash, `u` and `{`
 
@@ -153,7 +163,7 @@ module _ (doc : List ℕ) (c : Cursor) (t : Ans) where
 pub ruleset escapes = (escape-not, escape-on, back-ready, needs)
 
 -- `u{` is `u`, and then `{`
-abbrev openR : Reader (List ℕ)
+abbrev openR : Reader Decoded
 openR = seqR (byteR (is (only 123))) λ _. bracedR
 
 word-as : (at : ℕ) (s : List ℕ) → codedR at s ≡ seqR (byteR (is (only 117))) (λ _. openR) at s

@@ -14,6 +14,8 @@ use Rattle.exact.specs.Comb.{seqR}
 use Rattle.exact.specs.Block.{lead}
 use Rattle.exact.specs.Place.{peek, There, byte-there, none-there, there, byte-peek, alt-peek, byte-is}
 use Rattle.language.specs.Strings.{lowhex, hexval}
+use Rattle.language.specs.Tree.{unescaped}
+use Rattle.rooms.specs.Told.{spot}
 use Rattle.rooms.specs.declared.Cursor.{Cursor}
 use Rattle.rooms.specs.declared.Ans.{Ans}
 use Rattle.rooms.specs.declared.Ans.the-variants.{Ok, No}
@@ -27,7 +29,7 @@ use Rattle.strings.specs.Bytes.{pairR, furtherR, digitNext, pairsOn}
 use Rattle.strings.specs.Contract.{digitOf, DigitAt, Digited, DigitRead, Texts}
 use Rattle.strings.specs.Hexes.{pairTextR, Furthers}
 use Rattle.strings.proofs.DigitLaws.{digit-is, digit-none, low-at, digited, undigited, class-in}
-use Rattle.strings.proofs.TextLaws.{text-refused, spelling}
+use Rattle.strings.proofs.TextLaws.{text-adds, text-refused, spelling}
 
 -- ---- a digit at a place
 
@@ -60,7 +62,7 @@ module _ (doc : List ℕ) (c : Cursor) (r : Digit) (high : DigitRead lowhex doc 
     first = rw (byte-peek doc (c .at) lowhex refl, x .digit, x .value, x .next, add-one) refl
 
     pub pair-half : (T : List ℕ) → s ≡ None → Pair (No (m .at)) T T
-    pair-half T k = text-refused doc c _ T T (m .at) (ap (fmap (_∷ [])) first ∙ rw (byte-peek doc (m .at) lowhex refl, undigited lowhex doc (m .at) s low k) refl)
+    pair-half T k = text-refused doc c _ T T (m .at) (ap (fmap (λ p. unescaped (p ∷ []))) first ∙ rw (byte-peek doc (m .at) lowhex refl, undigited lowhex doc (m .at) s low k) refl)
 
     module _ (l : ℕ) (n : Reading) (k : s ≡ Of l n) where
       y : Digited lowhex doc (m .at) l (n .at)
@@ -72,15 +74,15 @@ module _ (doc : List ℕ) (c : Cursor) (r : Digit) (high : DigitRead lowhex doc 
       pub pair-fits : 16 * h + l < 2 ^ 32
       pair-fits = omega (arith, pair-byte)
 
-      pub pair-read : (T T' : List ℕ) → T' ≡ set T (c .text) (16 * h + l) → Pair (Ok (record { at = n .at; row = c .row; text = c .text + 1 })) T T'
-      pair-read T T' t =
+      pub pair-read : (x : ℕ) (T T' : List ℕ) → x ≡ spot (c .text) → T' ≡ set T x (16 * h + l) → Pair (Ok (record { at = n .at; row = c .row; text = c .text + 1 })) T T'
+      pair-read p T T' q t =
           let i = class-in lowhex doc (m .at) refl (y .digit) in
           let z : suc (m .at) ≡ n .at = omega (arith, y .next) in
-          spelling doc c _ T T' ((16 * h + l) ∷ []) (n .at) (c .text + 1)
-          (ap (fmap (_∷ [])) first ∙ rw (byte-peek doc (m .at) lowhex refl, y .digit, y .value, z) refl)
-          (omega (arith, x .next, y .next)) (omega (arith, y .next)) refl (omega (arith, x .next, y .next)) t
+          spelling doc c _ T T' (unescaped ((16 * h + l) ∷ [])) (n .at) (c .text + 1)
+          (ap (fmap (λ p. unescaped (p ∷ []))) first ∙ rw (byte-peek doc (m .at) lowhex refl, y .digit, y .value, z) refl)
+          (omega (arith, x .next, y .next)) (omega (arith, y .next)) (omega arith) (omega (arith, x .next, y .next)) (omega (arith, x .next, y .next)) (rw q at t)
 
-pub ruleset pairing = (pair-none, pair-times, pair-half, pair-byte, pair-fits, pair-read, needs)
+pub ruleset pairing = (pair-none, pair-times, pair-half, pair-byte, pair-fits, pair-read, text-adds, needs)
 
 -- ---- what follows a pair
 

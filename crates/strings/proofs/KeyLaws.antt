@@ -9,10 +9,13 @@ use lib.ListN.{length, drop}
 use lib.Seq.{slice, slice-cons, length-slice}
 use borrow.Author.Needs.{needs}
 use Rattle.exact.specs.Class.{is}
-use Rattle.exact.specs.Out.{ok}
+use Rattle.exact.specs.Out.{ok, bind}
 use Rattle.exact.specs.Place.{peek, byte-peek, alt-peek, runEnd, run-end, run-more}
 use Rattle.language.specs.Kind.{KEY}
 use Rattle.language.specs.Strings.{keybyte}
+use Rattle.language.specs.Tree.{unescaped}
+use Rattle.exact.specs.Lang.{retR}
+use Rattle.exact.specs.Comb.{mapR}
 use Rattle.rooms.specs.declared.Cursor.{Cursor}
 use Rattle.rooms.specs.declared.Ans.{Ans}
 use Rattle.rooms.specs.declared.Ans.the-variants.{Ok, No}
@@ -28,13 +31,13 @@ use Rattle.strings.proofs.LeafLaws.{text-close, spanned-bad, spanned-re
 -- ---- a bare key
 
 module _ (doc : List ℕ) (c : Cursor) (ready : Ready doc c) (b : ℕ) (look : b ≡ peek doc (c .at)) (x : Bool) (k : x ≡ is keybyte b) where
-  named : x ≡ true → nameR (c .at) (drop (c .at) doc) ≡ bareR (c .at) (drop (c .at) doc)
+  named : x ≡ true → nameR (c .at) (drop (c .at) doc) ≡ mapR unescaped bareR (c .at) (drop (c .at) doc)
   unfolding nameR
-  named t = alt-peek doc (c .at) keybyte refl bareR quotedR ∙ rw (← look, ← k, t) refl
+  named t = alt-peek doc (c .at) keybyte refl (mapR unescaped bareR) quotedR ∙ rw (← look, ← k, t) refl
 
   unnamed : x ≡ false → nameR (c .at) (drop (c .at) doc) ≡ quotedR (c .at) (drop (c .at) doc)
   unfolding nameR
-  unnamed t = alt-peek doc (c .at) keybyte refl bareR quotedR ∙ rw (← look, ← k, t) refl
+  unnamed t = alt-peek doc (c .at) keybyte refl (mapR unescaped bareR) quotedR ∙ rw (← look, ← k, t) refl
 
   module _ (n : Cursor) (T T' : List ℕ) (cop : Copied (RunTo keybyte) doc c n T T') (t : x ≡ true) where
     bare-key : (c .at < n .at) × (bareR (c .at) (drop (c .at) doc) ≡ ok (slice (c .at) (n .at) doc) (n .at) (drop (n .at) doc))
@@ -52,8 +55,8 @@ module _ (doc : List ℕ) (c : Cursor) (ready : Ready doc c) (b : ℕ) (look : b
     bare-text =
         let l : length (slice (c .at) (n .at) doc) ≡ n .at - c .at = length-slice (c .at) (n .at) doc (cop .run .inside) in
         record {
-          value = slice (c .at) (n .at) doc;
-          is = named t ∙ bare-key .1;
+          value = unescaped (slice (c .at) (n .at) doc);
+          is = named t ∙ ap (λ o. bind o (λ s. retR (unescaped s))) (bare-key .1);
           spelt =
               record {
                 ahead = bare-key .0;
@@ -61,6 +64,7 @@ module _ (doc : List ℕ) (c : Cursor) (ready : Ready doc c) (b : ℕ) (look : b
                 row = cop .row;
                 end = omega (arith, cop .end);
                 few = omega (arith, cop .run .from);
+                scant = omega (arith, cop .run .from);
                 room = cop .room;
               };
         }
@@ -70,7 +74,7 @@ module _ (doc : List ℕ) (c : Cursor) (ready : Ready doc c) (b : ℕ) (look : b
 
     pub bare-read : (p : ℕ) (R R' : List ℕ) (m : Cursor) → Leafed c n p KEY m R R' → Answers doc c p (keyR (c .at) (drop (c .at) doc)) (Ok m) R R' T T'
     unfolding keyR
-    bare-read p R R' m f = spanned-read KEY nameR doc c p (Ok n) T T' bare-text R R' n m (omega arith) refl f
+    bare-read p R R' m f = spanned-read KEY nameR doc c p (Ok n) T T' bare-text R R' n m ready (omega arith) refl f
 
   -- ---- a quoted key
 
@@ -84,6 +88,6 @@ module _ (doc : List ℕ) (c : Cursor) (ready : Ready doc c) (b : ℕ) (look : b
 
     pub key-read : (R R' : List ℕ) (n m : Cursor) → a ≡ Ok n → Leafed c n p KEY m R R' → Answers doc c p (keyR (c .at) (drop (c .at) doc)) (Ok m) R R' T T'
     unfolding keyR
-    key-read R R' n m e f = spanned-read KEY nameR doc c p a T T' name-text R R' n m (omega arith) e f
+    key-read R R' n m e f = spanned-read KEY nameR doc c p a T T' name-text R R' n m ready (omega arith) e f
 
 pub ruleset keys = (bare-close, bare-read, text-close, key-not, key-read, needs)

@@ -11,7 +11,8 @@ use Rattle.exact.specs.Out.{Out, bind, Reader}
 use Rattle.exact.specs.Lang.{retR}
 use Rattle.exact.specs.Place.{peek, alt-is, alt-not}
 use Rattle.language.specs.Kind.{TRUE, STRING}
-use Rattle.language.specs.Tree.{leaf, width, rowList}
+use Rattle.language.specs.Tree.{Decoded, leaf, width, rowList}
+use Rattle.rooms.specs.Told.{spot, told}
 use Rattle.rooms.specs.declared.Cursor.{Cursor}
 use Rattle.rooms.specs.declared.Words.{Words}
 use Rattle.rooms.specs.declared.Ans.{Ans}
@@ -23,7 +24,7 @@ use Rattle.strings.specs.Spans.{spannedR}
 use Rattle.strings.specs.Quoted.{doubleR, singleR, quotedR, stringR}
 use Rattle.strings.specs.Inside.{textR, Close, Leafed}
 use Rattle.strings.specs.Contract.{Texts}
-use Rattle.strings.proofs.TextLaws.{text-taken, text-refusal}
+use Rattle.strings.proofs.TextLaws.{text-taken, text-refusal, spelt-spot}
 
 -- ---- either quote
 
@@ -46,17 +47,17 @@ pub ruleset quotes = (is-double, is-single, via-double-quote, via-single-quote, 
 
 -- ---- a row
 
-pub leafed : (c n : Cursor) (p k : ℕ) (w : Words) (R R' : List ℕ) → w ≡ record { kind = k; first = c .at; after = n .at; from = c .text; to = n .text; parent = p; next = c .row + 1 }
+pub leafed : (c n : Cursor) (p k : ℕ) (x y : ℕ) (w : Words) (R R' : List ℕ) → x ≡ spot (c .text) → y ≡ spot (n .text) → w ≡ record { kind = k; first = c .at; after = n .at; from = x; to = y; parent = p; next = c .row + 1 }
     → R' ≡ sets R (width * c .row) (rowList (w .kind) (w .first) (w .after) (w .from) (w .to) (w .parent) (w .next))
     → Leafed c n p k (record { at = n .at; row = c .row + 1; text = n .text }) R R'
-leafed c n p k w R R' e h =
-    record { cursor = refl; table = h ∙ ap (λ (v : Words). sets R (width * c .row) (rowList (v .kind) (v .first) (v .after) (v .from) (v .to) (v .parent) (v .next))) e }
+leafed c n p k x y w R R' a b e h =
+    record { cursor = refl; table = rw (e, a, b) at h }
 
 pub ruleset leaves = (leafed, needs)
 
 -- ---- a text with its span and its row
 
-pub text-close : (doc : List ℕ) (c n : Cursor) (o : Out (List ℕ)) (a : Ans) (T T' : List ℕ) → Ready doc c → a ≡ Ok n → Texts doc c o a T T' → Close c n
+pub text-close : (doc : List ℕ) (c n : Cursor) (o : Out Decoded) (a : Ans) (T T' : List ℕ) → Ready doc c → a ≡ Ok n → Texts doc c o a T T' → Close c n
 text-close doc c n o a T T' ready e h =
     let t = text-taken doc c o T T' a n e h in
     record {
@@ -64,32 +65,32 @@ text-close doc c n o a T T' ready e h =
       to-at = omega (arith, ready .small, t .spelt .inside);
       row = omega (arith, ready .small, ready .inside, ready .fewRows);
       text = omega (arith, ready .small, ready .inside, ready .fewText);
-      to-text = omega (arith, ready .small, t .spelt .inside, t .spelt .end, t .spelt .few, ready .fewText);
+      to-text = omega (arith, ready .small, t .spelt .inside, spelt-spot doc c n (t .value) T T' ready (t .spelt), t .spelt .few, ready .fewText);
     }
 
-module _ (k : ℕ) (r : Reader (List ℕ)) (doc : List ℕ) (c : Cursor) (p : ℕ) (a : Ans) (T T' : List ℕ) (h : Texts doc c (r (c .at) (drop (c .at) doc)) a T T') where
+module _ (k : ℕ) (r : Reader Decoded) (doc : List ℕ) (c : Cursor) (p : ℕ) (a : Ans) (T T' : List ℕ) (h : Texts doc c (r (c .at) (drop (c .at) doc)) a T T') where
   pub spanned-bad : (R R' : List ℕ) (q : ℕ) → a ≡ No q → Answers doc c p (spannedR k r (c .at) (drop (c .at) doc)) (No q) R R' T T'
   unfolding spannedR
   spanned-bad R R' q e = refused doc c p _ R R' T T' q (ap (λ o. bind o (λ s e. retR (leaf k (c .at) e s) e)) (text-refusal doc c _ T T' a q e h))
 
-  pub spanned-read : (R R' : List ℕ) (n m : Cursor) → TRUE < k → a ≡ Ok n → Leafed c n p k m R R' → Answers doc c p (spannedR k r (c .at) (drop (c .at) doc)) (Ok m) R R' T T'
+  pub spanned-read : (R R' : List ℕ) (n m : Cursor) → Ready doc c → TRUE < k → a ≡ Ok n → Leafed c n p k m R R' → Answers doc c p (spannedR k r (c .at) (drop (c .at) doc)) (Ok m) R R' T T'
   unfolding spannedR
-  spanned-read R R' n m l e f =
+  spanned-read R R' n m ready l e f =
       let t = text-taken doc c _ T T' a n e h in
-      let g : m ≡ record { at = n .at; row = c .row + 1; text = c .text + length (t .value) } = f .cursor ∙ ap (λ x. record { at = n .at; row = c .row + 1; text = x }) (t .spelt .end) in
+      let g : m ≡ record { at = n .at; row = c .row + 1; text = c .text + told (t .value) } = f .cursor ∙ ap (λ x. record { at = n .at; row = c .row + 1; text = x }) (t .spelt .end) in
       took doc c p _ R R' T T' m
       (rw g
-      (leaf-text doc c p _ k (n .at) 0 (t .spelt .ahead) (t .spelt .inside) R R' T T' (t .value)
+      (leaf-text doc c p _ k (n .at) 0 (t .spelt .ahead) (t .spelt .inside) R R' T T' (t .value) ready
       (ap (λ o. bind o (λ s e. retR (leaf k (c .at) e s) e)) (t .is))
-      l (t .spelt .few) (rw (t .spelt .end) at (f .table)) (t .spelt .room)))
+      l (t .spelt .few) (t .spelt .scant) (rw (spelt-spot doc c n (t .value) T T' ready (t .spelt)) at (f .table)) (t .spelt .room)))
 
 module _ (doc : List ℕ) (c : Cursor) (p : ℕ) (a : Ans) (T T' : List ℕ) (h : Texts doc c (quotedR (c .at) (drop (c .at) doc)) a T T') where
   pub string-not : (R R' : List ℕ) (q : ℕ) → a ≡ No q → Answers doc c p (stringR (c .at) (drop (c .at) doc)) (No q) R R' T T'
   unfolding stringR
   string-not R R' q e = spanned-bad STRING quotedR doc c p a T T' h R R' q e
 
-  pub string-taken : (R R' : List ℕ) (n m : Cursor) → a ≡ Ok n → Leafed c n p STRING m R R' → Answers doc c p (stringR (c .at) (drop (c .at) doc)) (Ok m) R R' T T'
+  pub string-taken : (R R' : List ℕ) (n m : Cursor) → Ready doc c → a ≡ Ok n → Leafed c n p STRING m R R' → Answers doc c p (stringR (c .at) (drop (c .at) doc)) (Ok m) R R' T T'
   unfolding stringR
-  string-taken R R' n m e f = spanned-read STRING quotedR doc c p a T T' h R R' n m (omega arith) e f
+  string-taken R R' n m ready e f = spanned-read STRING quotedR doc c p a T T' h R R' n m ready (omega arith) e f
 
 pub ruleset values = (text-close, string-not, string-taken, needs)

@@ -7,9 +7,12 @@ use lib.ListN.{length, drop, length-append}
 use borrow.Author.Needs.{needs}
 use Rattle.exact.specs.Class.{is}
 use Rattle.exact.specs.Out.{Out, ok, soft, bad, bind, fmap, Reader}
-use Rattle.exact.specs.Answers.{map-fmap, bind-same}
+use Rattle.exact.specs.Answers.{map-fmap, bind-same, fmap-none}
 use Rattle.exact.specs.Block.{manyG, lead}
 use Rattle.exact.specs.Lines.{soft-reached}
+use Rattle.language.specs.Tree.{Decoded, unescaped}
+use Rattle.strings.specs.Joining.{itself, lists}
+use Rattle.rooms.specs.Told.{spot}
 use Rattle.rooms.specs.declared.Cursor.{Cursor}
 use Rattle.rooms.specs.declared.Ans.{Ans}
 use Rattle.rooms.specs.declared.Ans.the-variants.{Ok, No}
@@ -19,20 +22,20 @@ use Rattle.strings.specs.declared.hex.Next.{Next}
 use Rattle.strings.specs.declared.hex.Next.the-variants.{Begins, Stops}
 use Rattle.strings.specs.Bytes.{pairR, furtherR, further-ll, pairsR, pairsOn}
 use Rattle.strings.specs.Turns.{manyG-turn, manyG-stop}
-use Rattle.strings.specs.Contract.{Texted, Texts}
+use Rattle.strings.specs.Contract.{Texted, Texts, Spelt}
 use Rattle.strings.specs.Inside.{Within}
 use Rattle.strings.specs.Hexes.{pairTextR, Further, Stopped, Furthers, PairsAt}
 use Rattle.strings.proofs.TextLaws.{room-join, text-taken, text-refusal}
-use Rattle.strings.proofs.StringLaws.{within-none, extend}
+use Rattle.strings.proofs.StringLaws.{within-none, extend, within-spot}
 
 -- ---- answers of one byte
 
-unlist : (o : Out ℕ) (w : List ℕ) (a : ℕ) (t : List ℕ) → fmap (_∷ []) o ≡ ok w a t → (v : ℕ) × (w ≡ v ∷ []) × (o ≡ ok v a t)
+unlist : (o : Out ℕ) (w : Decoded) (a : ℕ) (t : List ℕ) → fmap (λ p. unescaped (p ∷ [])) o ≡ ok w a t → (v : ℕ) × (w ≡ unescaped (v ∷ [])) × (o ≡ ok v a t)
 unlist (ok v a' t') w a t e = (v, cc, cc)
 unlist (soft p v a' t') w a t e = let z : _≡_ {A = ℕ} 0 1 = cc in absurd (omega arith)
 unlist (bad p) w a t e = let z : _≡_ {A = ℕ} 0 1 = cc in absurd (omega arith)
 
-unbad : (o : Out ℕ) (q : ℕ) → fmap (_∷ []) o ≡ bad q → o ≡ bad q
+unbad : (o : Out ℕ) (q : ℕ) → fmap (λ p. unescaped (p ∷ [])) o ≡ bad q → o ≡ bad q
 unbad (ok v a t) q e = let z : _≡_ {A = ℕ} 0 1 = cc in absurd (omega arith)
 unbad (soft p v a t) q e = let z : _≡_ {A = ℕ} 0 1 = cc in absurd (omega arith)
 unbad (bad p) q e = cc
@@ -46,10 +49,13 @@ pairs-as at s = bind-same (pairR at s) _ _ (λ v a t. map-fmap (v ∷_) (manyP a
 
 -- ---- a turn
 
-pub pairs-first : (doc : List ℕ) (c : Cursor) (T : List ℕ) → Ready doc c → Within pairsR doc c c T T
-pairs-first doc c T ready = within-none pairsR doc c T ready
+abbrev pub Pairing : List ℕ → Cursor → Cursor → List ℕ → List ℕ → Type 0
+Pairing = Within unescaped _++_ pairsR
 
-module _ (doc : List ℕ) (s n : Cursor) (T₀ T : List ℕ) (w : Within pairsR doc s n T₀ T) (a : Ans) (T₁ : List ℕ) (h : Texts doc n (pairTextR (n .at) (drop (n .at) doc)) a T T₁) where
+pub pairs-first : (doc : List ℕ) (c : Cursor) (T : List ℕ) → Ready doc c → Pairing doc c c T T
+pairs-first doc c T ready = within-none unescaped _++_ [] refl pairsR doc c T (sym (fmap-none (pairsR (c .at) (drop (c .at) doc)))) ready
+
+module _ (doc : List ℕ) (s n : Cursor) (T₀ T : List ℕ) (w : Pairing doc s n T₀ T) (a : Ans) (T₁ : List ℕ) (h : Texts doc n (pairTextR (n .at) (drop (n .at) doc)) a T T₁) where
   pub pairs-not : (q : ℕ) → a ≡ No q → PairsAt doc s (Not q) T₀ T₁
   unfolding PairsAt
   pairs-not q e =
@@ -57,10 +63,10 @@ module _ (doc : List ℕ) (s n : Cursor) (T₀ T : List ℕ) (w : Within pairsR 
       w .is ∙ ap (fmap (w .done ++_)) (pairs-as (n .at) (drop (n .at) doc) ∙ ap (λ o. bind o (λ v a t. fmap (v ∷_) (manyP a t))) b)
 
   module _ (m : Cursor) (e : a ≡ Ok m) where
-    text : Texted doc n (pairTextR (n .at) (drop (n .at) doc)) m 0 T T₁
+    text : Texted itself doc n (pairTextR (n .at) (drop (n .at) doc)) m 0 T T₁
     text = text-taken doc n _ T T₁ a m e h
 
-    got : (v : ℕ) × (text .value ≡ v ∷ []) × (pairR (n .at) (drop (n .at) doc) ≡ ok v (m .at) (drop (m .at) doc))
+    got : (v : ℕ) × (text .value ≡ unescaped (v ∷ [])) × (pairR (n .at) (drop (n .at) doc) ≡ ok v (m .at) (drop (m .at) doc))
     got = unlist (pairR (n .at) (drop (n .at) doc)) (text .value) (m .at) (drop (m .at) doc) (text .is)
 
     pairs-by : pairsR (n .at) (drop (n .at) doc) ≡ fmap (got .0 ∷_) (manyP (m .at) (drop (m .at) doc))
@@ -77,14 +83,13 @@ module _ (doc : List ℕ) (s n : Cursor) (T₀ T : List ℕ) (w : Within pairsR 
             manyG-turn (further-ll .exact .moves) pairsOn (lead 1) refl (m .at) (drop (m .at) doc) (further .on)
             ∙ (ap (λ o. bind o (λ v a t. fmap (v ∷_) (manyP a t))) (further .is) ∙ sym (pairs-as (i .at) (drop (i .at) doc)))
 
-        pub pairs-turn : Within pairsR doc s i T₀ T₁
+        pub pairs-turn : Pairing doc s i T₀ T₁
         pairs-turn =
             let x = text .spelt .few in
             let y = further .from in
             let z = further .inside in
-            extend pairsR doc s n T₀ T w i (text .value) T₁
-            (pairs-by ∙ (ap (fmap (got .0 ∷_)) many-on ∙ ap (λ u. fmap (u ++_) (pairsR (i .at) (drop (i .at) doc))) (sym (got .1))))
-            (omega arith) (further .row ∙ text .spelt .row) (further .text ∙ text .spelt .end) (omega arith) (text .spelt .room)
+            extend unescaped _++_ lists pairsR doc s n T₀ T w i (got .0 ∷ []) T₁ (pairs-by ∙ ap (fmap (got .0 ∷_)) many-on) (omega arith) (further .row ∙ text .spelt .row)
+            (further .text ∙ rw (got .1) at (text .spelt .end)) (omega (arith, rw (got .1) at (text .spelt .few))) (omega arith) (rw (got .1) at (text .spelt .room))
 
         pub pairs-less : length doc - i .at < length doc - n .at
         pairs-less = let x = text .spelt .ahead in let y = further .from in let z = further .inside in omega arith
@@ -93,16 +98,16 @@ module _ (doc : List ℕ) (s n : Cursor) (T₀ T : List ℕ) (w : Within pairsR 
       unfolding PairsAt Furthers
       pairs-upto far b =
           let g : Stopped doc (m .at) far = rw b at k in
-          let x = text .spelt in
-          let l = length-append (w .done) (text .value) in
+          let x : Spelt doc n m (unescaped (got .0 ∷ [])) T T₁ = rw (got .1) at (text .spelt) in
+          let l = length-append (w .done) (got .0 ∷ []) in
           record {
             texted =
                 record {
-                  value = w .done ++ text .value;
+                  value = w .done ++ got .0 ∷ [];
                   is =
                       w .is
                       ∙ (ap (fmap (w .done ++_)) (pairs-by ∙ ap (fmap (got .0 ∷_)) (manyG-stop pairsOn (lead 1) furtherR (m .at) (drop (m .at) doc) (g .off)))
-                      ∙ (rw (← g .is, ← got .1) refl ∙ soft-reached far (w .done ++ text .value) (m .at) (drop (m .at) doc) (omega (arith, g .is, x .ahead))));
+                      ∙ (rw (← g .is) refl ∙ soft-reached far (w .done ++ got .0 ∷ []) (m .at) (drop (m .at) doc) (omega (arith, g .is, x .ahead))));
                   spelt =
                       record {
                         ahead = omega (arith, x .ahead, w .few);
@@ -110,7 +115,8 @@ module _ (doc : List ℕ) (s n : Cursor) (T₀ T : List ℕ) (w : Within pairsR 
                         row = x .row ∙ w .row;
                         end = omega (arith, x .end, w .end);
                         few = omega (arith, x .few, w .few);
-                        room = room-join T₀ T T₁ (s .text) (n .text) (w .done) (text .value) (w .room) (w .end) (x .room);
+                        scant = omega (arith, x .scant, w .scant);
+                        room = room-join T₀ T T₁ (spot (s .text)) (spot (n .text)) (w .done) (got .0 ∷ []) (w .room) (within-spot unescaped _++_ lists pairsR doc s n T₀ T w) (x .room);
                       };
                 };
             far-is = g .is;

@@ -18,6 +18,8 @@ use Rattle.characters.specs.declared.Read.{Read}
 use Rattle.characters.specs.declared.Read.the-variants.{Scalar, Not}
 use Rattle.characters.specs.Reads.{Stands, ReadAt, read-stands}
 use Rattle.characters.specs.Plains.{single, plainOf, other}
+use Rattle.language.specs.Tree.{unescaped, escaped}
+use Rattle.rooms.specs.Told.{ESCAPE, spot}
 use Rattle.rooms.specs.declared.Cursor.{Cursor}
 use Rattle.rooms.specs.declared.Step.{Step}
 use Rattle.rooms.specs.declared.Step.the-variants.{Byte, Over}
@@ -29,7 +31,7 @@ use Rattle.strings.specs.Quoted.{singled, itselfR, unescapedR, keptR, si
 use Rattle.strings.specs.Inside.{Char, CharAt}
 use Rattle.strings.specs.Contract.{Texts}
 use Rattle.strings.proofs.CleanLaws.{stands-char, stands-not}
-use Rattle.strings.proofs.TextLaws.{text-refused, spelling, front-not, front-is}
+use Rattle.strings.proofs.TextLaws.{text-fits, escape-fits, escape-adds, text-refused, spelling, front-not, front-is}
 
 -- ---- a character of a class, read whole
 
@@ -104,8 +106,8 @@ module _ (doc : List ℕ) (c : Cursor) (t : Ans) (h : Takes doc c 92 t) where
         pub kept-inside : m .at ≤ length doc
         kept-inside = here .inside
 
-        pub kept-small : Ready doc c → c .text + m .at < ample
-        kept-small ready = let w = here .inside in omega (arith, ready .small, ready .inside, ready .fewText)
+        pub kept-small : (x : ℕ) → x ≡ spot (c .text) → Ready doc c → x + m .at < ample
+        kept-small x y ready = let w = here .inside in omega (arith, ready .small, ready .inside, ready .fewText)
 
         -- both as they stand
         spelt : slice (c .at) (m .at) doc ≡ 92 ∷ utf8 v
@@ -114,12 +116,12 @@ module _ (doc : List ℕ) (c : Cursor) (t : Ans) (h : Takes doc c 92 t) where
             let b : slice (suc (c .at)) (m .at) doc ≡ utf8 v = rw next at (here .bytes) in
             p ∙ rw (← take-byte doc c 92 t h n e, b) refl
 
-        pub kept-read : (T T' : List ℕ) → T' ≡ sets T (c .text) (slice (c .at) (m .at) doc)
+        pub kept-read : (x : ℕ) (T T' : List ℕ) → x ≡ spot (c .text) → T' ≡ sets T x (slice (c .at) (m .at) doc)
             → Kept (Ok (record { at = m .at; row = c .row; text = c .text + (m .at - c .at) })) T T'
-        kept-read T T' x =
+        kept-read p T T' q x =
             let s : length (slice (c .at) (m .at) doc) ≡ m .at - c .at = length-slice (c .at) (m .at) doc kept-inside in
             let w = ap length spelt in
-            spelling doc c _ T T' (92 ∷ utf8 v) (m .at) (c .text + (m .at - c .at)) (kept-is ∙ rw (here .is) refl) kept-ahead kept-inside (omega arith) (omega (arith, kept-ahead)) (rw (← spelt) x)
+            spelling doc c _ T T' (unescaped (92 ∷ utf8 v)) (m .at) (c .text + (m .at - c .at)) (kept-is ∙ rw (here .is) refl) kept-ahead kept-inside (omega arith) (omega (arith, kept-ahead)) (omega (arith, kept-ahead)) (rw (← spelt, ← q) x)
 
     -- ---- the byte behind it decides
     module _ (s : Step) (k : Stepped doc n s) where
@@ -131,15 +133,15 @@ module _ (doc : List ℕ) (c : Cursor) (t : Ans) (h : Takes doc c 92 t) where
         byte : b ≡ peek doc (n .at)
         byte = step-byte doc n s k b m z
 
-        pub single-itself : (T T' : List ℕ) → (b ≡ 39) ⊎ (b ≡ 92) → T' ≡ set T (c .text) b → Single (Ok (record { at = m .at; row = c .row; text = c .text + 1 })) T T'
-        single-itself T T' x w =
+        pub single-itself : (x : ℕ) (T T' : List ℕ) → (b ≡ 39) ⊎ (b ≡ 92) → x ≡ spot (c .text) → T' ≡ set T x b → Single (Ok (record { at = m .at; row = c .row; text = c .text + ESCAPE + 1 })) T T'
+        single-itself p T T' x q w =
             let y : is singled b ≡ true = ⊎-elim (λ y. rw y refl) (λ y. rw y refl) x in
             let i = step-inside doc n s k b m z in
             let a = next in
             rw (step-next doc n s k b m z)
-            (spelling doc c _ T T' (b ∷ []) (n .at + 1) (c .text + 1)
+            (spelling doc c _ T T' (escaped (b ∷ [])) (n .at + 1) (c .text + ESCAPE + 1)
             (single-is ∙ (alt-peek doc (n .at) singled refl itselfR unescapedR ∙ rw (byte-peek doc (n .at) singled refl, ← byte, y, add-one) refl))
-            (omega arith) (omega arith) refl (omega arith) w)
+            (omega arith) (omega arith) (omega arith) (omega arith) (omega arith) (rw q at w))
 
         pub single-kept : (a : Ans) (T T' : List ℕ) → ((b ≡ 39) ⊎ (b ≡ 92) → ⊥) → Kept a T T' → Single a T T'
         single-kept a T T' x w =
@@ -147,6 +149,6 @@ module _ (doc : List ℕ) (c : Cursor) (t : Ans) (h : Takes doc c 92 t) where
             alt-peek doc (n .at) singled refl itselfR unescapedR ∙ rw (← byte, other 39 b (λ y. x (inl y)), other 92 b (λ y. x (inr y))) refl in
             rw (single-is ∙ (y ∙ sym kept-is)) w
 
-pub ruleset keeping = (kept-back, kept-none, kept-from, kept-inside, kept-small, kept-read, needs)
+pub ruleset keeping = (kept-back, kept-none, kept-from, kept-inside, kept-small, kept-read, text-fits, needs)
 
-pub ruleset singles = (single-back, single-over, single-itself, single-kept, needs)
+pub ruleset singles = (single-back, single-over, single-itself, single-kept, escape-fits, escape-adds, needs)

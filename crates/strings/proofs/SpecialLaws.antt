@@ -18,6 +18,11 @@ use Rattle.characters.specs.Plains.{Quote, double, single, plainOf}
 use Rattle.characters.specs.declared.Reading.{Reading}
 use Rattle.characters.specs.declared.Read.{Read}
 use Rattle.characters.specs.declared.Read.the-variants.{Scalar, Not}
+use Rattle.language.specs.Tree.{unescaped}
+use Rattle.exact.specs.Out.{bind}
+use Rattle.exact.specs.Lang.{retR}
+use Rattle.exact.specs.Comb.{mapR}
+use Rattle.rooms.specs.Told.{spot}
 use Rattle.rooms.specs.declared.Cursor.{Cursor}
 use Rattle.rooms.specs.declared.Ans.{Ans}
 use Rattle.rooms.specs.declared.Ans.the-variants.{Ok, No}
@@ -26,7 +31,7 @@ use Rattle.strings.specs.Quoted.{escapeR, singleEscapeR}
 use Rattle.strings.specs.Inside.{escapesR, specialR, Special}
 use Rattle.strings.specs.Contract.{Texts}
 use Rattle.strings.proofs.CleanLaws.{first-byte}
-use Rattle.strings.proofs.TextLaws.{text-refused, spelling}
+use Rattle.strings.proofs.TextLaws.{text-fits, text-refused, spelling}
 
 -- ---- a character of several bytes
 
@@ -41,20 +46,20 @@ module _ (doc : List ℕ) (at : ℕ) (r : Read) (v : ℕ) (n : Reading) (is-scal
   pub scalar-inside : n .at ≤ length doc
   scalar-inside = stands .inside
 
-  pub scalar-small : (x : ℕ) → length doc ≤ limit → x ≤ at → x + n .at < ample
-  scalar-small x l m = let h = stands .ahead in let k = stands .inside in omega arith
+  pub scalar-small : (x y : ℕ) → x ≡ y → length doc ≤ limit → y ≤ at → x + n .at < ample
+  scalar-small x y e l m = let h = stands .ahead in let k = stands .inside in omega arith
 
-module _ (q : ℕ) (doc : List ℕ) (c : Cursor) (ready : Ready doc c) (spot : Special q doc (c .at)) (other : peek doc (c .at) ≡ 92 → ⊥) where
+module _ (q : ℕ) (doc : List ℕ) (c : Cursor) (ready : Ready doc c) (place : Special q doc (c .at)) (other : peek doc (c .at) ≡ 92 → ⊥) where
   abbrev Piece : Ans → List ℕ → List ℕ → Type 0
   Piece a T T' = Texts doc c (specialR q (c .at) (drop (c .at) doc)) a T T'
 
-  as-char : specialR q (c .at) (drop (c .at) doc) ≡ charR (plainOf q) (c .at) (drop (c .at) doc)
-  as-char = alt-not doc (c .at) 92 (peek doc (c .at)) (omega arith) refl (escapesR q) (charR (plainOf q)) other
+  as-char : specialR q (c .at) (drop (c .at) doc) ≡ mapR unescaped (charR (plainOf q)) (c .at) (drop (c .at) doc)
+  as-char = alt-not doc (c .at) 92 (peek doc (c .at)) (omega arith) refl (escapesR q) (mapR unescaped (charR (plainOf q))) other
 
   module _ (r : Read) (read : ReadAt doc (c .at) r) where
     pub wide-not : (p : ℕ) (T : List ℕ) → r ≡ Not p → Piece (No p) T T
     unfolding ReadAt
-    wide-not p T e = let h = rw e at read in text-refused doc c _ T T p (as-char ∙ h (plainOf q))
+    wide-not p T e = let h = rw e at read in text-refused doc c _ T T p (as-char ∙ ap (λ o. bind o (λ s. retR (unescaped s))) (h (plainOf q)))
 
     module _ (v : ℕ) (n : Reading) (is-scalar : r ≡ Scalar v n) where
       here : Stands doc (c .at) v (n .at)
@@ -63,17 +68,17 @@ module _ (q : ℕ) (doc : List ℕ) (c : Cursor) (ready : Ready doc c) (spot : S
 
       pub wide-low : (T : List ℕ) → v < 128 → Piece (No (c .at)) T T
       wide-low T l =
-          let e : is (plainOf q) v ≡ false = rw (← first-byte doc (c .at) v (n .at) here (omega arith)) (spot .dark) in
-          text-refused doc c _ T T (c .at) (as-char ∙ (here .taken (plainOf q) ∙ rw (le-leb v 127 (omega arith), e) refl))
+          let e : is (plainOf q) v ≡ false = rw (← first-byte doc (c .at) v (n .at) here (omega arith)) (place .dark) in
+          text-refused doc c _ T T (c .at) (as-char ∙ rw (here .taken (plainOf q), le-leb v 127 (omega arith), e) refl)
 
-      pub wide-read : (T T' : List ℕ) → 128 ≤ v → T' ≡ sets T (c .text) (slice (c .at) (n .at) doc)
+      pub wide-read : (x : ℕ) (T T' : List ℕ) → 128 ≤ v → x ≡ spot (c .text) → T' ≡ sets T x (slice (c .at) (n .at) doc)
           → Piece (Ok (record { at = n .at; row = c .row; text = c .text + (n .at - c .at) })) T T'
-      wide-read T T' l t =
+      wide-read p T T' l z t =
           let s : length (slice (c .at) (n .at) doc) ≡ n .at - c .at = length-slice (c .at) (n .at) doc (here .inside) in
           let w = ap length (here .bytes) in
-          spelling doc c _ T T' (utf8 v) (n .at) (c .text + (n .at - c .at))
-          (as-char ∙ (here .taken (plainOf q) ∙ rw (lt-leb v 127 (omega arith), here .allowed (omega arith)) refl))
-          (here .ahead) (here .inside) (omega arith) (omega (arith, here .ahead)) (rw (← here .bytes) t)
+          spelling doc c _ T T' (unescaped (utf8 v)) (n .at) (c .text + (n .at - c .at))
+          (as-char ∙ rw (here .taken (plainOf q), lt-leb v 127 (omega arith), here .allowed (omega arith)) refl)
+          (here .ahead) (here .inside) (omega arith) (omega (arith, here .ahead)) (omega (arith, here .ahead)) (rw (← here .bytes, ← z) t)
 
 -- ---- an escape
 
@@ -86,9 +91,9 @@ module _ (q : ℕ) (doc : List ℕ) (c : Cursor) (b : ℕ) (look : b ≡ peek do
   not-back n e = n (look ∙ e)
 
   pub via-double : b ≡ 92 → q ≡ 34 → Texts doc c (escapeR (c .at) (drop (c .at) doc)) a T T' → Texts doc c (specialR q (c .at) (drop (c .at) doc)) a T T'
-  via-double e k h = rw (alt-is doc (c .at) 92 b (omega arith) look (escapesR q) (charR (plainOf q)) e, k) h
+  via-double e k h = rw (alt-is doc (c .at) 92 b (omega arith) look (escapesR q) (mapR unescaped (charR (plainOf q))) e, k) h
 
   pub via-single : b ≡ 92 → Quote q → (q ≡ 34 → ⊥) → Texts doc c (singleEscapeR (c .at) (drop (c .at) doc)) a T T' → Texts doc c (specialR q (c .at) (drop (c .at) doc)) a T T'
-  via-single e k n h = rw (alt-is doc (c .at) 92 b (omega arith) look (escapesR q) (charR (plainOf q)) e, single-quote k n) h
+  via-single e k n h = rw (alt-is doc (c .at) 92 b (omega arith) look (escapesR q) (mapR unescaped (charR (plainOf q))) e, single-quote k n) h
 
-pub ruleset specials = (scalar-from, scalar-inside, scalar-small, wide-not, wide-low, wide-read, not-back, via-double, via-single, needs)
+pub ruleset specials = (scalar-from, scalar-inside, scalar-small, wide-not, wide-low, wide-read, text-fits, not-back, via-double, via-single, needs)

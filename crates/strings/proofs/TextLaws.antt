@@ -1,11 +1,11 @@
 -- What a function that reads a text has to show at a return, from what the tests and the calls on the way say: each law's conclusion is the contract.
 use mathlib.Core.Path.{_≡_, refl, sym, ap, _∙_}
 use mathlib.Core.List.{List, [], _∷_, _++_}
-use Prim.Native.Nat.{ℕ, suc, _+_, _/_, _%_, _≤_, _<_}
+use Prim.Native.Nat.{ℕ, suc, _+_, _-_, _/_, _%_, _^_, _≤_, _<_}
 use native.Mathlib.Numerals.{add-one}
 use native.Mathlib.Omega.{arith}
 use lib.ListN.{length, drop, set}
-use lib.Seq.{sets}
+use lib.Seq.{sets, slice}
 use borrow.Author.Needs.{needs}
 use borrow.Author.Tests.{le-leb, lt-leb}
 use Rattle.exact.specs.Class.{is, only}
@@ -13,13 +13,18 @@ use Rattle.exact.specs.Out.{Out, ok, bad, Reader}
 use Rattle.exact.specs.Lang.{byteR}
 use Rattle.exact.specs.Comb.{seqR}
 use Rattle.exact.specs.Place.{peek, peek-in, byte-is, byte-not}
+use Rattle.language.specs.Tree.{Decoded, _then_}
+use Rattle.rooms.specs.Told.{ESCAPE, spot, tally, told, spot-on, tally-on, word-is}
 use Rattle.rooms.specs.declared.Cursor.{Cursor}
 use Rattle.rooms.specs.declared.Ans.{Ans}
 use Rattle.rooms.specs.declared.Ans.the-variants.{Ok, No}
-use Rattle.rooms.specs.Contract.{onward, Takes, Ready}
+use Rattle.rooms.specs.Contract.{ample, onward, Takes, Ready}
+use Rattle.language.specs.Answered.{limit}
 use Rattle.rooms.specs.Laws.{take-next, take-byte, take-place, take-other}
 use Rattle.rooms.specs.Stores.{sets-append}
-use Rattle.strings.specs.Contract.{Texted, Texts, Stored}
+use Rattle.strings.specs.Contract.{Spelt, Texted, Texts, Stored}
+use Rattle.strings.specs.Joining.{itself}
+use Rattle.strings.specs.Inside.{Copied}
 
 -- ---- stores of a few bytes
 
@@ -43,6 +48,40 @@ module _ (T A B C D : List ℕ) (x a b c d : ℕ) where
 -- one text behind another
 pub room-join : (T₀ T T' : List ℕ) (x j : ℕ) (u v : List ℕ) → T ≡ sets T₀ x u → j ≡ x + length u → T' ≡ sets T j v → T' ≡ sets T₀ x (u ++ v)
 room-join T₀ T T' x j u v h e t = t ∙ rw (h, e) (sym (sets-append T₀ x u v))
+
+-- ---- the text word has room for more
+
+module _ (doc : List ℕ) (c : Cursor) (ready : Ready doc c) where
+  pub text-adds : (n : ℕ) → n ≤ limit → c .text + n < 2 ^ 64
+  text-adds n l = let h = word-is (c .text) in omega (arith, ready .small, ready .inside, ready .fewText, ready .fewEscapes)
+
+  pub text-fits : (e : ℕ) → e ≤ length doc → c .text + (e - c .at) < 2 ^ 64
+  text-fits e l = text-adds (e - c .at) (omega (arith, ready .small))
+
+  pub escape-fits : c .text + ESCAPE < 2 ^ 64
+  escape-fits = let h = word-is (c .text) in omega (arith, ready .small, ready .inside, ready .fewText, ready .fewEscapes)
+
+  pub escape-adds : (n : ℕ) → n ≤ limit → c .text + ESCAPE + n < 2 ^ 64
+  escape-adds n l = let h = word-is (c .text) in omega (arith, ready .small, ready .inside, ready .fewText, ready .fewEscapes)
+
+-- a run is copied as it stands
+pub copied : (Run : List ℕ → ℕ → ℕ → Type 0) (doc : List ℕ) (c : Cursor) (e x : ℕ) (T T' : List ℕ) → Run doc (c .at) e → x ≡ spot (c .text) → T' ≡ sets T x (slice (c .at) e doc)
+    → Copied Run doc c (record { at = e; row = c .row; text = c .text + (e - c .at) }) T T'
+copied Run doc c e x T T' r h t = record { run = r; row = refl; end = refl; room = rw h at t }
+
+pub ruleset copies = (copied, text-fits, needs)
+
+-- ---- where a text that was read ends in the room, and what it adds
+
+module _ (doc : List ℕ) (c n : Cursor) (v : Decoded) (T T' : List ℕ) (ready : Ready doc c) (s : Spelt doc c n v T T') where
+  short : spot (c .text) + length (v .bytes) < ESCAPE
+  short = omega (arith, ready .small, ready .fewText, s .few, s .inside)
+
+  pub spelt-spot : spot (n .text) ≡ spot (c .text) + length (v .bytes)
+  spelt-spot = ap spot (s .end) ∙ spot-on (c .text) (length (v .bytes)) (v .escapes) short
+
+  pub spelt-tally : tally (n .text) ≡ tally (c .text) + v .escapes
+  spelt-tally = ap tally (s .end) ∙ tally-on (c .text) (length (v .bytes)) (v .escapes) short
 
 -- ---- a scalar value
 
@@ -78,16 +117,16 @@ pub ruleset stores = (scalar-one, scalar-two, scalar-three, scalar-four, needs)
 
 -- ---- answers, made and taken apart
 
-module _ (doc : List ℕ) (c : Cursor) (o : Out (List ℕ)) (T T' : List ℕ) where
+module _ (doc : List ℕ) (c : Cursor) (o : Out Decoded) (T T' : List ℕ) where
   pub text-refused : (q : ℕ) → o ≡ bad q → Texts doc c o (No q) T T'
   unfolding Texts
   text-refused q h = h
 
-  pub text-took : (n : Cursor) → Texted doc c o n 0 T T' → Texts doc c o (Ok n) T T'
+  pub text-took : (n : Cursor) → Texted itself doc c o n 0 T T' → Texts doc c o (Ok n) T T'
   unfolding Texts
   text-took n h = h
 
-  pub text-taken : (a : Ans) (n : Cursor) → a ≡ Ok n → Texts doc c o a T T' → Texted doc c o n 0 T T'
+  pub text-taken : (a : Ans) (n : Cursor) → a ≡ Ok n → Texts doc c o a T T' → Texted itself doc c o n 0 T T'
   unfolding Texts
   text-taken a n e h = rw e at h
 
@@ -95,15 +134,16 @@ module _ (doc : List ℕ) (c : Cursor) (o : Out (List ℕ)) (T T' : List ℕ) wh
   unfolding Texts
   text-refusal a q e h = rw e at h
 
-  pub spelling : (v : List ℕ) (e x : ℕ) → o ≡ ok v e (drop e doc) → c .at < e → e ≤ length doc → x ≡ c .text + length v → c .at + length v ≤ e → T' ≡ sets T (c .text) v
+  pub spelling : (v : Decoded) (e x : ℕ) → o ≡ ok v e (drop e doc) → c .at < e → e ≤ length doc → x ≡ c .text + told v → c .at + length (v .bytes) ≤ e → c .at + v .escapes ≤ e
+      → T' ≡ sets T (spot (c .text)) (v .bytes)
       → Texts doc c o (Ok (record { at = e; row = c .row; text = x })) T T'
   unfolding Texts
-  spelling v e x h a i y f t = record { value = v; is = h; spelt = record { ahead = a; inside = i; row = refl; end = y; few = f; room = t } }
+  spelling v e x h a i y f g t = record { value = v; is = h; spelt = record { ahead = a; inside = i; row = refl; end = y; few = f; scant = g; room = t } }
 
 -- ---- a byte taken, and what stands behind it
 
 module _ (doc : List ℕ) (c : Cursor) (b : ℕ) (small : b < 256) (t : Ans) (h : Takes doc c b t) where
-  pub front-not : (q : Reader (List ℕ)) (T : List ℕ) (p : ℕ) → t ≡ No p → Texts doc c (seqR (byteR (is (only b))) (λ _. q) (c .at) (drop (c .at) doc)) (No p) T T
+  pub front-not : (q : Reader Decoded) (T : List ℕ) (p : ℕ) → t ≡ No p → Texts doc c (seqR (byteR (is (only b))) (λ _. q) (c .at) (drop (c .at) doc)) (No p) T T
   front-not q T p e =
       text-refused doc c _ T T p
       (rw (byte-not doc (c .at) b (peek doc (c .at)) small refl (take-other doc c b t h p e)) (ap bad (sym (take-place doc c b t h p e))))
@@ -113,12 +153,12 @@ module _ (doc : List ℕ) (c : Cursor) (b : ℕ) (small : b < 256) (t : Ans) (h 
     front-ready ready =
         let i = peek-in doc (c .at) b (take-byte doc c b t h n e) small in
         rw (take-next doc c b t h n e)
-        (record { small = ready .small; inside = omega arith; fewRows = omega (arith, ready .fewRows); fewText = omega (arith, ready .fewText) })
+        (record { small = ready .small; inside = omega arith; fewRows = omega (arith, ready .fewRows); fewText = omega (arith, ready .fewText); fewEscapes = omega (arith, ready .fewEscapes) })
 
-    pub front-is : (q : Reader (List ℕ)) → seqR (byteR (is (only b))) (λ _. q) (c .at) (drop (c .at) doc) ≡ q (n .at) (drop (n .at) doc)
+    pub front-is : (q : Reader Decoded) → seqR (byteR (is (only b))) (λ _. q) (c .at) (drop (c .at) doc) ≡ q (n .at) (drop (n .at) doc)
     front-is q = rw (take-next doc c b t h n e, byte-is doc (c .at) b b small (take-byte doc c b t h n e) refl) refl
 
-    pub front-read : (q : Reader (List ℕ)) (a : Ans) (T T' : List ℕ) → Texts doc n (q (n .at) (drop (n .at) doc)) a T T'
+    pub front-read : (q : Reader Decoded) (a : Ans) (T T' : List ℕ) → Texts doc n (q (n .at) (drop (n .at) doc)) a T T'
         → Texts doc c (seqR (byteR (is (only b))) (λ _. q) (c .at) (drop (c .at) doc)) a T T'
     unfolding Texts
     front-read q (No p) T T' x = front-is q ∙ x
@@ -133,8 +173,9 @@ module _ (doc : List ℕ) (c : Cursor) (b : ℕ) (small : b < 256) (t : Ans) (h 
                 ahead = omega (arith, s .ahead, ap (λ (z : Cursor). z .at) k);
                 inside = s .inside;
                 row = s .row ∙ ap (λ (z : Cursor). z .row) k;
-                end = s .end ∙ ap (λ (z : Cursor). z .text + length (x .value)) k;
+                end = s .end ∙ ap (λ (z : Cursor). z .text + told (x .value)) k;
                 few = omega (arith, s .few, ap (λ (z : Cursor). z .at) k);
-                room = s .room ∙ ap (λ (z : Cursor). sets T (z .text) (x .value)) k;
+                scant = omega (arith, s .scant, ap (λ (z : Cursor). z .at) k);
+                room = s .room ∙ ap (λ (z : Cursor). sets T (spot (z .text)) (x .value .bytes)) k;
               };
         }

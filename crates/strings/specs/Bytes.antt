@@ -7,7 +7,7 @@ use Prim.Native.Nat.{ℕ, suc, _+_, _*_}
 use native.Mathlib.Omega.{arith}
 use Rattle.notation.specs.Lang.{Lang, _>>_, Alt, two, byte}
 use Rattle.language.specs.Kind.{BYTES}
-use Rattle.language.specs.Tree.{Tree}
+use Rattle.language.specs.Tree.{Decoded, unescaped, Tree}
 use Rattle.language.specs.Characters.{Space}
 use Rattle.language.specs.Strings.{lowhex, hexval, Pair, Pairs, InlineBytes}
 use Rattle.exact.specs.Class.{pick, and, or, clash, is, only, nothing, and-of}
@@ -53,8 +53,8 @@ pub inside-ll : Ll insideS Pairs insideR
 unfolding insideR
 inside-ll = relax insideS refl refl refl (seq-ll refl pair-ll λ p. seq-ll refl (star-ll refl refl further-ll) λ ps. ret-ll (p ∷ ps))
 
-unfoldable pub angledR : Reader (List ℕ)
-angledR = seqR (byteR (is (only 60))) λ _. seqR (altR (is lowhex) insideR (retR [])) λ bs. seqR (byteR (is (only 62))) λ _. retR bs
+unfoldable pub angledR : Reader Decoded
+angledR = seqR (byteR (is (only 60))) λ _. seqR (altR (is lowhex) insideR (retR [])) λ bs. seqR (byteR (is (only 62))) λ _. retR (unescaped bs)
 
 unfoldable pub inlineBytesR : Reader Tree
 inlineBytesR = spannedR BYTES angledR
@@ -69,7 +69,7 @@ inlineBytes-ll =
     BYTES
     (only 60)
     []
-    (relax inlineBytesS refl refl refl (seq-ll refl (byte₁ 60) λ _. seq-ll refl (alt-ll refl refl inside-ll (ret-ll [])) λ bs. seq-ll refl (byte₁ 62) λ _. ret-ll bs))
+    (relax inlineBytesS refl refl refl (seq-ll refl (byte₁ 60) λ _. seq-ll refl (alt-ll refl refl inside-ll (ret-ll [])) λ bs. seq-ll refl (byte₁ 62) λ _. ret-ll (unescaped bs)))
 
 -- PAIRS OF A HEX LINE: they go on with a hex digit, or a space and a hex digit
 abbrev pub digitNext : List ℕ → Bool

@@ -11,7 +11,9 @@ use Rattle.exact.specs.Run.{runR}
 use Rattle.exact.specs.Place.{peek}
 use Rattle.exact.specs.Lines.{reached}
 use Rattle.language.specs.Characters.{utf8}
+use Rattle.language.specs.Tree.{Decoded}
 use Rattle.language.specs.Strings.{hexval, hexNumber, lettered, standsFor}
+use Rattle.rooms.specs.Told.{spot, told}
 use Rattle.rooms.specs.declared.Cursor.{Cursor}
 use Rattle.rooms.specs.declared.Ans.{Ans}
 use Rattle.rooms.specs.declared.Ans.the-variants.{Ok, No}
@@ -19,26 +21,28 @@ use Rattle.strings.specs.declared.digits.Digit.{Digit}
 use Rattle.strings.specs.declared.digits.Digit.the-variants.{Of, None}
 use Rattle.strings.specs.declared.escapes.Coded.{Coded}
 use Rattle.strings.specs.declared.escapes.Coded.the-variants.{Named, Unnamed}
+use Rattle.strings.specs.Joining.{itself}
 use Rattle.strings.specs.Code.{Num, empty, num, grow, named, begins, codeR}
 
--- PROMISED of a text v read from the cursor c up to n: it stands in the room from c's text on, as far as that reaches
-pub record Spelt (doc : List ℕ) (c n : Cursor) (v text text' : List ℕ) : Type 0 where
+-- PROMISED of a text v read from the cursor c up to n: it stands in the room from c's text on, as far as that reaches, and its escapes are added to c's
+pub record Spelt (doc : List ℕ) (c n : Cursor) (v : Decoded) (text text' : List ℕ) : Type 0 where
   pub ahead : c .at < n .at
   pub inside : n .at ≤ length doc
   pub row : n .row ≡ c .row
-  pub end : n .text ≡ c .text + length v
-  pub few : c .at + length v ≤ n .at
-  pub room : text' ≡ sets text (c .text) v
+  pub end : n .text ≡ c .text + told v
+  pub few : c .at + length (v .bytes) ≤ n .at
+  pub scant : c .at + v .escapes ≤ n .at
+  pub room : text' ≡ sets text (spot (c .text)) (v .bytes)
 
--- where the reader's answer o is that text, and what is left from n on
-pub record Texted (doc : List ℕ) (c : Cursor) (o : Out (List ℕ)) (n : Cursor) (far : ℕ) (text text' : List ℕ) : Type 0 where
-  pub value : List ℕ
+-- where the reader's answer o is a value of that text, and what is left from n on
+pub record Texted {X : Type 0} (reads : X → Decoded) (doc : List ℕ) (c : Cursor) (o : Out X) (n : Cursor) (far : ℕ) (text text' : List ℕ) : Type 0 where
+  pub value : X
   pub is : o ≡ reached far value (n .at) (drop (n .at) doc)
-  pub spelt : Spelt doc c n value text text'
+  pub spelt : Spelt doc c n (reads value) text text'
 
 -- THE CONTRACT: the answer is o's
-unfoldable pub Texts : List ℕ → Cursor → Out (List ℕ) → Ans → List ℕ → List ℕ → Type 0
-Texts doc c o (Ok n) text text' = Texted doc c o n 0 text text'
+unfoldable pub Texts : List ℕ → Cursor → Out Decoded → Ans → List ℕ → List ℕ → Type 0
+Texts doc c o (Ok n) text text' = Texted itself doc c o n 0 text text'
 Texts doc c o (No p) text text' = o ≡ bad p
 
 -- THE DIGITS of a hex number: the value of a digit of the class, 16 for another byte

@@ -7,6 +7,7 @@ use lib.ListN.{length, drop}
 use Rattle.exact.specs.Out.{Reader, bad, fmap}
 use Rattle.exact.specs.Block.{lead}
 use Rattle.exact.specs.Place.{peek}
+use Rattle.language.specs.Tree.{Decoded, unescaped}
 use Rattle.rooms.specs.declared.Cursor.{Cursor}
 use Rattle.rooms.specs.declared.Ans.{Ans}
 use Rattle.rooms.specs.declared.Ans.the-variants.{Ok, No}
@@ -19,8 +20,8 @@ use Rattle.strings.specs.Bytes.{pairR, furtherR, pairsR, pairsOn}
 use Rattle.strings.specs.Contract.{Texted}
 
 -- a pair, as a text of one byte
-abbrev pub pairTextR : Reader (List ℕ)
-pairTextR at s = fmap (_∷ []) (pairR at s)
+abbrev pub pairTextR : Reader Decoded
+pairTextR at s = fmap (λ p. unescaped (p ∷ [])) (pairR at s)
 
 -- behind a pair that ends at c a further one begins at n
 pub record Further (doc : List ℕ) (c n : Cursor) : Type 0 where
@@ -42,7 +43,7 @@ Furthers doc c (Stops far) = Stopped doc (c .at) far
 
 -- the pairs from c to n, behind which no further one begins
 pub record Paired (doc : List ℕ) (c n : Cursor) (far : ℕ) (text text' : List ℕ) : Type 0 where
-  pub texted : Texted doc c (pairsR (c .at) (drop (c .at) doc)) n far text text'
+  pub texted : Texted unescaped doc c (pairsR (c .at) (drop (c .at) doc)) n far text text'
   pub far-is : far ≡ n .at + lead 1 (drop (n .at) doc)
 
 unfoldable pub PairsAt : List ℕ → Cursor → Far → List ℕ → List ℕ → Type 0

@@ -1,6 +1,6 @@
 -- Inside a string: what the functions that read one promise, over the quote that it stands in.
 use mathlib.Core.Path.{_≡_}
-use mathlib.Core.List.{List, _++_}
+use mathlib.Core.List.{List}
 use mathlib.Core.Bool.{false}
 use Prim.Native.Nat.{ℕ, _+_, _-_, _*_, _≤_, _<_}
 use lib.ListN.{length, drop}
@@ -10,28 +10,29 @@ use Rattle.exact.specs.Class.{pick, Class, is}
 use Rattle.exact.specs.Out.{Reader, ok, bad, fmap}
 use Rattle.exact.specs.Place.{peek}
 use Rattle.language.specs.Characters.{utf8}
-use Rattle.language.specs.Tree.{width, rowList}
+use Rattle.language.specs.Tree.{Decoded, unescaped, _then_, width, rowList}
 use Rattle.utf8.specs.Utf8.{charR}
 use Rattle.characters.specs.declared.Read.{Read}
 use Rattle.characters.specs.declared.Read.the-variants.{Scalar, Not}
 use Rattle.characters.specs.Plains.{plainOf}
+use Rattle.rooms.specs.Told.{spot, told}
 use Rattle.rooms.specs.declared.Cursor.{Cursor}
 use Rattle.rooms.specs.Contract.{ample, Ready}
 use Rattle.strings.specs.Quoted.{escapeR, singleEscapeR, pieceR, betweenR}
 use Rattle.strings.specs.Rest.{restR}
 
 -- the escapes of either quote
-abbrev pub escapesR : ℕ → Reader (List ℕ)
+abbrev pub escapesR : ℕ → Reader Decoded
 escapesR q = pick (eqb q 34) escapeR singleEscapeR
 
 -- a string, what is left of one, and a piece
-abbrev pub textR : ℕ → Reader (List ℕ)
+abbrev pub textR : ℕ → Reader Decoded
 textR q = betweenR q (escapesR q) (plainOf q)
 
-abbrev pub leftR : ℕ → Reader (List ℕ)
+abbrev pub leftR : ℕ → Reader Decoded
 leftR q = restR q (escapesR q) (plainOf q)
 
-abbrev pub specialR : ℕ → Reader (List ℕ)
+abbrev pub specialR : ℕ → Reader Decoded
 specialR q = pieceR (escapesR q) (plainOf q)
 
 -- a character v of the class stands from `at` up to n; or none does, and p is the place of the first byte that none has there
@@ -47,13 +48,13 @@ CharAt c doc at (Not p) = charR c at (drop at doc) ≡ bad p
 
 -- what is left of a string from `at` on is the bytes up to e, and what is left from e on
 pub record CleanUpto (q : ℕ) (doc : List ℕ) (at e : ℕ) : Type 0 where
-  pub reads : leftR q at (drop at doc) ≡ fmap (slice at e doc ++_) (leftR q e (drop e doc))
+  pub reads : leftR q at (drop at doc) ≡ fmap (unescaped (slice at e doc) then_) (leftR q e (drop e doc))
   pub from : at ≤ e
   pub inside : e ≤ length doc
 
 -- .. where no plain byte stands
 pub record CleanTo (q : ℕ) (doc : List ℕ) (at e : ℕ) : Type 0 where
-  pub reads : leftR q at (drop at doc) ≡ fmap (slice at e doc ++_) (leftR q e (drop e doc))
+  pub reads : leftR q at (drop at doc) ≡ fmap (unescaped (slice at e doc) then_) (leftR q e (drop e doc))
   pub from : at ≤ e
   pub inside : e ≤ length doc
   pub dark : is (plainOf q) (peek doc e) ≡ false
@@ -63,32 +64,34 @@ pub record Copied (Run : List ℕ → ℕ → ℕ → Type 0) (doc : List ℕ) (
   pub run : Run doc (c .at) (n .at)
   pub row : n .row ≡ c .row
   pub end : n .text ≡ c .text + (n .at - c .at)
-  pub room : text' ≡ sets text (c .text) (slice (c .at) (n .at) doc)
+  pub room : text' ≡ sets text (spot (c .text)) (slice (c .at) (n .at) doc)
 
 -- neither a plain byte nor the quote stands at a place
 pub record Special (q : ℕ) (doc : List ℕ) (at : ℕ) : Type 0 where
   pub dark : is (plainOf q) (peek doc at) ≡ false
   pub other : peek doc at ≡ q → ⊥
 
--- of what r reads from s on, what stands before n is read and stored
-pub record Within (r : Reader (List ℕ)) (doc : List ℕ) (s n : Cursor) (text text' : List ℕ) : Type 0 where
-  pub done : List ℕ
-  pub is : r (s .at) (drop (s .at) doc) ≡ fmap (done ++_) (r (n .at) (drop (n .at) doc))
+-- of what r reads from s on, what stands before n is read and stored; values stand in front of one another
+pub record Within {X : Type 0} (reads : X → Decoded) (front : X → X → X) (r : Reader X) (doc : List ℕ) (s n : Cursor) (text text' : List ℕ) : Type 0 where
+  pub done : X
+  pub is : r (s .at) (drop (s .at) doc) ≡ fmap (front done) (r (n .at) (drop (n .at) doc))
+  pub start : Ready doc s
   pub ready : Ready doc n
   pub row : n .row ≡ s .row
-  pub end : n .text ≡ s .text + length done
-  pub few : s .at + length done ≤ n .at
-  pub room : text' ≡ sets text (s .text) done
+  pub end : n .text ≡ s .text + told (reads done)
+  pub few : s .at + length (reads done .bytes) ≤ n .at
+  pub scant : s .at + reads done .escapes ≤ n .at
+  pub room : text' ≡ sets text (spot (s .text)) (reads done .bytes)
 
 -- two cursors within the limits of a row
 pub record Close (c n : Cursor) : Type 0 where
   pub from : c .at + 1 < ample
   pub to-at : n .at + 1 < ample
   pub row : c .row + 1 < ample
-  pub text : c .text + 1 < ample
-  pub to-text : n .text + 1 < ample
+  pub text : spot (c .text) + 1 < ample
+  pub to-text : spot (n .text) + 1 < ample
 
 -- the row of a text that was read from c up to n, and the cursor behind it
 pub record Leafed (c n : Cursor) (parent kind : ℕ) (r : Cursor) (rows rows' : List ℕ) : Type 0 where
   pub cursor : r ≡ record { at = n .at; row = c .row + 1; text = n .text }
-  pub table : rows' ≡ sets rows (width * c .row) (rowList kind (c .at) (n .at) (c .text) (n .text) parent (c .row + 1))
+  pub table : rows' ≡ sets rows (width * c .row) (rowList kind (c .at) (n .at) (spot (c .text)) (spot (n .text)) parent (c .row + 1))

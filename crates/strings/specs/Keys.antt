@@ -2,14 +2,14 @@
 use mathlib.Core.Path.{refl}
 use mathlib.Core.List.{List, _∷_, _++_}
 use Prim.Native.Nat.{ℕ}
-use Rattle.notation.specs.Lang.{Byte, Plus, Alt}
+use Rattle.notation.specs.Lang.{Byte, Map, Plus, Alt}
 use Rattle.language.specs.Kind.{KEY}
-use Rattle.language.specs.Tree.{Tree}
+use Rattle.language.specs.Tree.{Decoded, unescaped, Tree}
 use Rattle.language.specs.Strings.{keybyte, Key, Quoted}
 use Rattle.exact.specs.Class.{is}
 use Rattle.exact.specs.Out.{Reader}
 use Rattle.exact.specs.Lang.{retR, byteR}
-use Rattle.exact.specs.Comb.{seqR, altR, manyR}
+use Rattle.exact.specs.Comb.{seqR, mapR, altR, manyR}
 use Rattle.exact.specs.Ll.{Shape, Ll, ret-ll, byte-ll, seq-ll, alt-ll, star-ll, relax}
 use Rattle.strings.specs.Spans.{solid, spannedR, spanned-ll}
 use Rattle.strings.specs.Quoted.{quotedR, quotedS, quoted-ll}
@@ -26,15 +26,15 @@ unfolding bareR
 bare-ll = relax bareS refl refl refl (seq-ll refl (byte-ll keybyte 97 refl) λ v. seq-ll refl (star-ll refl refl (byte-ll keybyte 97 refl)) λ vs. ret-ll (v ∷ vs))
 
 -- a key, bare or quoted
-unfoldable pub nameR : Reader (List ℕ)
-nameR = altR (is keybyte) bareR quotedR
+unfoldable pub nameR : Reader Decoded
+nameR = altR (is keybyte) (mapR unescaped bareR) quotedR
 
 abbrev pub keyS : Shape
 keyS = solid (keybyte ++ quotedS .first) keybyte
 
-name-ll : Ll keyS (Alt (Plus (Byte (is keybyte))) Quoted) nameR
+name-ll : Ll keyS (Alt (Map unescaped (Plus (Byte (is keybyte)))) Quoted) nameR
 unfolding nameR
-name-ll = relax keyS refl refl refl (alt-ll refl refl bare-ll quoted-ll)
+name-ll = relax keyS refl refl refl (alt-ll refl refl (seq-ll refl bare-ll λ s. ret-ll (unescaped s)) quoted-ll)
 
 unfoldable pub keyR : Reader Tree
 keyR = spannedR KEY nameR

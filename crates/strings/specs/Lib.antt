@@ -7,6 +7,7 @@ pub mod Clean
 pub mod Vectors
 pub mod Turns
 pub mod Plain
+pub mod Joining
 pub mod Rest
 pub mod Settled
 pub mod Contract

@@ -4,7 +4,7 @@ use mathlib.Core.List.{List, [], _∷_, _++_, append-nil, append-assoc}
 use mathlib.Core.Bool.{true, false}
 use Prim.Native.Nat.{ℕ}
 use native.Mathlib.Omega.{arith}
-use Rattle.language.specs.Tree.{Tree, leaf}
+use Rattle.language.specs.Tree.{Decoded, Tree, leaf}
 use Rattle.language.specs.Strings.{Spanned}
 use Rattle.exact.specs.Class.{Class, Range, _to_, in₁, in₂, sub, apart-nil, leb-yes, and-true, or-left, or-right}
 use Rattle.exact.specs.Out.{Reader}
@@ -24,17 +24,17 @@ sub-behind : (c p : Class) → sub c (p ++ c) ≡ true
 sub-behind [] p = refl
 sub-behind (r ∷ c) p = and-true (range-in p r c) (rw (append-assoc p (r ∷ []) c) at (sub-behind c (p ++ r ∷ [])))
 
-sub-self : (c : Class) → sub (c ++ []) c ≡ true
+pub sub-self : (c : Class) → sub (c ++ []) c ≡ true
 sub-self c = rw append-nil (sub-behind c [])
 
-unfoldable pub spannedR : ℕ → Reader (List ℕ) → Reader Tree
+unfoldable pub spannedR : ℕ → Reader Decoded → Reader Tree
 spannedR kind r = seqR hereR λ a. seqR r λ s. seqR hereR λ e. retR (leaf kind a e s)
 
 -- a shape that is never empty
 abbrev pub solid : Class → Class → Shape
 solid first follow = record { null = false; first = first; follow = follow }
 
-pub spanned-ll : (kind : ℕ) (first follow : Class) {A : Lang (List ℕ)} {r : Reader (List ℕ)} → Ll (solid first follow) A r → Ll (solid first follow) (Spanned kind A) (spannedR kind r)
+pub spanned-ll : (kind : ℕ) (first follow : Class) {A : Lang Decoded} {r : Reader Decoded} → Ll (solid first follow) A r → Ll (solid first follow) (Spanned kind A) (spannedR kind r)
 unfolding spannedR
 spanned-ll kind first follow l =
     relax

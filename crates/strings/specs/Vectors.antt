@@ -3,7 +3,7 @@ use mathlib.Core.Path.{_≡_, refl}
 use mathlib.Core.List.{List, [], _∷_}
 use Prim.Native.Nat.{ℕ}
 use Rattle.language.specs.Kind.{STRING, KEY, BYTES}
-use Rattle.language.specs.Tree.{leaf}
+use Rattle.language.specs.Tree.{unescaped, leaf}
 use Rattle.language.specs.Strings.{hexNumber}
 use Rattle.exact.specs.Class.{is, only}
 use Rattle.exact.specs.Out.{Reader, soft, finish}
@@ -40,34 +40,34 @@ fifth = refl
 
 -- `"\u{D8000}\n\u{e9}/é"`: the text is F3 98 80 80, LF, C3 A9, `/`, C3 A9
 decoded : line stringR (34 ∷ 92 ∷ 117 ∷ 123 ∷ 68 ∷ 56 ∷ 48 ∷ 48 ∷ 48 ∷ 125 ∷ 92 ∷ 110 ∷ 92 ∷ 117 ∷ 123 ∷ 101 ∷ 57 ∷ 125 ∷ 92 ∷ 47 ∷ 195 ∷ 169 ∷ 34 ∷ 10 ∷ [])
-    ≡ acc (leaf STRING 0 23 (243 ∷ 152 ∷ 128 ∷ 128 ∷ 10 ∷ 195 ∷ 169 ∷ 47 ∷ 195 ∷ 169 ∷ []))
+    ≡ acc (leaf STRING 0 23 (record { bytes = 243 ∷ 152 ∷ 128 ∷ 128 ∷ 10 ∷ 195 ∷ 169 ∷ 47 ∷ 195 ∷ 169 ∷ []; escapes = 4 }))
 unfolding escapeR singleEscapeR betweenR quotedR stringR spannedR hexNumber
 decoded = refl
 
 -- `"\'"` at 2, and `"a` at its end
-unescaped : line stringR (34 ∷ 92 ∷ 39 ∷ 34 ∷ 10 ∷ []) ≡ stop 2
+no-escape : line stringR (34 ∷ 92 ∷ 39 ∷ 34 ∷ 10 ∷ []) ≡ stop 2
 unfolding escapeR singleEscapeR betweenR quotedR stringR spannedR hexNumber
-unescaped = refl
+no-escape = refl
 
 unclosed : line stringR (34 ∷ 97 ∷ []) ≡ stop 2
 unfolding escapeR singleEscapeR betweenR quotedR stringR spannedR hexNumber
 unclosed = refl
 
 -- `'\'"\\'` is `'"\`
-single : line stringR (39 ∷ 92 ∷ 39 ∷ 34 ∷ 92 ∷ 92 ∷ 39 ∷ 10 ∷ []) ≡ acc (leaf STRING 0 7 (39 ∷ 34 ∷ 92 ∷ []))
+single : line stringR (39 ∷ 92 ∷ 39 ∷ 34 ∷ 92 ∷ 92 ∷ 39 ∷ 10 ∷ []) ≡ acc (leaf STRING 0 7 (record { bytes = 39 ∷ 34 ∷ 92 ∷ []; escapes = 2 }))
 unfolding escapeR singleEscapeR betweenR quotedR stringR spannedR hexNumber
 single = refl
 
 -- Ticket 3: `'C:\img'` is `C:\img`; `'\n'` and `'\é'` have their backslashes too; LF behind one is refused at 3, a tab at 2
-path : line stringR (39 ∷ 67 ∷ 58 ∷ 92 ∷ 105 ∷ 109 ∷ 103 ∷ 39 ∷ 10 ∷ []) ≡ acc (leaf STRING 0 8 (67 ∷ 58 ∷ 92 ∷ 105 ∷ 109 ∷ 103 ∷ []))
+path : line stringR (39 ∷ 67 ∷ 58 ∷ 92 ∷ 105 ∷ 109 ∷ 103 ∷ 39 ∷ 10 ∷ []) ≡ acc (leaf STRING 0 8 (unescaped (67 ∷ 58 ∷ 92 ∷ 105 ∷ 109 ∷ 103 ∷ [])))
 unfolding escapeR singleEscapeR betweenR quotedR stringR spannedR hexNumber
 path = refl
 
-single-letter : line stringR (39 ∷ 92 ∷ 110 ∷ 39 ∷ 10 ∷ []) ≡ acc (leaf STRING 0 4 (92 ∷ 110 ∷ []))
+single-letter : line stringR (39 ∷ 92 ∷ 110 ∷ 39 ∷ 10 ∷ []) ≡ acc (leaf STRING 0 4 (unescaped (92 ∷ 110 ∷ [])))
 unfolding escapeR singleEscapeR betweenR quotedR stringR spannedR hexNumber
 single-letter = refl
 
-single-wide : line stringR (39 ∷ 92 ∷ 195 ∷ 169 ∷ 39 ∷ 10 ∷ []) ≡ acc (leaf STRING 0 5 (92 ∷ 195 ∷ 169 ∷ []))
+single-wide : line stringR (39 ∷ 92 ∷ 195 ∷ 169 ∷ 39 ∷ 10 ∷ []) ≡ acc (leaf STRING 0 5 (unescaped (92 ∷ 195 ∷ 169 ∷ [])))
 unfolding escapeR singleEscapeR betweenR quotedR stringR spannedR hexNumber
 single-wide = refl
 
@@ -88,11 +88,11 @@ back-open : line stringR (39 ∷ 92 ∷ 92 ∷ 92 ∷ 39 ∷ 10 ∷ []) ≡ stop
 unfolding escapeR singleEscapeR betweenR quotedR stringR spannedR hexNumber
 back-open = refl
 
-back-back : line stringR (39 ∷ 92 ∷ 92 ∷ 39 ∷ 10 ∷ []) ≡ acc (leaf STRING 0 4 (92 ∷ []))
+back-back : line stringR (39 ∷ 92 ∷ 92 ∷ 39 ∷ 10 ∷ []) ≡ acc (leaf STRING 0 4 (record { bytes = 92 ∷ []; escapes = 1 }))
 unfolding escapeR singleEscapeR betweenR quotedR stringR spannedR hexNumber
 back-back = refl
 
-back-back-quote : line stringR (39 ∷ 92 ∷ 92 ∷ 92 ∷ 39 ∷ 39 ∷ 10 ∷ []) ≡ acc (leaf STRING 0 6 (92 ∷ 39 ∷ []))
+back-back-quote : line stringR (39 ∷ 92 ∷ 92 ∷ 92 ∷ 39 ∷ 39 ∷ 10 ∷ []) ≡ acc (leaf STRING 0 6 (record { bytes = 92 ∷ 39 ∷ []; escapes = 2 }))
 unfolding escapeR singleEscapeR betweenR quotedR stringR spannedR hexNumber
 back-back-quote = refl
 
@@ -102,15 +102,15 @@ unfolding escapeR singleEscapeR betweenR quotedR stringR spannedR hexNumber
 plane-end = refl
 
 -- keys: `-5`, `""`, `'a\b'` with its backslash, and `a b` refused at 1
-bare : line keyR (45 ∷ 53 ∷ 10 ∷ []) ≡ acc (leaf KEY 0 2 (45 ∷ 53 ∷ []))
+bare : line keyR (45 ∷ 53 ∷ 10 ∷ []) ≡ acc (leaf KEY 0 2 (unescaped (45 ∷ 53 ∷ [])))
 unfolding escapeR singleEscapeR betweenR quotedR bareR nameR keyR spannedR hexNumber
 bare = refl
 
-empty-key : line keyR (34 ∷ 34 ∷ 10 ∷ []) ≡ acc (leaf KEY 0 2 [])
+empty-key : line keyR (34 ∷ 34 ∷ 10 ∷ []) ≡ acc (leaf KEY 0 2 (unescaped []))
 unfolding escapeR singleEscapeR betweenR quotedR bareR nameR keyR spannedR hexNumber
 empty-key = refl
 
-back-key : line keyR (39 ∷ 97 ∷ 92 ∷ 98 ∷ 39 ∷ 10 ∷ []) ≡ acc (leaf KEY 0 5 (97 ∷ 92 ∷ 98 ∷ []))
+back-key : line keyR (39 ∷ 97 ∷ 92 ∷ 98 ∷ 39 ∷ 10 ∷ []) ≡ acc (leaf KEY 0 5 (unescaped (97 ∷ 92 ∷ 98 ∷ [])))
 unfolding escapeR singleEscapeR betweenR quotedR bareR nameR keyR spannedR hexNumber
 back-key = refl
 
@@ -119,11 +119,11 @@ unfolding escapeR singleEscapeR betweenR quotedR bareR nameR keyR spannedR hexNu
 two-words = refl
 
 -- inline bytes: `<0a ff>`, `<>`; `<0A>` at 2, `<0a >` at 4, `<0a  ff>` at 4, `<0>` at 2
-bytes : line inlineBytesR (60 ∷ 48 ∷ 97 ∷ 32 ∷ 102 ∷ 102 ∷ 62 ∷ 10 ∷ []) ≡ acc (leaf BYTES 0 7 (10 ∷ 255 ∷ []))
+bytes : line inlineBytesR (60 ∷ 48 ∷ 97 ∷ 32 ∷ 102 ∷ 102 ∷ 62 ∷ 10 ∷ []) ≡ acc (leaf BYTES 0 7 (unescaped (10 ∷ 255 ∷ [])))
 unfolding pairR furtherR insideR angledR inlineBytesR spannedR
 bytes = refl
 
-no-bytes : line inlineBytesR (60 ∷ 62 ∷ 10 ∷ []) ≡ acc (leaf BYTES 0 2 [])
+no-bytes : line inlineBytesR (60 ∷ 62 ∷ 10 ∷ []) ≡ acc (leaf BYTES 0 2 (unescaped []))
 unfolding pairR furtherR insideR angledR inlineBytesR spannedR
 no-bytes = refl
 

@@ -16,6 +16,7 @@ use characters::Skip;
 use characters::is_plain;
 use rooms::Ans;
 use rooms::Cursor;
+use rooms::ESCAPE;
 use rooms::Step;
 use rooms::copy;
 use rooms::put_byte;
@@ -174,11 +175,12 @@ fn braced(doc: &[u8], text: &mut [u8], c: Cursor) -> Ans
         Coded::Named(v, e) => match e.take(&*doc, 125) {
             Skip::Bad(p) => Ans::No(p),
             Skip::End(at) => {
-                let x = put_scalar(text, c.text, v);
+                let from = c.spot();
+                let to = put_scalar(text, from, v);
                 Ans::Ok(Cursor {
                     at,
                     row: c.row,
-                    text: x,
+                    text: c.text + ESCAPE + (to - from),
                 })
             }
         },
@@ -211,11 +213,11 @@ fn behind(doc: &[u8], text: &mut [u8], c: Cursor) -> Ans
             if v == 256 {
                 return scalar_escape(&*doc, text, c);
             }
-            put_byte(text, c.text, v as u8);
+            put_byte(text, c.spot(), v as u8);
             Ans::Ok(Cursor {
                 at: n.at,
                 row: c.row,
-                text: c.text + 1,
+                text: c.text + ESCAPE + 1,
             })
         }
     }
@@ -262,7 +264,7 @@ fn kept(doc: &[u8], text: &mut [u8], c: Cursor) -> Ans
             Read::Scalar(_, m) => {
                 let at = c.at;
                 let e = m.at;
-                copy(&*doc, at, e, text, c.text);
+                copy(&*doc, at, e, text, c.spot());
                 Ans::Ok(Cursor {
                     at: e,
                     row: c.row,
@@ -284,11 +286,11 @@ pub fn single_escape(doc: &[u8], text: &mut [u8], c: Cursor) -> Ans
             Step::Over => Ans::No(n.at),
             Step::Byte(b, m) => match b {
                 39 | 92 => {
-                    put_byte(text, c.text, b);
+                    put_byte(text, c.spot(), b);
                     Ans::Ok(Cursor {
                         at: m.at,
                         row: c.row,
-                        text: c.text + 1,
+                        text: c.text + ESCAPE + 1,
                     })
                 }
                 _ => kept(&*doc, text, c),

@@ -25,7 +25,7 @@ fn pair(doc: &[u8], text: &mut [u8], c: Cursor) -> Ans
         Digit::Of(h, m) => match low(&*doc, m) {
             Digit::None => Ans::No(m.at),
             Digit::Of(l, n) => {
-                put_byte(text, c.text, (16 * h + l) as u8);
+                put_byte(text, c.spot(), (16 * h + l) as u8);
                 Ans::Ok(Cursor {
                     at: n.at,
                     row: c.row,

@@ -23,7 +23,7 @@ fn bare(doc: &[u8], text: &mut [u8], c: Cursor) -> Cursor
     let r = Reading { at };
     let n = r.key_bytes(&*doc);
     let e = n.at;
-    copy(&*doc, at, e, text, c.text);
+    copy(&*doc, at, e, text, c.spot());
     Cursor {
         at: e,
         row: c.row,

@@ -27,7 +27,7 @@ fn clean(doc: &[u8], text: &mut [u8], c: Cursor, quote: u8) -> Cursor
     let at = c.at;
     let n = clean_end(&*doc, Reading { at }, quote);
     let e = n.at;
-    copy(&*doc, at, e, text, c.text);
+    copy(&*doc, at, e, text, c.spot());
     Cursor {
         at: e,
         row: c.row,
@@ -50,7 +50,7 @@ fn wide(doc: &[u8], text: &mut [u8], c: Cursor, quote: u8) -> Ans
                 return Ans::No(at);
             }
             let e = n.at;
-            copy(&*doc, at, e, text, c.text);
+            copy(&*doc, at, e, text, c.spot());
             Ans::Ok(Cursor {
                 at: e,
                 row: c.row,
@@ -130,7 +130,7 @@ pub fn put_leaf(rows: &mut [u32], c: Cursor, n: Cursor, parent: u32, kind: Kind)
     put_row(
         rows,
         row,
-        row_of(kind, c.at, n.at, c.text, n.text, parent, row + 1),
+        row_of(kind, c.at, n.at, c.spot(), n.spot(), parent, row + 1),
     );
     Cursor {
         at: n.at,

@@ -7,7 +7,7 @@ use lib.ListN.{length, drop}
 use lib.IntN.{ℤ, pos, negℤ}
 use lib.Signed.{ltZ}
 use Rattle.language.specs.Kind.{INTEGER, ARRAY, OBJECT, KEY}
-use Rattle.language.specs.Tree.{Tree, leaf, node, none, more, width, size, sizes, textOf, textsOf, rowsOf, rowss, Repeats, inside, again, has-here, has-later}
+use Rattle.language.specs.Tree.{unescaped, Tree, leaf, node, none, more, width, size, sizes, textOf, textsOf, rowsOf, rowss, Repeats, inside, again, has-here, has-later}
 use Rattle.language.specs.Document.{Document}
 use Rattle.language.specs.Answered.{limit, deepest, SYNTAX, END, REPEAT, Stops, Answered, accepted, stopped, repeated}
 use Rattle.utf8.specs.Told.{Answer as Judgement, given, refused-syntax, refused-end}
@@ -111,10 +111,10 @@ unfolding reading
 has-tree doc t e = subst (Judged doc) e (judged doc)
 
 tree₃ : Tree
-tree₃ = node ARRAY 0 7 2 (more (leaf INTEGER 1 2 (49 ∷ [])) (more (leaf INTEGER 4 6 (50 ∷ 50 ∷ [])) none))
+tree₃ = node ARRAY 0 7 2 (more (leaf INTEGER 1 2 (unescaped (49 ∷ []))) (more (leaf INTEGER 4 6 (unescaped (50 ∷ 50 ∷ []))) none))
 
 tree₁₀ : Tree
-tree₁₀ = node OBJECT 0 9 2 (more (leaf KEY 0 1 (97 ∷ [])) (more (leaf INTEGER 3 4 (49 ∷ [])) (more (leaf KEY 5 6 (97 ∷ [])) (more (leaf INTEGER 8 9 (50 ∷ [])) none))))
+tree₁₀ = node OBJECT 0 9 2 (more (leaf KEY 0 1 (unescaped (97 ∷ []))) (more (leaf INTEGER 3 4 (unescaped (49 ∷ []))) (more (leaf KEY 5 6 (unescaped (97 ∷ []))) (more (leaf INTEGER 8 9 (unescaped (50 ∷ []))) none))))
 
 -- the keys of P10 are two
 in-one : {q a : ℕ} {s : List ℕ} {r b : ℕ} {u : List ℕ} → In q a s (named r b u ∷ []) → a ≡ b

@@ -6,9 +6,9 @@ use Prim.Native.Nat.{ℕ, suc, _*_, _≤_, _<_}
 use lib.ListN.{length, take}
 use lib.IntN.{ℤ}
 use Rattle.language.specs.declared.Answer.{Answer}
-use Rattle.language.specs.Tree.{Tree, first, after, size, textOf}
+use Rattle.language.specs.Tree.{Tree, first, after, size, textOf, escapesOf}
 use Rattle.language.specs.Document.{Document}
-use Rattle.language.specs.Answered.{limit, deepest, CHAR, DEEP, END, REPEAT, number, value, second, Viable, Answered}
+use Rattle.language.specs.Answered.{limit, deepest, CHAR, DEEP, END, REPEAT, number, value, second, third, Viable, Answered, Totals}
 use Rattle.questions.specs.declared.Found.{Found}
 use Rattle.questions.specs.Text as text-of
 use Rattle.questions.specs.Walk.{foundReply, Finds}
@@ -38,17 +38,29 @@ one-tree = readers.one-tree
 
 -- ---- ONE ANSWER
 
--- of `read` and `yay_read`: the promise fixes number, place or counts, and every word and byte of both rooms
+-- of `read` and `yay_read`: the promise fixes number, place or counts, and every word and byte of both rooms; and, beside the number, the total of escapes
 pub one-answer : (doc table text : List ℕ) (n v s n₂ v₂ s₂ : ℕ) (table′ text′ table″ text″ : List ℕ)
     → Answered doc table text n v s table′ text′ → Answered doc table text n₂ v₂ s₂ table″ text″ → (n ≡ n₂) × (v ≡ v₂) × (s ≡ s₂) × (table′ ≡ table″) × (text′ ≡ text″)
 one-answer doc table text n v s n₂ v₂ s₂ table′ text′ table″ text″ x y = unique.one-answer known x y
 
--- .. and so the case that `read` hands back, which number and values tell
-pub one-case : (a b : Answer) → number a ≡ number b → value a ≡ value b → second a ≡ second b → a ≡ b
+pub one-total : (doc : List ℕ) (n z z₂ : ℕ) → Totals doc n z → Totals doc n z₂ → z ≡ z₂
+one-total doc n z z₂ x y = unique.one-total known x y
+
+-- .. and so the number and the three values of `yay_read`
+pub one-yay-read : (doc table text : List ℕ) (n v s z n₂ v₂ s₂ z₂ : ℕ) (table′ text′ table″ text″ : List ℕ)
+    → Answered doc table text n v s table′ text′ → Totals doc n z → Answered doc table text n₂ v₂ s₂ table″ text″ → Totals doc n₂ z₂
+    → (n ≡ n₂) × (v ≡ v₂) × (s ≡ s₂) × (z ≡ z₂) × (table′ ≡ table″) × (text′ ≡ text″)
+one-yay-read doc table text n v s z n₂ v₂ s₂ z₂ table′ text′ table″ text″ x a y b =
+    let e = one-answer doc table text n v s n₂ v₂ s₂ table′ text′ table″ text″ x y in
+    (e .0, e .1, e .2, one-total doc n z z₂ a (rw (e .0) b), e .3, e .4)
+
+-- .. and the case that `read` hands back, which number and values tell
+pub one-case : (a b : Answer) → number a ≡ number b → value a ≡ value b → second a ≡ second b → third a ≡ third b → a ≡ b
 one-case = unique.answer-tells
 
 pub one-read : (doc table text : List ℕ) (a b : Answer) (table′ text′ table″ text″ : List ℕ)
-    → Answered doc table text (number a) (value a) (second a) table′ text′ → Answered doc table text (number b) (value b) (second b) table″ text″
+    → Answered doc table text (number a) (value a) (second a) table′ text′ → Totals doc (number a) (third a)
+    → Answered doc table text (number b) (value b) (second b) table″ text″ → Totals doc (number b) (third b)
     → (a ≡ b) × (table′ ≡ table″) × (text′ ≡ text″)
 one-read = unique.one-read known
 
@@ -111,6 +123,10 @@ few-rows = documents.few-rows
 
 pub few-text : (k : ℕ) (doc : List ℕ) (t : Tree) → Document k doc t → length (textOf t) < length doc
 few-text = documents.few-text
+
+-- FEW ESCAPES: no more than the document's bytes
+pub few-escapes : (k : ℕ) (doc : List ℕ) (t : Tree) → Document k doc t → escapesOf t ≤ length doc
+few-escapes = documents.few-escapes
 
 -- FEW KEYS: four bytes or more of a document belong to each, at any depth
 pub few-keys : (k : ℕ) (doc : List ℕ) (t : Tree) → Document k doc t → 4 * keysIn t ≤ length doc

@@ -11,7 +11,7 @@ use Rattle.language.specs.Kind.{pick, hasText}
 use Rattle.questions.specs.Table.{word, kind, start, end, good, readable}
 use Rattle.questions.specs.Text.{textNumber}
 use Rattle.language.specs.declared.Answer.{Answer}
-use Rattle.language.specs.Answered.{Answered, number, value, second}
+use Rattle.language.specs.Answered.{Answered, Totals, number, value, second, third}
 use Rattle.questions.specs.Walk.{Reply, Finds, foundReply}
 use Rattle.questions.specs.declared.Found.{Found}
 use Rattle.questions.specs.declared.Found.the-variants.{At, Missing, BadRow}
@@ -28,6 +28,9 @@ use Rattle.exports.specs.Exports.{FoundAt, ComparedTo, TextAt}
 pub read-as : (doc table text table' text' : List ℕ) (a : Answer) (n v s : ℕ) → Answered doc table text (number a) (value a) (second a) table' text' → n ≡ number a → v ≡ value a
     → s ≡ second a → Answered doc table text n v s table' text'
 read-as doc table text table' text' a n v s x e f g = rw (e, f, g) x
+
+pub total-as : (doc : List ℕ) (a : Answer) (n z : ℕ) → Totals doc (number a) (third a) → n ≡ number a → z ≡ third a → Totals doc n z
+total-as doc a n z x e f = rw (e, f) x
 
 -- ---- `yay_find`
 

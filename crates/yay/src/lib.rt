@@ -1,6 +1,6 @@
 // The C interface: each function answers a number of document 01, 0 for none, and puts its values where it is told.
 ghost use Rattle.exports.specs.Exports.{FoundAt, ComparedTo, TextAt};
-ghost use Rattle.language.specs.Answered.{Answered};
+ghost use Rattle.language.specs.Answered.{Answered, Totals};
 ghost use mathlib.Core.Path.{_≡_};
 ghost use Prim.Native.Nat.{_+_, _*_, _<_};
 ghost use lib.ListN.{length, getD};
@@ -10,7 +10,7 @@ use language::Row;
 use language::WIDTH;
 use questions::Found;
 
-// 0 with the counts of rows and text bytes; or the number of a refusal with its place, or what is needed, and 0.
+// 0 with the counts of rows, text bytes and escapes; or the number of a refusal with its place, or what is needed, 0 and 0.
 #[no_mangle]
 pub extern "C" fn yay_read(
     doc: &[u8],
@@ -18,12 +18,15 @@ pub extern "C" fn yay_read(
     text: &mut [u8],
     first: &mut usize,
     second: &mut usize,
+    third: &mut usize,
 ) -> u32
     ensures { λ r. ⌜ Answered (now (doc .entry)) (now (table .entry)) (now (text .entry)) r (now (first .exit)) (now (second .exit)) (now (table .exit)) (now (text .exit)) ⌝ }
+    ensures { λ r. ⌜ Totals (now (doc .entry)) r (now (third .exit)) ⌝ }
 {
     let answer = reader::read(&*doc, table, text);
     *first = answer.value();
     *second = answer.second();
+    *third = answer.third();
     answer.number()
 }
 

@@ -16,21 +16,24 @@ struct Checker {
     documents: usize,
     /// By answer number, 0 for acceptance.
     counts: [usize; 9],
+    /// Accepted ones with escapes.
+    escaped: usize,
     wrong: usize,
 }
 
 impl Checker {
     /// Compares one answer; `limit` is an index into LIMITS.
-    fn check(&mut self, doc: &[u8], limit: usize, expected: Result<(), Refusal>) {
+    fn check(&mut self, doc: &[u8], limit: usize, expected: Result<usize, Refusal>) {
         let answer = verdict(&mut self.seconds[limit], doc);
         self.documents += 1;
-        self.counts[expected.map_or_else(|refusal| refusal.number as usize, |()| 0)] += 1;
-        if answer == expected {
+        self.counts[expected.map_or_else(|refusal| refusal.number as usize, |_| 0)] += 1;
+        self.escaped += usize::from(expected.is_ok_and(|escapes| escapes > 0));
+        if slow::agrees(expected, answer) {
             return;
         }
         self.wrong += 1;
         let second = &mut self.seconds[limit];
-        let small = shrink(doc, |doc| verdict(second, doc) != slow::answer(doc, LIMITS[limit] as u32));
+        let small = shrink(doc, |doc| !slow::agrees(slow::answer(doc, LIMITS[limit] as u32), verdict(second, doc)));
         println!("nesting {}: {} {:?}", LIMITS[limit], hex::show(&small), String::from_utf8_lossy(&small));
         println!("  slow {:?}, second {:?}", slow::answer(&small, LIMITS[limit] as u32), verdict(second, &small));
     }
@@ -49,8 +52,7 @@ impl Checker {
             match take(doc, letter, alive) {
                 Ok(next) => {
                     let end = Refusal { number: 5, place: doc.len() };
-                    let expected = if next.0.is_document() { Ok(()) } else { Err(end) };
-                    self.check(doc, limit, expected);
+                    self.check(doc, limit, next.0.document().ok_or(end));
                     if left > 1 {
                         self.walk(doc, limit, &next, alphabet, left - 1);
                     }
@@ -104,11 +106,11 @@ impl Checker {
         self.check(&doc, limit, expected);
     }
 
-    /// A grown document has the rows and text it was grown to mean.
+    /// A grown document has the rows, text and escapes it was grown to mean.
     fn grown(&mut self) {
         let size = self.rng.below(400);
         let grown = grow(&mut self.rng, size, 32);
-        let answer = self.seconds[3].tree(&grown.doc).map(|(words, text)| (words.to_vec(), text.to_vec()));
+        let answer = self.seconds[3].given(&grown.doc);
         self.documents += 1;
         if answer != grown.meant {
             self.wrong += 1;
@@ -118,12 +120,9 @@ impl Checker {
     }
 }
 
-/// The second reader's answer as far as the slow checker goes: a repeated key is no matter of places.
-fn verdict(second: &mut Second, doc: &[u8]) -> Result<(), Refusal> {
-    match second.tree(doc) {
-        Err(refusal) if refusal.number < 6 => Err(refusal),
-        _ => Ok(()),
-    }
+/// The second reader's answer as far as the slow checker goes.
+fn verdict(second: &mut Second, doc: &[u8]) -> Result<usize, Refusal> {
+    second.tree(doc).map(|(_, _, escapes)| escapes)
 }
 
 /// Appends a letter, or stops at the byte that no document has there.
@@ -147,7 +146,7 @@ fn main() -> ExitCode {
     println!("seed {seed}");
     let seconds = LIMITS.iter().map(|&limit| Second::with_nesting(limit)).collect();
     let rng = Rng::new(seed as u64);
-    let mut checker = Checker { seconds, rng, documents: 0, counts: [0; 9], wrong: 0 };
+    let mut checker = Checker { seconds, rng, documents: 0, counts: [0; 9], escaped: 0, wrong: 0 };
     for alphabet in &small::ALPHABETS {
         let before = checker.documents;
         for (limit, &nesting) in LIMITS.iter().enumerate() {
@@ -173,7 +172,7 @@ fn main() -> ExitCode {
     for _ in 0..documents {
         checker.grown();
     }
-    println!("documents by answer number, 0 for accepted: {:?}", checker.counts);
+    println!("documents by answer number, 0 for accepted: {:?}; {} have escapes", checker.counts, checker.escaped);
     println!("{} documents, {} differences", checker.documents, checker.wrong);
     ExitCode::from(u8::from(checker.wrong > 0))
 }

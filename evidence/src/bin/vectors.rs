@@ -1,7 +1,7 @@
 //! Compares the second reader and the slow checker of places with a file of
 //! documents and answers: `vectors ../shared/vectors/base.tsv`.
 
-use evidence::second::{Refusal, Second, REPEAT};
+use evidence::second::Second;
 use evidence::vectors::{self, Vector};
 use evidence::{hex, slow};
 use std::process::ExitCode;
@@ -21,13 +21,10 @@ fn main() -> ExitCode {
     let mut second = Second::new();
     let mut wrong = 0;
     for Vector { doc, meant } in &list {
-        let answer = second.tree(doc).map(|(words, text)| (words.to_vec(), text.to_vec()));
+        let answer = second.given(doc);
         let places = slow::answer(doc, 32);
-        let wanted = match meant {
-            Err(Refusal { number: REPEAT, .. }) | Ok(_) => Ok(()),
-            Err(refusal) => Err(*refusal),
-        };
-        if answer != *meant || places != wanted {
+        let wanted = meant.as_ref().map(|given| given.escapes).map_err(|refusal| *refusal);
+        if answer != *meant || !slow::agrees(places, wanted) {
             wrong += 1;
             println!("{}\n  file {meant:?}\n  second reader {answer:?}\n  slow checker {places:?}", hex::show(doc));
         }

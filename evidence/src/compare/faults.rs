@@ -1,6 +1,8 @@
 //! Deliberate faults in copies of the second reader, each of which the comparison has to find.
 
-use super::{Questions, Reader, SecondQuestions};
+mod escapes;
+
+use super::{Questions, Reader, Said, SecondQuestions};
 use crate::second::questions::{Lent, BADROW, NONE};
 use crate::second::{Answer, Refusal, Second, CHAR, LONG, LONGEST, REPEAT, ROWS, SYNTAX, TEXT, WORDS};
 use std::ops::Range;
@@ -15,8 +17,8 @@ pub struct Faulty {
 }
 
 impl Reader for Faulty {
-    fn read(&mut self, doc: &[u8], table: &mut [u32], room: &mut [u8]) -> Answer {
-        (self.read)(&mut self.second, doc, table, room)
+    fn read(&mut self, doc: &[u8], table: &mut [u32], room: &mut [u8]) -> Said {
+        (self.read)(&mut self.second, doc, table, room).into()
     }
 }
 
@@ -138,6 +140,7 @@ pub fn faults() -> Vec<(&'static str, Box<dyn Reader>)> {
         (name, reader)
     };
     let mut list: Vec<_> = FAULTS.iter().map(read).collect();
+    list.extend(escapes::faults());
     list.push((
         "integers are compared byte by byte",
         Box::new(FaultyQuestions { bytewise: true, second: Second::new() }),
@@ -194,8 +197,8 @@ struct FaultyQuestions {
 }
 
 impl Reader for FaultyQuestions {
-    fn read(&mut self, doc: &[u8], table: &mut [u32], room: &mut [u8]) -> Answer {
-        self.second.read(doc, table, room)
+    fn read(&mut self, doc: &[u8], table: &mut [u32], room: &mut [u8]) -> Said {
+        self.second.read(doc, table, room).into()
     }
 
     fn questions(&self) -> Option<&dyn Questions> {

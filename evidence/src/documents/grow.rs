@@ -1,14 +1,15 @@
-//! Random documents from the grammar with every construct, each with the rows
-//! and text that it was grown to mean: a third source beside the two readers.
+//! Random documents from the grammar with every construct, each with the rows, text
+//! and escapes that it was grown to mean: a third source beside the two readers.
 
 mod blocks;
 mod values;
 
-use super::{pieces, Rng};
-use crate::second::{Refusal, REPEAT};
+use super::pieces::{self, Spelled};
+use super::Rng;
+use crate::second::{Given, Refusal, REPEAT};
 
-/// Numbers 1 to 6, or the words of all rows and the text.
-pub type Meant = Result<(Vec<u32>, Vec<u8>), Refusal>;
+/// Numbers 1 to 6, or all that a document gives.
+pub type Meant = Result<Given, Refusal>;
 
 /// A document and what it was grown to mean.
 pub struct Grown {
@@ -30,14 +31,16 @@ pub fn grow_wide(rng: &mut Rng, size: usize, nesting: usize) -> Grown {
 }
 
 fn grow_so(rng: &mut Rng, size: usize, nesting: usize, repeats: usize, wide: bool) -> Grown {
-    let mut grower =
-        Grower { repeats, wide, rng, size, doc: Vec::new(), rows: Vec::new(), text: Vec::new(), repeat: None };
+    let rich = rng.once_in(4);
+    let (doc, rows, text) = (Vec::new(), Vec::new(), Vec::new());
+    let mut grower = Grower { rng, size, doc, rows, text, escapes: 0, repeat: None, repeats, wide, rich };
     grower.document(nesting);
-    let meant = match grower.repeat {
+    let Grower { doc, rows, text, escapes, repeat, .. } = grower;
+    let meant = match repeat {
         Some(place) => Err(Refusal { number: REPEAT, place }),
-        None => Ok((grower.rows.concat(), grower.text)),
+        None => Ok(Given { words: rows.concat(), text, escapes }),
     };
-    Grown { doc: grower.doc, meant }
+    Grown { doc, meant }
 }
 
 struct Grower<'r> {
@@ -46,11 +49,14 @@ struct Grower<'r> {
     doc: Vec<u8>,
     rows: Vec<[u32; 7]>,
     text: Vec<u8>,
+    escapes: usize,
     repeat: Option<usize>,
     /// One key in so many, and as many as its object has, repeats one of them; 0 for none.
     repeats: usize,
     /// Whether arrays and objects go on until the size is reached.
     wide: bool,
+    /// Whether strings have many backslashes, and every other key is quoted.
+    rich: bool,
 }
 
 /// The keys an object has so far.
@@ -97,8 +103,9 @@ impl Grower<'_> {
     /// Writes a key and its row, and notes whether the object has it already.
     fn key(&mut self, object: usize, keys: &mut Keys) {
         let from = self.at();
-        let (written, meant) = self.new_key(keys);
+        let Spelled { written, meant, escapes } = self.new_key(keys);
         self.write(&written);
+        self.escapes += escapes;
         let to = self.at();
         self.leaf(10, object, (from, to), &meant);
         if keys.contains(&meant) && self.repeat.is_none() {
@@ -107,21 +114,22 @@ impl Grower<'_> {
         keys.push(meant);
     }
 
-    /// A key as written and as meant; one that the object has only in a document with repeats.
-    fn new_key(&mut self, keys: &Keys) -> (String, Vec<u8>) {
+    /// A key as written and as meant; one that the object has only in a document with repeats, whose escapes nobody is
+    /// told.
+    fn new_key(&mut self, keys: &Keys) -> Spelled {
         if self.repeats > 0 && !keys.is_empty() && self.rng.once_in(self.repeats + keys.len()) {
-            let key = keys[self.rng.below(keys.len())].clone();
-            return (pieces::written_anew(self.rng, &key), key);
+            let meant = keys[self.rng.below(keys.len())].clone();
+            return Spelled { written: pieces::written_anew(self.rng, &meant), meant, escapes: 0 };
         }
         loop {
-            let (written, meant) = if self.rng.once_in(4) {
-                pieces::quoted(self.rng)
+            let key = if self.rng.once_in(if self.rich { 2 } else { 4 }) {
+                pieces::quoted(self.rng, self.rich)
             } else {
-                let key = pieces::bare_key(self.rng);
-                (key.clone(), key.into_bytes())
+                let written = pieces::bare_key(self.rng);
+                Spelled { meant: written.clone().into_bytes(), written, escapes: 0 }
             };
-            if !keys.contains(&meant) {
-                return (written, meant);
+            if !keys.contains(&key.meant) {
+                return key;
             }
         }
     }

@@ -100,19 +100,28 @@ pub fn float(rng: &mut Rng, spaced: bool) -> String {
     format!("{minus}{mantissa}{tail}")
 }
 
-/// A quoted string as written, and what it means.
-pub fn quoted(rng: &mut Rng) -> (String, Vec<u8>) {
+/// A string or a key as written, what it means, and how many escapes it has.
+pub struct Spelled {
+    pub written: String,
+    pub meant: Vec<u8>,
+    pub escapes: usize,
+}
+
+/// A quoted string, with many backslashes if `rich`.
+pub fn quoted(rng: &mut Rng, rich: bool) -> Spelled {
     let double = rng.once_in(2);
     let quote = if double { '"' } else { '\'' };
     let mut written = String::from(quote);
     let mut meant = String::new();
+    let mut escapes = 0;
     for _ in 0..length(rng) {
-        let (form, text) = if double { double_piece(rng) } else { single_piece(rng) };
-        written.push_str(&form);
-        meant.push_str(&text);
+        let piece = if double { double_piece(rng, rich) } else { single_piece(rng, rich) };
+        written.push_str(&piece.written);
+        meant.push_str(&piece.text);
+        escapes += usize::from(piece.escape);
     }
     written.push(quote);
-    (written, meant.into_bytes())
+    Spelled { written, meant: meant.into_bytes(), escapes }
 }
 
 /// A key written anew, bare where it can be or in double quotes with escapes.
@@ -130,18 +139,36 @@ pub fn written_anew(rng: &mut Rng, key: &[u8]) -> String {
     format!("\"{}\"", text.chars().map(piece).collect::<String>())
 }
 
-/// A piece of a single-quoted string as written, and its text: an escape, a character, or one with a backslash before it
-/// that stays.
-fn single_piece(rng: &mut Rng) -> (String, String) {
-    match character(rng) {
-        scalar @ ('\'' | '\\') => (format!("\\{scalar}"), scalar.to_string()),
-        scalar if rng.once_in(6) => (format!("\\{scalar}"), format!("\\{scalar}")),
-        scalar => (scalar.to_string(), scalar.to_string()),
+/// A piece of a quoted string as written, its text, and whether it is an escape.
+struct Piece {
+    written: String,
+    text: String,
+    escape: bool,
+}
+
+impl Piece {
+    fn escape(written: impl Into<String>, text: impl Into<String>) -> Piece {
+        Piece { written: written.into(), text: text.into(), escape: true }
+    }
+
+    /// What stands for itself.
+    fn itself(text: String) -> Piece {
+        Piece { written: text.clone(), text, escape: false }
     }
 }
 
-/// A piece of a double-quoted string as written, and its text: an escape or a character.
-fn double_piece(rng: &mut Rng) -> (String, String) {
+/// An escape, a character, or one with a backslash before it that stays.
+fn single_piece(rng: &mut Rng, rich: bool) -> Piece {
+    let scalar = if rich && rng.once_in(3) { ['\'', '\\'][rng.below(2)] } else { character(rng) };
+    match scalar {
+        '\'' | '\\' => Piece::escape(format!("\\{scalar}"), scalar),
+        _ if rng.once_in(if rich { 3 } else { 6 }) => Piece::itself(format!("\\{scalar}")),
+        _ => Piece::itself(scalar.into()),
+    }
+}
+
+/// An escape or a character.
+fn double_piece(rng: &mut Rng, rich: bool) -> Piece {
     const ESCAPES: [(&str, &str); 8] = [
         ("\\\"", "\""),
         ("\\\\", "\\"),
@@ -152,26 +179,26 @@ fn double_piece(rng: &mut Rng) -> (String, String) {
         ("\\r", "\r"),
         ("\\t", "\t"),
     ];
-    match rng.below(8) {
+    match rng.below(if rich { 4 } else { 8 }) {
         0 => {
             let (form, text) = ESCAPES[rng.below(8)];
-            (form.to_string(), text.to_string())
+            Piece::escape(form, text)
         }
         1 => scalar_escape(rng),
         _ => match character(rng) {
-            scalar @ ('"' | '\\') => (format!("\\{scalar}"), scalar.to_string()),
-            scalar => (scalar.to_string(), scalar.to_string()),
+            scalar @ ('"' | '\\') => Piece::escape(format!("\\{scalar}"), scalar),
+            scalar => Piece::itself(scalar.into()),
         },
     }
 }
 
-fn scalar_escape(rng: &mut Rng) -> (String, String) {
+fn scalar_escape(rng: &mut Rng) -> Piece {
     const SOME: [u32; 10] = [0, 0x7F, 0x80, 0xD7FF, 0xE000, 0xFFFE, 0xFFFF, 0xD8000, 0x10FFFF, 0x61];
     let point = if rng.once_in(2) { SOME[rng.below(10)] } else { rng.below(0x110000) as u32 };
     let scalar = char::from_u32(point).unwrap_or('\u{FFFD}');
     let short = if rng.once_in(2) { format!("{:x}", scalar as u32) } else { format!("{:X}", scalar as u32) };
     let zeros = rng.below(7 - short.len());
-    (format!("\\u{{{}{short}}}", "0".repeat(zeros)), scalar.to_string())
+    Piece::escape(format!("\\u{{{}{short}}}", "0".repeat(zeros)), scalar)
 }
 
 /// Hex pairs as written with single spaces between some, and the bytes.

@@ -14,7 +14,7 @@ macro_rules! alphabet {
 }
 
 /// `most` is set so that each walk has some hundred thousand documents.
-pub const ALPHABETS: [Alphabet; 17] = [
+pub const ALPHABETS: [Alphabet; 18] = [
     alphabet!("lines", 10, b"a" b":" b"-" b" " b"\n"),
     alphabet!("values", 7, b"1" b"-" b"." b"e" b" " b"\n" b":"),
     alphabet!("single quotes", 7, b"'" b"\\" b"k" b": " b"\xC3" b"\xA9" b"\xE2\x82" b"\xF0\x9F\x98" b"\xFF" b"\x7F" b"\x09" b"\n"),
@@ -26,6 +26,7 @@ pub const ALPHABETS: [Alphabet; 17] = [
     alphabet!("block strings", 8, b"`" b"x" b" " b"\n" b"- " b"k: "),
     alphabet!("open bytes", 7, b"> " b"ab" b" " b"\n" b"# c" b"- " b"k: "),
     alphabet!("nested", 8, b"k:" b"j: 1" b"  " b"\n" b"- " b"\"s\"" b"`"),
+    alphabet!("escapes", 9, b"k:\n" b"  " b"\"\\n\"\n" b"'\\'\\\\'\n" b"'\\k'\n" b"\"\\t\": " b"- "),
     alphabet!("joined", 9, b"k:\n" b"  " b" " b"\"s\"" b"\n" b":" b"j: 1\n"),
     alphabet!("bullets", 8, b"- " b"-" b"5" b":" b" " b"\n" b"  "),
     alphabet!("words", 5, b"nul" b"l" b"true" b"fals" b"e" b"nan" b"-" b"infinity" b":" b" " b"\n"),

@@ -14,7 +14,7 @@ impl Pass<'_> {
         Ok(end)
     }
 
-    /// Decodes the quoted string at `at` into the text; gives the byte after its closing quote.
+    /// Decodes the quoted string at `at` into the text, and counts its escapes; gives the byte after its closing quote.
     pub(crate) fn quoted(&mut self, at: usize) -> Step<usize> {
         let doc = self.doc;
         let quote = doc[at];
@@ -33,16 +33,18 @@ impl Pass<'_> {
     }
 
     /// What stands after a backslash in single quotes: `'` or `\` for itself. Before anything else the backslash stays,
-    /// and what it stands before is read like the rest of the string, of which LF is no part.
+    /// and what it stands before is read like the rest of the string, of which LF is no part; that is no escape.
     fn single_escape(&mut self, at: usize) -> usize {
         let byte = self.doc[at];
         let escaped = byte == b'\'' || byte == b'\\';
         self.tree.text.push(if escaped { byte } else { b'\\' });
+        self.tree.escapes += usize::from(escaped);
         at + usize::from(escaped)
     }
 
-    /// What stands after a backslash in double quotes.
+    /// What stands after a backslash in double quotes, where each is an escape or refused.
     fn escape(&mut self, at: usize) -> Step<usize> {
+        self.tree.escapes += 1;
         let byte = match self.doc[at] {
             byte @ (b'"' | b'\\' | b'/') => byte,
             b'b' => 8,

@@ -29,6 +29,8 @@ const NEXT: usize = 6;
 pub struct Tree {
     pub rows: Vec<[u32; WORDS]>,
     pub text: Text,
+    /// How many escapes were read; no quoted string is read twice.
+    pub escapes: usize,
     /// The smallest start of a key that equals an earlier key of its object.
     pub repeat: Option<usize>,
     keys: Keys,
@@ -40,6 +42,7 @@ impl Tree {
         self.rows.clear();
         self.text.clear(size);
         self.keys.clear(size);
+        self.escapes = 0;
         self.repeat = None;
     }
 

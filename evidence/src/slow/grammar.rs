@@ -30,7 +30,7 @@ pub fn rules(symbol: Symbol) -> Rules {
             of_numbers(symbol)
         }
         InlineArray(room) | InlineObject(room) if inside(room).is_none() => vec![],
-        Quoted | DoubleRest | SingleRest | Key | BareRest | Bytes | Pairs | MorePairs => of_strings(symbol),
+        Quoted | DoubleRest | SingleRest | Escaped | Key | BareRest | Bytes | Pairs | MorePairs => of_strings(symbol),
         InlineArray(_) | ArrayRest(_) | InlineObject(_) | Entry(_) | ObjectRest(_) => of_inline(symbol),
         OpenString(_) | PropertyString(_) | Body(_) | Deeper(_) | MoreSpaces => of_block_strings(symbol),
         OpenBytes(_) | PropertyBytes(_) | HexContent | HexLine(_) | HexLines(_) => of_block_bytes(symbol),
@@ -106,16 +106,18 @@ fn of_strings(symbol: Symbol) -> Rules {
         DoubleRest => vec![
             vec![Byte(b'"')],
             vec![but(But::Double), DoubleRest],
-            vec![bar, OneOf(Class::Escape), DoubleRest],
-            vec![bar, Byte(b'u'), Byte(b'{'), Scalar { digits: 0, value: 0 }, DoubleRest],
+            vec![bar, OneOf(Class::Escape), Escaped, DoubleRest],
+            vec![bar, Byte(b'u'), Byte(b'{'), Scalar { digits: 0, value: 0 }, Escaped, DoubleRest],
         ],
         SingleRest => vec![
             vec![Byte(b'\'')],
             vec![but(But::Single), SingleRest],
-            vec![bar, OneOf(Class::SingleEscape), SingleRest],
-            // Ticket 3: "a backslash before any other allowed character but LF stays as itself, that character too".
+            vec![bar, OneOf(Class::SingleEscape), Escaped, SingleRest],
+            // Ticket 3: "a backslash before any other allowed character but LF stays as itself, that character too,
+            // and is not counted as an escape".
             vec![bar, but(But::Single), SingleRest],
         ],
+        Escaped => vec![vec![]],
         Key => vec![vec![OneOf(Class::Key), BareRest], vec![Quoted]],
         BareRest => vec![vec![], vec![OneOf(Class::Key), BareRest]],
         Bytes => vec![vec![Word(b"<>")], vec![Byte(b'<'), Pairs, Byte(b'>')]],

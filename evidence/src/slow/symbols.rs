@@ -66,6 +66,8 @@ pub enum Symbol {
     Quoted,
     DoubleRest,
     SingleRest,
+    /// No bytes: stands behind each escape.
+    Escaped,
     Key,
     BareRest,
     Bytes,

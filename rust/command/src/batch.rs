@@ -5,7 +5,7 @@ use crate::outline::hex;
 use crate::stop::{Done, Stop};
 use std::fmt::Write as _;
 use std::io::{self, BufRead, ErrorKind, Read, Write};
-use yay::{read, Refusal, Tree, LONGEST, WORDS};
+use yay::{read, Accepted, Refusal, LONGEST, WORDS};
 
 pub fn run(input: &mut dyn Read, out: &mut dyn Write) -> Done {
     let mut input = io::BufReader::with_capacity(1 << 16, input);
@@ -47,13 +47,13 @@ fn next(input: &mut impl BufRead, doc: &mut Vec<u8>) -> io::Result<bool> {
     Ok(true)
 }
 
-fn line(answer: Result<Tree, Refusal>) -> String {
-    let tree = match answer {
-        Ok(tree) => tree,
+fn line(answer: Result<Accepted, Refusal>) -> String {
+    let Accepted { tree, escapes } = match answer {
+        Ok(accepted) => accepted,
         Err(refusal) => return format!("no {} {}", refusal.number.code(), refusal.place.0),
     };
     let text = tree.text_room();
-    let mut line = format!("ok {} {} ", tree.rows(), text.len());
+    let mut line = format!("ok {} {} {escapes} ", tree.rows(), text.len());
     for word in (0..tree.rows()).filter_map(|row| tree.words(yay::Row(row)).ok()).flatten() {
         let _ = write!(line, "{word},");
     }
@@ -78,8 +78,10 @@ mod tests {
     #[test]
     fn a_line_for_each_document() {
         let input = [framed(b""), framed(b"null\n"), framed(b"[1, 22]\n"), framed(&[b'a'; 70_000])].concat();
-        let lines = "no 5 0\nok 1 0 1,0,4,0,0,0,1 -\nok 3 3 8,0,7,0,2,0,3,4,1,2,0,1,0,2,4,4,6,1,3,0,3 313232\nno 1 0\n";
+        let lines =
+            "no 5 0\nok 1 0 0 1,0,4,0,0,0,1 -\nok 3 3 0 8,0,7,0,2,0,3,4,1,2,0,1,0,2,4,4,6,1,3,0,3 313232\nno 1 0\n";
         assert_eq!(answered(&input), (lines.into(), true));
+        assert_eq!(answered(&framed(b"\"a\\n\\u{41}\"\n")), ("ok 1 3 2 6,0,11,0,3,0,1 610a41\n".into(), true));
         assert_eq!(answered(b""), ("".into(), true));
     }
 

@@ -1,5 +1,6 @@
 //! `yay check`: each file is a document, or its refusal is shown.
 
+use crate::outline::escapes;
 use crate::stop::{complain, Done, Stop};
 use crate::told::Told;
 use crate::words::Words;
@@ -54,18 +55,18 @@ impl Tally {
     }
 }
 
+/// How much the document gives.
+fn counts(document: &Document) -> String {
+    let tree = document.tree();
+    format!("{} rows, {} bytes of text{}", tree.rows(), tree.text_room().len(), escapes(document))
+}
+
 fn check(file: &OsStr, quiet: bool, told: &mut Told) -> Done {
     let input = input::open(file)?;
     match Document::read(&input.bytes) {
         Ok(document) => {
-            let tree = document.tree();
             if !quiet {
-                told.line(&format!(
-                    "{}: ok, {} rows, {} bytes of text",
-                    input.name,
-                    tree.rows(),
-                    tree.text_room().len()
-                ));
+                told.line(&format!("{}: ok, {}", input.name, counts(&document)));
             }
             Ok(())
         }

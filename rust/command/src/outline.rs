@@ -3,16 +3,26 @@
 use crate::stop::{Done, Stop};
 use std::io::Write;
 use yay::shown::quoted;
-use yay::{Kind, Number, Row, Tree, ROOT};
+use yay::{Document, Kind, Number, Row, Tree, ROOT};
 
 /// A table that `read` has filled answers every question that is asked of it here.
 pub fn broken(number: Number) -> Stop {
     Stop::File(format!("the table of rows is broken: {number}"))
 }
 
-pub fn write(tree: &Tree, out: &mut dyn Write) -> Done {
-    writeln!(out, "{}", value(tree, ROOT)?)?;
-    write_children(tree, ROOT, 1, out)
+pub fn write(document: &Document, out: &mut dyn Write) -> Done {
+    let tree = document.tree();
+    writeln!(out, "{}{}", value(&tree, ROOT)?, escapes(document))?;
+    write_children(&tree, ROOT, 1, out)
+}
+
+/// A word of the document's escapes, behind what is said of it; nothing where there are none.
+pub fn escapes(document: &Document) -> String {
+    match document.escapes() {
+        0 => String::new(),
+        1 => ", 1 escape".into(),
+        count => format!(", {count} escapes"),
+    }
 }
 
 fn write_children(tree: &Tree, container: Row, depth: usize, out: &mut dyn Write) -> Done {

@@ -39,7 +39,8 @@ pub const PAGES: [Page; 7] = [
         words: "FILE..",
         short: "whether each file is a document, or which line is wrong",
         text: "
-Says of each file, in their order, that it is a document, or shows on standard error why it is refused.
+Says of each file, in their order, that it is a document, with the count of its rows, its bytes of text
+and, if it has any, its escapes; or shows on standard error why it is refused.
 For more than one file the last line is 'N ok, M refused'.
 ",
         options: &[Opt { short: "-q", long: "--quiet", value: "", what: "refusals alone" }],
@@ -49,7 +50,10 @@ For more than one file the last line is 'N ok, M refused'.
         name: "show",
         words: "FILE",
         short: "the document as an indented outline",
-        text: "\nThe document as an indented outline. Long texts are cut.\n",
+        text: "
+The document as an indented outline. Long texts are cut. If the document has escapes, the first line
+says how many.
+",
         options: &[],
         integers: false,
     },
@@ -101,7 +105,7 @@ Where the path leads nowhere the exit status is 3. A key that begins with - stan
         short: "documents on standard input, each behind its length; a line for each",
         text: "
 Reads documents from standard input, each as four bytes of length, the least first, and its bytes, and
-writes a line for each: 'no NUMBER PLACE', or 'ok ROWS TEXTBYTES', the words and the text as hex.
+writes a line for each: 'no NUMBER PLACE', or 'ok ROWS TEXTBYTES ESCAPES', the words and the text as hex.
 ",
         options: &[],
         integers: false,

@@ -16,6 +16,26 @@ fn check_says_ok() {
 }
 
 #[test]
+fn check_and_show_say_a_word_of_escapes() {
+    for (doc, rows, shown, said) in [
+        (&b"\"a\\n\\u{41}\"\n"[..], "1 rows, 3 bytes of text", "string \"a\\nA\"", ", 2 escapes"),
+        (b"{\"\\t\": 'x'}\n", "3 rows, 2 bytes of text", "object of 1 pair", ", 1 escape"),
+        (b"k:\n  \"\\n\"\n  'x'\n  '\\'\\\\'\n", "3 rows, 5 bytes of text", "object of 1 pair", ", 3 escapes"),
+        (b"- 'C:\\img'\n", "2 rows, 6 bytes of text", "array of 1 element", ""),
+        (b"` \\n\n", "1 rows, 3 bytes of text", "string \"\\\\n\\n\"", ""),
+    ] {
+        assert_eq!(good(&["check", "-"], doc), format!("(standard input): ok, {rows}{said}\n"));
+        assert_eq!(good(&["show", "-"], doc).lines().next(), Some(format!("{shown}{said}").as_str()));
+    }
+    assert_eq!(good(&["check", "-q", "-"], b"\"\\n\"\n"), "");
+    let forklift = example("forklift.yay");
+    let out = good(&["check", &forklift], b"");
+    assert!(out.ends_with(" bytes of text, 5 escapes\n"), "{out}");
+    assert!(good(&["show", &forklift], b"").starts_with("object of 8 pairs, 5 escapes\n"));
+    assert_eq!(good(&["json", "-c", "-"], b"\"a\\n\\u{41}\"\n"), "\"a\\nA\"\n");
+}
+
+#[test]
 fn every_example_is_good() {
     let folder = std::fs::read_dir(example("")).expect("examples/");
     let files: Vec<_> = folder.map(|entry| entry.expect("listed").path().to_str().unwrap().to_owned()).collect();
@@ -30,9 +50,16 @@ fn every_example_is_good() {
 #[test]
 fn show_is_an_outline() {
     let out = good(&["show", "-"], b"a: 1\n\"b c\":\n  - {d: <00ff>}\n  - \"x\\ny\"\ne: []\n");
-    let wanted = "object of 3 pairs\n  a: integer 1\n  \"b c\": array of 2 elements\n    0: object of 1 pair\n      \
-                  d: bytes <00ff>\n    1: string \"x\\ny\"\n  e: array of 0 elements\n";
-    assert_eq!(out, wanted);
+    let wanted = [
+        "object of 3 pairs, 1 escape",
+        "  a: integer 1",
+        "  \"b c\": array of 2 elements",
+        "    0: object of 1 pair",
+        "      d: bytes <00ff>",
+        "    1: string \"x\\ny\"",
+        "  e: array of 0 elements",
+    ];
+    assert_eq!(out.lines().collect::<Vec<_>>(), wanted);
 }
 
 #[test]

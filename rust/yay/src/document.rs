@@ -1,11 +1,11 @@
 //! The owned form: a document with rooms of its own.
 
 use crate::limits::{LONGEST, WORDS};
-use crate::reading::read;
+use crate::reading::{read, Accepted};
 use crate::refusal::Refusal;
 use crate::tree::Tree;
 
-/// An accepted document's rows and text, in memory of its own.
+/// An accepted document's rows and text, in memory of its own, and how many escapes it has.
 ///
 /// ```
 /// let document = yay::Document::read(b"low-at: 0.15\nnames: [\"A\", \"B\"]\n")?;
@@ -19,6 +19,7 @@ use crate::tree::Tree;
 pub struct Document {
     table: Vec<u32>,
     text: Vec<u8>,
+    escapes: usize,
 }
 
 impl Document {
@@ -26,14 +27,19 @@ impl Document {
     pub fn read(doc: &[u8]) -> Result<Document, Refusal> {
         let room = doc.len().min(LONGEST);
         let (mut table, mut text) = (vec![0; room * WORDS], vec![0; room]);
-        let tree = read(doc, &mut table, &mut text)?;
+        let Accepted { tree, escapes } = read(doc, &mut table, &mut text)?;
         let (rows, bytes) = (tree.rows(), tree.text_room().len());
         table.truncate(rows * WORDS);
         text.truncate(bytes);
-        Ok(Document { table, text })
+        Ok(Document { table, text, escapes })
     }
 
     pub fn tree(&self) -> Tree<'_> {
         Tree::new(&self.table, self.table.len() / WORDS, &self.text)
+    }
+
+    /// How many escapes the document's quoted keys and strings have; [`Accepted::escapes`] says what counts.
+    pub fn escapes(&self) -> usize {
+        self.escapes
     }
 }

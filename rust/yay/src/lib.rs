@@ -1,7 +1,8 @@
 //! Reads YAY documents by the reader proved in Rattle (`libyay.a`, include/yay.h).
 //!
 //! [`read`] fills rooms that the caller lends and allocates nothing; [`Document`] is the same with rooms of its
-//! own. A [`Tree`] answers questions. Every answer is fixed by the project's definitions, for any bytes at all.
+//! own. A [`Tree`] answers questions; both tell how many escapes a document has. Every answer is fixed by the
+//! project's definitions, for any bytes at all.
 //! What stack a call needs is said in include/yay.h.
 //!
 //! ```
@@ -17,7 +18,7 @@
 //! ```
 //! let doc = b"battery:\n  capacity: 10 400\n";
 //! let (mut table, mut text) = ([0; 64 * yay::WORDS], [0; 64]);
-//! let tree = yay::read(doc, &mut table, &mut text)?;
+//! let tree = yay::read(doc, &mut table, &mut text)?.tree;
 //! let battery = tree.find(yay::ROOT, "battery")?;
 //! let capacity = tree.text(tree.find(battery, "capacity")?)?;
 //! assert_eq!(capacity, b"10400");
@@ -52,7 +53,7 @@ pub use document::Document;
 pub use limits::{LONGEST, NAMES, NESTING, WORDS};
 pub use path::Missing;
 pub use place::{line_around, position, Place, Position};
-pub use reading::{compare, read};
+pub use reading::{compare, read, Accepted};
 pub use refusal::{Number, Refusal};
 pub use repeat::first_key;
 pub use tree::{Children, Kind, Row, Tree, ROOT};

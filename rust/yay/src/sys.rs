@@ -11,6 +11,7 @@ mod linked {
             text_len: usize,
             first: *mut usize,
             second: *mut usize,
+            third: *mut usize,
         ) -> u32;
         pub fn yay_text(
             table: *const u32,
@@ -43,12 +44,12 @@ mod linked {
     }
 }
 
-/// 0, rows and text bytes; or the number, the place and 0.
-pub fn read(doc: &[u8], table: &mut [u32], text: &mut [u8]) -> (u32, usize, usize) {
-    let (mut first, mut second) = (0, 0);
+/// 0, rows, text bytes and escapes; or the number, the place, 0 and 0.
+pub fn read(doc: &[u8], table: &mut [u32], text: &mut [u8]) -> (u32, usize, usize, usize) {
+    let (mut first, mut second, mut third) = (0, 0, 0);
     let (words, bytes) = (table.len(), text.len());
     // SAFETY: each pointer and length is that of a live slice, the two lent for writing are borrowed by this call
-    // alone, and the two answers are apart from each other and from them.
+    // alone, and the three answers are apart from each other and from them.
     let number = unsafe {
         linked::yay_read(
             doc.as_ptr(),
@@ -59,9 +60,10 @@ pub fn read(doc: &[u8], table: &mut [u32], text: &mut [u8]) -> (u32, usize, usiz
             bytes,
             &mut first,
             &mut second,
+            &mut third,
         )
     };
-    (number, first, second)
+    (number, first, second, third)
 }
 
 /// 0 and the part of the text room; or the number, 0 and 0.

@@ -1,4 +1,4 @@
-//! The two C headers and the crate say the same: limits, numbers, names, sentences and kinds.
+//! The two C headers and the crate say the same: limits, numbers, names, sentences, kinds and parameters.
 
 use yay::{Kind, Number, LONGEST, NESTING, WORDS};
 
@@ -50,5 +50,21 @@ fn kinds() {
     for kind in kinds {
         assert_eq!(defined(&proved, &format!("YAY_{}", kind.name().to_uppercase())), kind as u64);
         assert_eq!(names[kind as usize], kind.name());
+    }
+}
+
+/// The names of a function's parameters where it stands first.
+fn parameters(text: &str, function: &str, name: fn(&str) -> Option<&str>) -> Vec<String> {
+    let list = text.split_once(&format!("{function}(")).expect("the function").1.split_once(')').expect("its end").0;
+    list.split(',').filter_map(|parameter| name(parameter.trim())).map(String::from).collect()
+}
+
+#[test]
+fn parameters_of_the_functions() {
+    let (proved, linked) = (header("yay.h"), include_str!("../src/sys.rs"));
+    for (function, count) in [("yay_read", 9), ("yay_text", 8), ("yay_find", 9), ("yay_compare", 5)] {
+        let in_c = parameters(&proved, function, |parameter| parameter.rsplit([' ', '*']).next());
+        let in_rust = parameters(linked, function, |parameter| Some(parameter.split_once(':')?.0));
+        assert_eq!((in_c.len(), in_c), (count, in_rust), "{function}");
     }
 }

@@ -1,7 +1,7 @@
 //! Reading into lent and own rooms, refusals and their errors.
 
 use std::error::Error;
-use yay::{read, Document, Kind, Number, Place, Refusal, Row, ROOT, WORDS};
+use yay::{read, Accepted, Document, Kind, Number, Place, Refusal, Row, ROOT, WORDS};
 
 fn refused(doc: &[u8]) -> (Number, usize) {
     let refusal = Document::read(doc).expect_err("refused");
@@ -11,8 +11,8 @@ fn refused(doc: &[u8]) -> (Number, usize) {
 #[test]
 fn rows_and_text_of_p3() {
     let (mut table, mut text) = ([7; 30], [b'x'; 5]);
-    let tree = read(b"[1, 22]\n", &mut table, &mut text).unwrap();
-    assert_eq!((tree.rows(), tree.text_room()), (3, &b"122"[..]));
+    let Accepted { tree, escapes } = read(b"[1, 22]\n", &mut table, &mut text).unwrap();
+    assert_eq!((tree.rows(), tree.text_room(), escapes), (3, &b"122"[..], 0));
     assert_eq!(table[..21], [8, 0, 7, 0, 2, 0, 3, 4, 1, 2, 0, 1, 0, 2, 4, 4, 6, 1, 3, 0, 3]);
     assert_eq!((&table[21..], &text[3..]), (&[7; 9][..], &b"xx"[..]));
 }
@@ -51,11 +51,9 @@ fn empty_rooms_may_be_lent() {
 #[test]
 fn a_small_thread_reads_a_profile() {
     for bytes in [1_024, 16_384, 32_768] {
-        for (begin, line, end) in [
-            ("", "aisle-#: {door: #, name: \"of the cold store\"}\n", ""),
-            ("", "a-#: 1\n", ""),
-            ("[", "#, ", "0]\n"),
-        ] {
+        for (begin, line, end) in
+            [("", "aisle-#: {door: #, name: \"of the cold store\"}\n", ""), ("", "a-#: 1\n", ""), ("[", "#, ", "0]\n")]
+        {
             let mut profile = String::from(begin);
             for i in 0.. {
                 let next = line.replace('#', &i.to_string());

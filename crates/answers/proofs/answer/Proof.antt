@@ -1,7 +1,7 @@
 -- `answer` meets its contract.
 use native.Mathlib.Omega.{arith}
 use borrow.Author.Needs.{needs}
-use Rattle.answers.specs.Held.{held-table, answer-repeat, answer-rows, answer-bytes, answer-all}
+use Rattle.answers.specs.Held.{held-table, answer-repeat, answer-rows, answer-bytes, answer-all, answer-total, no-total}
 use Rattle.answers.proofs.answer.Statement.{statement}
 use Rattle.answers.proofs.answer.Tie as tie
 
@@ -12,7 +12,7 @@ enum-known-p : tie.Need-enum-known-p
 enum-known-p c = search needs
 
 returns : tie.Need-returns
-returns c = search (answer-repeat, needs)
+returns c = search (answer-repeat, no-total, needs)
 
 enum-told : tie.Need-enum-told
 enum-told c = search needs
@@ -21,10 +21,10 @@ mul-if1 : tie.Need-mul-if1
 mul-if1 c = search needs
 
 returns-2 : tie.Need-returns-2
-returns-2 c = search (answer-rows, needs)
+returns-2 c = search (answer-rows, no-total, needs)
 
 returns-3 : tie.Need-returns-3
-returns-3 c = search (answer-bytes, needs)
+returns-3 c = search (answer-bytes, no-total, needs)
 
 mul-copy-words : tie.Need-mul-copy-words
 mul-copy-words c = search needs
@@ -42,7 +42,7 @@ same-length-2 : tie.Need-same-length-2
 same-length-2 c = search needs
 
 returns-4 : tie.Need-returns-4
-returns-4 c = search (answer-all, needs)
+returns-4 c = search (answer-all, answer-total, needs)
 
 pub answer-spec : {M : Type 1} → statement M
 answer-spec =

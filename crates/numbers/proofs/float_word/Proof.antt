@@ -3,6 +3,9 @@ use Rattle.numbers.proofs.KeywordLaws.{word-laws}
 use Rattle.numbers.proofs.float_word.Statement.{statement}
 use Rattle.numbers.proofs.float_word.Tie as tie
 
+spot-requires : tie.Need-spot-requires
+spot-requires c κs = search word-laws
+
 same-requires : tie.Need-same-requires
 same-requires c κs = search word-laws
 
@@ -34,6 +37,7 @@ pub float-word-spec : {M : Type 1} → statement M
 float-word-spec =
     tie.close
     (tie.spec
+    spot-requires
     same-requires
     add-e
     copy-requires

@@ -6,6 +6,9 @@ use Rattle.numbers.proofs.write.Tie as tie
 beyond-requires : tie.Need-beyond-requires
 beyond-requires c κs = search write-laws
 
+spot-requires : tie.Need-spot-requires
+spot-requires c κs = search write-laws
+
 number-text-requires : tie.Need-number-text-requires
 number-text-requires c κs = search write-laws
 
@@ -26,6 +29,7 @@ write-spec =
     tie.close
     (tie.spec
     beyond-requires
+    spot-requires
     number-text-requires
     put-leaf-requires
     same-length

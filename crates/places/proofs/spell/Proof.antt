@@ -12,6 +12,9 @@ key-requires c κs = search spelling
 enum-known-n : tie.Need-enum-known-n
 enum-known-n c = search spelling
 
+spot-requires : tie.Need-spot-requires
+spot-requires c κs = search spelling
+
 enum-told : tie.Need-enum-told
 enum-told c = search spelling
 
@@ -34,6 +37,7 @@ spell-spec =
     slice-aggregate-key
     key-requires
     enum-known-n
+    spot-requires
     enum-told
     same-length
     returns

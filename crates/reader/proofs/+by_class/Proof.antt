@@ -1,6 +1,6 @@
 -- `by_class` answers as the class that it comes to does; the class rises, to 2 at most.
 use Prim.Native.Nat.{ℕ, _-_, _<_}
-use Rattle.reader.specs.Filling.{tried-answer, tried-again}
+use Rattle.reader.specs.Filling.{tried-answer, tried-again, tried-total}
 use borrow.Author.Needs.{needs}
 use borrow.Fn.Kinds.{In}
 use borrow.Fn.PlainCycle.{Measures, is, falls, and}
@@ -37,7 +37,7 @@ by-class-same-length-2 : (t : ℕ) → by-class-lts.Need-same-length-2 (by-class
 by-class-same-length-2 t c = search needs
 
 by-class-returns : (t : ℕ) → by-class-lts.Need-returns (by-class-claims t) (by-class-at t) by-class.Post
-by-class-returns t c = search (tried-answer, tried-again, needs)
+by-class-returns t c = (search (tried-answer, tried-again, needs), search (tried-total, needs))
 
 by-class-of-few-bytes-requires : (t : ℕ) → by-class-lts.Need-of-few-bytes-requires (by-class-claims t) (by-class-at t) by-class.Post
 by-class-of-few-bytes-requires t c κs = search needs
@@ -64,7 +64,7 @@ by-class-same-length-4 : (t : ℕ) → by-class-lts.Need-same-length-4 (by-class
 by-class-same-length-4 t c = search needs
 
 by-class-returns-2 : (t : ℕ) → by-class-lts.Need-returns-2 (by-class-claims t) (by-class-at t) by-class.Post
-by-class-returns-2 t c = search (tried-answer, tried-again, needs)
+by-class-returns-2 t c = (search (tried-answer, tried-again, needs), search (tried-total, needs))
 
 by-class-of-some-bytes-requires : (t : ℕ) → by-class-lts.Need-of-some-bytes-requires (by-class-claims t) (by-class-at t) by-class.Post
 by-class-of-some-bytes-requires t c κs = search needs
@@ -88,7 +88,7 @@ by-class-same-length-6 : (t : ℕ) → by-class-lts.Need-same-length-6 (by-class
 by-class-same-length-6 t c = search needs
 
 by-class-returns-3 : (t : ℕ) → by-class-lts.Need-returns-3 (by-class-claims t) (by-class-at t) by-class.Post
-by-class-returns-3 t c = search (tried-answer, tried-again, needs)
+by-class-returns-3 t c = (search (tried-answer, tried-again, needs), search (tried-total, needs))
 
 by-class-same-length-7 : (t : ℕ) → by-class-lts.Need-same-length-7 (by-class-claims t) (by-class-at t) by-class.Post
 by-class-same-length-7 t c = search needs
@@ -97,7 +97,7 @@ by-class-same-length-8 : (t : ℕ) → by-class-lts.Need-same-length-8 (by-class
 by-class-same-length-8 t c = search needs
 
 by-class-returns-4 : (t : ℕ) → by-class-lts.Need-returns-4 (by-class-claims t) (by-class-at t) by-class.Post
-by-class-returns-4 t c = search (tried-answer, tried-again, needs)
+by-class-returns-4 t c = (search (tried-answer, tried-again, needs), search (tried-total, needs))
 
 by-class-same-length-9 : (t : ℕ) → by-class-lts.Need-same-length-9 (by-class-claims t) (by-class-at t) by-class.Post
 by-class-same-length-9 t c = search needs
@@ -106,7 +106,7 @@ by-class-same-length-10 : (t : ℕ) → by-class-lts.Need-same-length-10 (by-cla
 by-class-same-length-10 t c = search needs
 
 by-class-returns-5 : (t : ℕ) → by-class-lts.Need-returns-5 (by-class-claims t) (by-class-at t) by-class.Post
-by-class-returns-5 t c = search (tried-answer, tried-again, needs)
+by-class-returns-5 t c = (search (tried-answer, tried-again, needs), search (tried-total, needs))
 
 by-class-same-length-11 : (t : ℕ) → by-class-lts.Need-same-length-11 (by-class-claims t) (by-class-at t) by-class.Post
 by-class-same-length-11 t c = search needs
@@ -115,7 +115,7 @@ by-class-same-length-12 : (t : ℕ) → by-class-lts.Need-same-length-12 (by-cla
 by-class-same-length-12 t c = search needs
 
 by-class-returns-6 : (t : ℕ) → by-class-lts.Need-returns-6 (by-class-claims t) (by-class-at t) by-class.Post
-by-class-returns-6 t c = search (tried-answer, tried-again, needs)
+by-class-returns-6 t c = (search (tried-answer, tried-again, needs), search (tried-total, needs))
 
 by-class-same-length-13 : (t : ℕ) → by-class-lts.Need-same-length-13 (by-class-claims t) (by-class-at t) by-class.Post
 by-class-same-length-13 t c = search needs
@@ -124,7 +124,7 @@ by-class-same-length-14 : (t : ℕ) → by-class-lts.Need-same-length-14 (by-cla
 by-class-same-length-14 t c = search needs
 
 by-class-returns-7 : (t : ℕ) → by-class-lts.Need-returns-7 (by-class-claims t) (by-class-at t) by-class.Post
-by-class-returns-7 t c = search (tried-answer, tried-again, needs)
+by-class-returns-7 t c = (search (tried-answer, tried-again, needs), search (tried-total, needs))
 
 pub +by-class-spec : {M : Type 1} → statement M
 +by-class-spec = close μ-by-class λ t. by-class-lts.spec (by-class-claims t)

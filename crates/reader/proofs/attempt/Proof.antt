@@ -20,6 +20,12 @@ blame-requires c κs = (search needs, search (stopped-at, needs))
 enum-known-c : tie.Need-enum-known-c
 enum-known-c c = search needs
 
+spot-requires : tie.Need-spot-requires
+spot-requires c κs = search needs
+
+tally-requires : tie.Need-tally-requires
+tally-requires c κs = search needs
+
 settled-requires : tie.Need-settled-requires
 settled-requires c κs = search (reads, needs)
 
@@ -56,6 +62,8 @@ attempt-spec =
     enum-known-p
     blame-requires
     enum-known-c
+    spot-requires
+    tally-requires
     settled-requires
     same-length
     same-length-2

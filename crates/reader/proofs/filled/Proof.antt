@@ -1,6 +1,7 @@
 -- `filled` answers as the log of the keys and the rooms lent allow, and reads the document into them.
 use borrow.Author.Needs.{needs}
-use Rattle.reader.specs.Lent.{filled-repeat, filled-rows, filled-bytes, filled-all}
+use Rattle.reader.specs.Judged.{no-total}
+use Rattle.reader.specs.Lent.{filled-repeat, filled-rows, filled-bytes, filled-all, filled-total}
 use Rattle.reader.proofs.filled.Statement.{statement}
 use Rattle.reader.proofs.filled.Tie as tie
 
@@ -14,7 +15,7 @@ same-length : tie.Need-same-length
 same-length c = search needs
 
 returns : tie.Need-returns
-returns c = search (filled-repeat, needs)
+returns c = (search (filled-repeat, needs), search (no-total, needs))
 
 enum-told : tie.Need-enum-told
 enum-told c = search needs
@@ -26,13 +27,13 @@ same-length-2 : tie.Need-same-length-2
 same-length-2 c = search needs
 
 returns-2 : tie.Need-returns-2
-returns-2 c = search (filled-rows, needs)
+returns-2 c = (search (filled-rows, needs), search (no-total, needs))
 
 same-length-3 : tie.Need-same-length-3
 same-length-3 c = search needs
 
 returns-3 : tie.Need-returns-3
-returns-3 c = search (filled-bytes, needs)
+returns-3 c = (search (filled-bytes, needs), search (no-total, needs))
 
 slice-relend-prefix-pass : tie.Need-slice-relend-prefix-pass
 slice-relend-prefix-pass c = search needs
@@ -53,7 +54,7 @@ same-length-6 : tie.Need-same-length-6
 same-length-6 c = search needs
 
 returns-4 : tie.Need-returns-4
-returns-4 c = search (filled-all, needs)
+returns-4 c = (search (filled-all, needs), search (filled-total, needs))
 
 pub filled-spec : {M : Type 1} → statement M
 filled-spec =

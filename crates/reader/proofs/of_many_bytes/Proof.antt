@@ -1,6 +1,6 @@
 -- `of_many_bytes` answers as the pass over the document says.
 use borrow.Author.Needs.{needs}
-use Rattle.reader.specs.Judged.{stopped-at, answer-stop-same, answer-same}
+use Rattle.reader.specs.Judged.{stopped-at, answer-stop-same, answer-same, stop-total}
 use Rattle.reader.specs.Lent.{passes}
 use Rattle.reader.proofs.of_many_bytes.Statement.{statement}
 use Rattle.reader.proofs.of_many_bytes.Tie as tie
@@ -23,6 +23,12 @@ enum-known-c c = search needs
 slice-aggregate-filled : tie.Need-slice-aggregate-filled
 slice-aggregate-filled c = search needs
 
+spot-requires : tie.Need-spot-requires
+spot-requires c κs = search needs
+
+tally-requires : tie.Need-tally-requires
+tally-requires c κs = search needs
+
 filled-requires : tie.Need-filled-requires
 filled-requires c κs = search (passes, needs)
 
@@ -33,7 +39,7 @@ same-length-2 : tie.Need-same-length-2
 same-length-2 c = search needs
 
 returns : tie.Need-returns
-returns c = search (answer-stop-same, needs)
+returns c = (search (answer-stop-same, needs), search (stop-total, needs))
 
 same-length-3 : tie.Need-same-length-3
 same-length-3 c = search needs
@@ -42,7 +48,7 @@ same-length-4 : tie.Need-same-length-4
 same-length-4 c = search needs
 
 returns-2 : tie.Need-returns-2
-returns-2 c = search (answer-same, needs)
+returns-2 c = (search (answer-same, needs), search needs)
 
 pub of-many-bytes-spec : {M : Type 1} → statement M
 of-many-bytes-spec =
@@ -54,6 +60,8 @@ of-many-bytes-spec =
     blame-requires
     enum-known-c
     slice-aggregate-filled
+    spot-requires
+    tally-requires
     filled-requires
     same-length
     same-length-2

@@ -56,11 +56,12 @@ impl Grower<'_> {
         let mut meant = Vec::new();
         let mut lines = 0;
         loop {
-            let (written, piece) = pieces::quoted(self.rng);
-            self.write(&written);
+            let piece = pieces::quoted(self.rng, self.rich);
+            self.write(&piece.written);
             let to = self.at();
             self.write("\n");
-            meant.extend_from_slice(&piece);
+            meant.extend_from_slice(&piece.meant);
+            self.escapes += piece.escapes;
             lines += 1;
             if lines >= 2 && !self.rng.once_in(3) {
                 self.leaf(6, object, (from, to), &meant);

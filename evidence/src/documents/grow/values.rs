@@ -1,6 +1,6 @@
 //! Line values, each with its row. Every function gives the byte after the span.
 
-use super::super::pieces;
+use super::super::pieces::{self, Spelled};
 use super::{Grower, Keys};
 
 impl Grower<'_> {
@@ -14,7 +14,8 @@ impl Grower<'_> {
                 self.number(5, parent, &written, written.replace(' ', "").as_bytes())
             }
             4..=6 => {
-                let (written, meant) = pieces::quoted(self.rng);
+                let Spelled { written, meant, escapes } = pieces::quoted(self.rng, self.rich);
+                self.escapes += escapes;
                 self.number(6, parent, &written, &meant)
             }
             7 => {

@@ -5,13 +5,14 @@ use Prim.Native.Nat.{_+_, _-_}
 use lib.ListN.{length}
 use lib.Seq.{sets}
 use Rattle.language.specs.BlockText.{bodyText}
+use Rattle.rooms.specs.Told.{spot}
 use Rattle.blocktext.specs.Contract.{bodyLines}
 use Rattle.blocktext.proofs.PutLaws.{Putting, put-first, put-lined, put-on, put-further, put-stored, putting}
 use Rattle.blocktext.proofs.body.put_body.Statement.{statement}
 use Rattle.blocktext.proofs.body.put_body.Tie as tie
 
 abbrev Inv-loop : tie.InvT-loop
-Inv-loop doc text₀ e last col least x n₀ text n = Putting doc col least last (x + length (bodyText (bodyLines doc e col))) (sets text₀ x (bodyText (bodyLines doc e col))) n text × (length text ≡ length text₀)
+Inv-loop doc text₀ e last col least x n₀ text n = Putting doc col least last (x + length (bodyText (bodyLines doc e col))) (sets text₀ (spot x) (bodyText (bodyLines doc e col))) n text × (length text ≡ length text₀)
 
 abbrev μ-loop : tie.MeasureT-loop
 μ-loop doc text₀ e last col least x n₀ text n = last - n .at

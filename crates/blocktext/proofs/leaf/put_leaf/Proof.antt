@@ -1,27 +1,41 @@
 -- `put_leaf` meets its contract.
-use borrow.Author.Needs.{needs}
-use mathlib.Core.Path.{refl}
+use Rattle.blocktext.proofs.PartLaws.{rows}
 use Rattle.blocktext.proofs.leaf.put_leaf.Statement.{statement}
 use Rattle.blocktext.proofs.leaf.put_leaf.Tie as tie
 
 add-row-of : tie.Need-add-row-of
-add-row-of c = search needs
+add-row-of c = search rows
+
+spot-requires : tie.Need-spot-requires
+spot-requires c κs = search rows
+
+spot-requires-2 : tie.Need-spot-requires-2
+spot-requires-2 c κs = search rows
+
+add-row-of-2 : tie.Need-add-row-of-2
+add-row-of-2 c = search rows
 
 row-of-requires : tie.Need-row-of-requires
-row-of-requires c κs = search needs
+row-of-requires c κs = search rows
 
 put-row-requires : tie.Need-put-row-requires
-put-row-requires c κs = search needs
-
-add-t14 : tie.Need-add-t14
-add-t14 c = search needs
+put-row-requires c κs = search rows
 
 same-length : tie.Need-same-length
-same-length c = search needs
+same-length c = search rows
 
 returns : tie.Need-returns
-returns c = record { is = refl; table = rw ((c .before .before .before .row-of) .ensures) at ((c .before .before .put-row) .ensures) }
+returns c = search rows
 
 pub put-leaf-spec : {M : Type 1} → statement M
 put-leaf-spec =
-    tie.close (tie.spec add-row-of row-of-requires put-row-requires add-t14 same-length returns)
+    tie.close
+    (tie.spec
+    add-row-of
+    spot-requires
+    spot-requires-2
+    add-row-of-2
+    row-of-requires
+    put-row-requires
+    same-length
+    returns)

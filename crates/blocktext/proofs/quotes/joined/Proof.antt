@@ -6,7 +6,7 @@ use Rattle.blocktext.proofs.quotes.joined.Statement.{statement}
 use Rattle.blocktext.proofs.quotes.joined.Tie as tie
 
 joined-line-requires : tie.Need-joined-line-requires
-joined-line-requires c κs = record { small = (c .before .before .before .before .pre) .0 .small; inside = (c .before .before .before .before .pre) .0 .inside; fewRows = omega arith; fewText = (c .before .before .before .before .pre) .0 .fewText }
+joined-line-requires c κs = record { small = (c .before .before .before .before .pre) .0 .small; inside = (c .before .before .before .before .pre) .0 .inside; fewRows = omega arith; fewText = (c .before .before .before .before .pre) .0 .fewText; fewEscapes = (c .before .before .before .before .pre) .0 .fewEscapes }
 
 enum-known-got : tie.Need-enum-known-got
 enum-known-got c = search needs

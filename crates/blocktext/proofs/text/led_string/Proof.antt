@@ -1,8 +1,10 @@
 -- `led_string` meets its contract.
-use Rattle.blocktext.proofs.StringLaws.{led-strings, led-ahead, led-inside}
-use native.Mathlib.Omega.{arith}
+use Rattle.blocktext.proofs.StringLaws.{led-strings}
 use Rattle.blocktext.proofs.text.led_string.Statement.{statement}
 use Rattle.blocktext.proofs.text.led_string.Tie as tie
+
+spot-requires : tie.Need-spot-requires
+spot-requires c κs = search led-strings
 
 text-line-requires : tie.Need-text-line-requires
 text-line-requires c κs = search led-strings
@@ -13,20 +15,23 @@ enum-known-p c = search led-strings
 enum-known-e : tie.Need-enum-known-e
 enum-known-e c = search led-strings
 
+sub-n : tie.Need-sub-n
+sub-n c = search led-strings
+
 copy-requires : tie.Need-copy-requires
-copy-requires c κs = (omega (arith, led-ahead _ _ _ _ (c .before .before .before .before .before .before .before .before .pre) _ ((c .before .before .before .before .text-line) .ensures) _ ((c .before .before .e) .given .1)), omega (arith, led-inside _ _ _ _ (c .before .before .before .before .before .before .before .before .pre) _ ((c .before .before .before .before .text-line) .ensures) _ ((c .before .before .e) .given .1)), omega (arith, led-inside _ _ _ _ (c .before .before .before .before .before .before .before .before .pre) _ ((c .before .before .before .before .text-line) .ensures) _ ((c .before .before .e) .given .1)))
+copy-requires c κs = search led-strings
 
-sub-y : tie.Need-sub-y
-sub-y c = omega (arith, led-ahead _ _ _ _ (c .before .before .before .before .before .before .before .before .before .before .before .pre) _ ((c .before .before .before .before .before .before .before .text-line) .ensures) _ ((c .before .before .before .before .before .e) .given .1))
-
-add-y : tie.Need-add-y
-add-y c = search led-strings
+add-put-byte : tie.Need-add-put-byte
+add-put-byte c = search led-strings
 
 put-byte-requires : tie.Need-put-byte-requires
 put-byte-requires c κs = search led-strings
 
 add-below : tie.Need-add-below
 add-below c = search led-strings
+
+add-below-2 : tie.Need-add-below-2
+add-below-2 c = search led-strings
 
 below-requires : tie.Need-below-requires
 below-requires c κs = search led-strings
@@ -47,14 +52,16 @@ pub led-string-spec : {M : Type 1} → statement M
 led-string-spec =
     tie.close
     (tie.spec
+    spot-requires
     text-line-requires
     enum-known-p
     enum-known-e
+    sub-n
     copy-requires
-    sub-y
-    add-y
+    add-put-byte
     put-byte-requires
     add-below
+    add-below-2
     below-requires
     returns
     same-length

@@ -1,5 +1,6 @@
 -- `open_string` meets its contract.
-use Rattle.blocktext.proofs.StringLaws.{open-strings}
+use Rattle.blocktext.proofs.StringLaws.{open-strings, open-block}
+use borrow.Author.Needs.{needs}
 use Rattle.blocktext.proofs.text.open_string.Statement.{statement}
 use Rattle.blocktext.proofs.text.open_string.Tie as tie
 
@@ -23,6 +24,9 @@ enum-known-b c = search open-strings
 
 led-string-requires : tie.Need-led-string-requires
 led-string-requires c κs = search open-strings
+
+spot-requires : tie.Need-spot-requires
+spot-requires c κs = search open-strings
 
 put-byte-requires : tie.Need-put-byte-requires
 put-byte-requires c κs = search open-strings
@@ -55,7 +59,7 @@ same-length-4 : tie.Need-same-length-4
 same-length-4 c = search open-strings
 
 returns-4 : tie.Need-returns-4
-returns-4 c = search open-strings
+returns-4 c = open-block _ _ _ (c .before .before .before .before .before .before .before .before .before .before .before .before .before .before .before .before .before .before .before .before .before .before .before .before .before .pre) _ ((c .before .before .before .before .before .before .before .before .before .before .before .before .before .before .before .before .before .before .before .before .before .take) .ensures) _ ((c .before .before .before .before .before .before .before .before .before .before .before .before .before .before .before .before .before .before .before .n) .given .1) _ ((c .before .before .before .before .before .before .before .before .before .before .before .before .before .before .before .before .before .step) .ensures) _ _ ((c .before .before .before .before .before .before .before .before .before .before .before .before .before .before .before .b) .given .1) (search needs) _ _ _ _ _ _ _ _ ((c .before .before .before .before .before .before .before .before .before .before .before .spot) .ensures) ((c .before .before .before .before .before .before .before .before .before .before .put-byte) .ensures) ((c .before .before .before .before .below) .ensures)
 
 returns-5 : tie.Need-returns-5
 returns-5 c = search open-strings
@@ -71,6 +75,7 @@ open-string-spec =
     enum-told
     enum-known-b
     led-string-requires
+    spot-requires
     put-byte-requires
     add-below
     below-requires

@@ -16,6 +16,12 @@ enum-known-p c = search needs
 enum-known-n : tie.Need-enum-known-n
 enum-known-n c = search needs
 
+spot-requires : tie.Need-spot-requires
+spot-requires c κs = search needs
+
+spot-requires-2 : tie.Need-spot-requires-2
+spot-requires-2 c κs = search needs
+
 add-row-of : tie.Need-add-row-of
 add-row-of c = search needs
 
@@ -51,6 +57,8 @@ key-row-spec =
     key-requires
     enum-known-p
     enum-known-n
+    spot-requires
+    spot-requires-2
     add-row-of
     row-of-requires
     put-row-requires

@@ -27,14 +27,20 @@ same-length c = search lettering-on
 returns : tie.Need-returns
 returns c = search lettering-on
 
+spot-requires : tie.Need-spot-requires
+spot-requires c κs = search lettering-on
+
 cast-put-byte : tie.Need-cast-put-byte
 cast-put-byte c = search lettering-on
 
 put-byte-requires : tie.Need-put-byte-requires
 put-byte-requires c κs = search lettering-on
 
-add-t21 : tie.Need-add-t21
-add-t21 c = search lettering-on
+add-t20 : tie.Need-add-t20
+add-t20 c = search lettering-on
+
+add-t22 : tie.Need-add-t22
+add-t22 c = search lettering-on
 
 returns-2 : tie.Need-returns-2
 returns-2 c = search lettering-on
@@ -57,9 +63,11 @@ behind-spec =
     scalar-escape-requires
     same-length
     returns
+    spot-requires
     cast-put-byte
     put-byte-requires
-    add-t21
+    add-t20
+    add-t22
     returns-2
     same-length-2
     returns-3)

@@ -21,8 +21,20 @@ enum-known-p-2 c = search bracing
 enum-known-at : tie.Need-enum-known-at
 enum-known-at c = search bracing
 
+spot-requires : tie.Need-spot-requires
+spot-requires c κs = search bracing
+
 put-scalar-requires : tie.Need-put-scalar-requires
 put-scalar-requires c κs = search bracing
+
+add-t22 : tie.Need-add-t22
+add-t22 c = search bracing
+
+sub-t23 : tie.Need-sub-t23
+sub-t23 c = search bracing
+
+add-t24 : tie.Need-add-t24
+add-t24 c = search bracing
 
 returns : tie.Need-returns
 returns c = search bracing
@@ -46,7 +58,11 @@ braced-spec =
     take-requires
     enum-known-p-2
     enum-known-at
+    spot-requires
     put-scalar-requires
+    add-t22
+    sub-t23
+    add-t24
     returns
     returns-2
     same-length

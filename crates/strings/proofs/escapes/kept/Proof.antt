@@ -21,6 +21,9 @@ enum-known-p-2 c = search keeping
 enum-known-m : tie.Need-enum-known-m
 enum-known-m c = search keeping
 
+spot-requires : tie.Need-spot-requires
+spot-requires c κs = search keeping
+
 copy-requires : tie.Need-copy-requires
 copy-requires c κs = search keeping
 
@@ -52,6 +55,7 @@ kept-spec =
     unescaped-requires
     enum-known-p-2
     enum-known-m
+    spot-requires
     copy-requires
     sub-t24
     add-t25

@@ -21,11 +21,17 @@ enum-told c = search singles
 enum-known-b : tie.Need-enum-known-b
 enum-known-b c = search singles
 
+spot-requires : tie.Need-spot-requires
+spot-requires c κs = search singles
+
 put-byte-requires : tie.Need-put-byte-requires
 put-byte-requires c κs = search singles
 
 add-t20 : tie.Need-add-t20
 add-t20 c = search singles
+
+add-t21 : tie.Need-add-t21
+add-t21 c = search singles
 
 kept-requires : tie.Need-kept-requires
 kept-requires c κs = search singles
@@ -58,8 +64,10 @@ single-escape-spec =
     step-requires
     enum-told
     enum-known-b
+    spot-requires
     put-byte-requires
     add-t20
+    add-t21
     kept-requires
     returns
     returns-2

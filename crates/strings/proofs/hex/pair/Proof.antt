@@ -21,6 +21,9 @@ enum-told-2 c = search pairing
 enum-known-l : tie.Need-enum-known-l
 enum-known-l c = search pairing
 
+spot-requires : tie.Need-spot-requires
+spot-requires c κs = search pairing
+
 mul-put-byte : tie.Need-mul-put-byte
 mul-put-byte c = search pairing
 
@@ -33,8 +36,8 @@ cast-put-byte c = search pairing
 put-byte-requires : tie.Need-put-byte-requires
 put-byte-requires c κs = search pairing
 
-add-t23 : tie.Need-add-t23
-add-t23 c = search pairing
+add-t20 : tie.Need-add-t20
+add-t20 c = search pairing
 
 returns : tie.Need-returns
 returns c = search pairing
@@ -58,11 +61,12 @@ pair-spec =
     low-requires-2
     enum-told-2
     enum-known-l
+    spot-requires
     mul-put-byte
     add-put-byte
     cast-put-byte
     put-byte-requires
-    add-t23
+    add-t20
     returns
     returns-2
     same-length

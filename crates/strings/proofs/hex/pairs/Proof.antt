@@ -3,14 +3,12 @@ use Prim.Native.Nat.{_-_}
 use mathlib.Core.Path.{_≡_}
 use lib.ListN.{length}
 use borrow.Author.Needs.{needs}
-use Rattle.strings.specs.Bytes.{pairsR}
-use Rattle.strings.specs.Inside.{Within}
-use Rattle.strings.proofs.PairsLaws.{pairing-on, pairs-turn}
+use Rattle.strings.proofs.PairsLaws.{Pairing, pairing-on, pairs-turn}
 use Rattle.strings.proofs.hex.pairs.Statement.{statement}
 use Rattle.strings.proofs.hex.pairs.Tie as tie
 
 abbrev Inv-loop : tie.InvT-loop
-Inv-loop doc text₀ n₀ text n = Within pairsR doc n₀ n text₀ text × (length text ≡ length text₀)
+Inv-loop doc text₀ n₀ text n = Pairing doc n₀ n text₀ text × (length text ≡ length text₀)
 
 abbrev μ-loop : tie.MeasureT-loop
 μ-loop doc text₀ n₀ text n = length doc - n .at

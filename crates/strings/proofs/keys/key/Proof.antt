@@ -14,7 +14,7 @@ bare-requires : tie.Need-bare-requires
 bare-requires c κs = search needs
 
 put-leaf-requires : tie.Need-put-leaf-requires
-put-leaf-requires c κs = search needs
+put-leaf-requires c κs = search keys
 
 same-length : tie.Need-same-length
 same-length c = search needs

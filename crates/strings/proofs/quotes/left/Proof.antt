@@ -3,13 +3,12 @@ use Prim.Native.Nat.{_-_}
 use mathlib.Core.Path.{_≡_}
 use lib.ListN.{length}
 use borrow.Author.Needs.{needs}
-use Rattle.strings.specs.Inside.{leftR, Within}
-use Rattle.strings.proofs.StringLaws.{strings, ready-behind, special-at}
+use Rattle.strings.proofs.StringLaws.{Inside, strings, ready-behind, special-at}
 use Rattle.strings.proofs.quotes.left.Statement.{statement}
 use Rattle.strings.proofs.quotes.left.Tie as tie
 
 abbrev Inv-loop : tie.InvT-loop
-Inv-loop doc text₀ quote n₀ text n = Within (leftR quote) doc n₀ n text₀ text × (length text ≡ length text₀)
+Inv-loop doc text₀ quote n₀ text n = Inside quote doc n₀ n text₀ text × (length text ≡ length text₀)
 
 abbrev μ-loop : tie.MeasureT-loop
 μ-loop doc text₀ quote n₀ text n = length doc - n .at
