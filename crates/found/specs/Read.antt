@@ -1,10 +1,10 @@
 -- ON WHAT `read` FILLED: on the table of an accepted document `find` answers the value of the key in that object, exactly if the object has the key
--- (01, Questions), and the spans are in their place (01, What the reader takes and gives). Assumes nothing.
+-- (01, Questions), and the spans are in their place, the rows in the order of their first bytes (01, What the reader takes and gives). Assumes nothing.
 use mathlib.Core.Path.{_≡_, refl, sym, subst}
 use mathlib.Core.List.{List}
 use mathlib.Core.Bool.{Bool, true, false}
 use mathlib.Core.Logic.{_↔_}
-use Prim.Native.Nat.{ℕ, _*_, _<_}
+use Prim.Native.Nat.{ℕ, _*_, _≤_, _<_}
 use native.Mathlib.Omega.{arith}
 use lib.ListN.{length, drop}
 use Rattle.language.specs.Tree.{Tree, width, size, textOf, rowsOf}
@@ -16,13 +16,14 @@ use Rattle.questions.specs.Walk.{foundReply, object, Finds, refused}
 use Rattle.questions.specs.Unique.{one-found}
 use Rattle.spans.specs.Document.{placed, sound, in-document}
 use Rattle.spans.specs.Placed.{itself}
+use Rattle.spans.specs.Rising.{document-rises}
 use Rattle.found.specs.Objects.{RowOf, Pair, Holds, ObjectAt}
 use Rattle.found.specs.Stands.{stands-first}
 use Rattle.found.specs.Rooted.{value-row, one-object}
 use Rattle.found.specs.Once.{Once, once}
 use Rattle.found.specs.Find.{Filled, Answers, answers, find-value}
 use Rattle.found.specs.Kinds.{Object, objects}
-use Rattle.found.specs.Spans.{RowSpans, row-spans}
+use Rattle.found.specs.Spans.{RowSpans, row-spans, firstByte, rows-rise}
 
 -- the tree of a document that was read, and what its table and its room hold
 pub record Filling (doc : List ℕ) (n : ℕ) (table room : List ℕ) : Type 0 where
@@ -98,3 +99,11 @@ spans-in-table {doc} {table′ = table′} x =
     let t = z .tree in
     let d = z .reads .word in
     subst (λ (k : ℕ). RowSpans (length doc) k table′) (sym (z .filled .count)) (row-spans table′ (z .filled .rows) (placed deepest doc t d) (in-document deepest doc t d itself))
+
+-- .. whose rows stand in the order of their first bytes
+pub rise-in-table : {doc table text table′ text′ : List ℕ} {n m : ℕ} → Answered doc table text 0 n m table′ text′ → (r q : ℕ) → r < q → q < n
+    → firstByte table′ r ≤ firstByte table′ q
+rise-in-table {doc} {table′ = table′} x r q l h =
+    let z = filling x in
+    let t = z .tree in
+    rows-rise table′ t (z .filled .rows) (document-rises deepest doc t (z .reads .word)) r q l (omega (arith, z .filled .count))

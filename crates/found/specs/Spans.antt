@@ -1,18 +1,20 @@
--- SPANS IN THE WORDS OF A TABLE that holds the rows of a tree: each child's inside its parent's, siblings' disjoint and in order, all inside the document
--- (01, What the reader takes and gives). Assumes nothing.
+-- SPANS IN THE WORDS OF A TABLE that holds the rows of a tree: each child's inside its parent's, siblings' disjoint and in order, all inside the document,
+-- and the rows in the order of their first bytes (01, What the reader takes and gives). Assumes nothing.
 use mathlib.Core.Path.{_≡_, sym, ap, subst, _∙_}
-use mathlib.Core.List.{List}
+use mathlib.Core.List.{List, _++_}
 use mathlib.Core.Bool.{Bool, true, false}
-use Prim.Native.Nat.{ℕ, suc, _+_, _*_, _≤_, _<_}
+use Prim.Native.Nat.{ℕ, zero, suc, _+_, _*_, _-_, _≤_, _<_}
 use native.Mathlib.Omega.{arith}
 use native.Mathlib.Decide.{decLe}
-use lib.ListN.{length}
+use lib.ListN.{length, getD, List·getD-append}
+use lib.Seq.{getD-append-add}
 use lib.Dec.{leb}
 use Rattle.notation.specs.Class.{pick}
 use Rattle.language.specs.Kind.{TRUE}
 use Rattle.language.specs.Tree.{Tree, leaf, node, Forest, none, more, first, after, width, size, sizes, textOf, rowList, leafRow, rowsOf, rowss}
 use Rattle.rooms.specs.Forest.{length-rows}
 use Rattle.spans.specs.Placed.{Placed, Along, placed-leaf, placed-node, along-none, along-more, along-le, span-some}
+use Rattle.spans.specs.Rising.{firsts, firstsIn, Rising, length-firsts, rising-order}
 use Rattle.questions.specs.Table.{word}
 use Rattle.found.specs.Stands.{Stands, stands-left, stands-right, stands-word}
 
@@ -197,3 +199,36 @@ module _ (table : List ℕ) where
             (λ g. let y = z .lies r g (omega arith) in (y .some, omega (arith, y .high)))
             (λ g. let q : r ≡ 0 = omega arith in (omega (arith, ap (firstByte table) q, ap (byteAfter table) q, o .begins, o .ends), omega (arith, ap (byteAfter table) q, o .ends)));
       }
+
+  -- the first bytes of the rows from b on are those of the tree, or of the trees, in row order
+  mutual
+    unfolding size rowsOf firsts
+
+    tree-firsts : (b p x : ℕ) (t : Tree) → Stands table (width * b) (rowsOf b p x t) → (i r : ℕ) → r ≡ b + i → i < size t → firstByte table r ≡ getD (firsts t) i 0
+    tree-firsts b p x (leaf k a e s) h zero r z l = ap (firstByte table) (omega arith) ∙ leaf-own b p x k a e (s .bytes) h .begins
+    tree-firsts b p x (leaf k a e s) h (suc i) r z l = absurd (omega arith)
+    tree-firsts b p x (node k a e c ts) h zero r z l =
+        ap (firstByte table) (omega arith) ∙ list-own b p k a e 0 c (b + 1 + sizes ts) (stands-left (rowList k a e 0 c p (b + 1 + sizes ts)) (rowss (b + 1) b x ts) h) .begins
+    tree-firsts b p x (node k a e c ts) h (suc i) r z l =
+        let w = rowList k a e 0 c p (b + 1 + sizes ts) in
+        forest-firsts (b + 1) b x ts (stands-right w (rowss (b + 1) b x ts) h (width * (b + 1)) (omega arith)) i r (omega arith) (omega arith)
+
+    forest-firsts : (b p x : ℕ) (ts : Forest) → Stands table (width * b) (rowss b p x ts) → (i r : ℕ) → r ≡ b + i → i < sizes ts → firstByte table r ≡ getD (firstsIn ts) i 0
+    forest-firsts b p x none h i r z l = absurd (omega arith)
+    forest-firsts b p x (more t ts) h i r z l =
+        let u = rowsOf b p x t in
+        let v = rowss (b + size t) p (x + length (textOf t)) ts in
+        let w = stands-right u v h (width * (b + size t)) (omega (arith, length-rows b p x t)) in
+        let n = length-firsts t in
+        let j = i - size t in
+        either
+        (size t)
+        i
+        (λ g. forest-firsts (b + size t) p (x + length (textOf t)) ts w j r (omega arith) (omega arith)
+        ∙ (sym (getD-append-add (firsts t) (firstsIn ts) j 0) ∙ ap (λ (y : ℕ). getD (firsts t ++ firstsIn ts) y 0) (omega arith)))
+        (λ g. tree-firsts b p x t (stands-left u v h) i r z g ∙ sym (List·getD-append (firsts t) (firstsIn ts) 0 i (omega arith)))
+
+  -- ROWS STAND IN THE ORDER OF THEIR FIRST BYTES, where the tree's do
+  pub rows-rise : {lo hi : ℕ} (t : Tree) → Stands table 0 (rowsOf 0 0 0 t) → Rising lo (firsts t) hi → (r q : ℕ) → r < q → q < size t → firstByte table r ≤ firstByte table q
+  rows-rise t h x r q k l =
+      omega (arith, rising-order x r q k (omega (arith, length-firsts t)), tree-firsts 0 0 0 t h r r (omega arith) (omega arith), tree-firsts 0 0 0 t h q q (omega arith) l)

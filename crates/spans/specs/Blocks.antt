@@ -61,7 +61,7 @@ module _ (k n : ℕ) {N : Lang Tree} (g : Roomy N) where
       on : {m o : ℕ} → suc m ≤ o → suc (suc m) ≤ suc o
       on h = omega arith
 
-  properties-extend : Extends PairsLie (Property k n N)
+  pub properties-extend : Extends PairsLie (Property k n N)
   properties-extend at b h = property-every b (λ ky v m e x y fs at′ z. pairs-more (lies-from h x) (omega arith) y z)
 
   pub object-lies : OnLines (Object k n N)
@@ -75,10 +75,10 @@ module _ {I : Lang Tree} (g : OnLines I) where
       on : {m : ℕ} → m ≡ at + 2 → suc (suc at) ≤ m
       on h = omega arith
 
-  abbrev EntriesLie : ℕ → List Entry → ℕ → Type 0
+  abbrev pub EntriesLie : ℕ → List Entry → ℕ → Type 0
   EntriesLie at es at′ = ElementsLie at (entries es) at′
 
-  entries-extend : Extends EntriesLie (Dashed I)
+  pub entries-extend : Extends EntriesLie (Dashed I)
   entries-extend at b h = dashed-every b (λ v e x es at′ z. elements-more (lies-from (on h) x) z)
     where
       on : {at b : ℕ} → at ≤ b → at ≤ suc (suc b)

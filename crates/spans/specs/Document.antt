@@ -6,16 +6,18 @@ use mathlib.Core.Bool.{true}
 use Prim.Native.Nat.{ℕ, zero, suc, _+_, _*_, _≤_, _<_}
 use native.Mathlib.Omega.{arith}
 use lib.ListN.{length}
-use Rattle.notation.specs.Lang.{End, end}
+use Rattle.notation.specs.Lang.{_>>_, Star, End, end}
 use Rattle.language.specs.Tree.{Decoded, Tree, leaf, node, Forest, first, after, size, textOf, escapesOf}
+use Rattle.language.specs.Characters.{Feed, Comment}
 use Rattle.language.specs.Document.{RootLine, Root, Whole, Document}
-use Rattle.spans.specs.Every.{ret-every, byte-every, byte-then, bind-every, alt-every}
+use Rattle.spans.specs.Onward.{onward-length}
+use Rattle.spans.specs.Every.{Every, ret-every, byte-every, byte-then, bind-every, alt-every}
 use Rattle.spans.specs.Placed.{Placed, Child, Siblings, Within, Inside, span-some, child-inside, siblings-ordered, within-placed, within-inside}
 use Rattle.spans.specs.Formed.{Formed, Sound, formed-sound}
 use Rattle.spans.specs.Keys.{keysIn}
 use Rattle.spans.specs.Kinds.{Contains, Tells, within-either, either-contains, either-tells}
 use Rattle.spans.specs.Lies.{LiesIn, lies-from, lies-to, lies-line}
-use Rattle.spans.specs.Texts.{star-goes, comment-goes}
+use Rattle.spans.specs.Texts.{Goes, star-goes, comment-goes}
 use Rattle.spans.specs.Inline.{value-lies}
 use Rattle.spans.specs.Blocks.{OnLines, Roomy, on-lines, object-lies, array-lies, open-lies, nested-lies, item-lies}
 
@@ -29,10 +31,13 @@ root-lies (suc k) at =
     (on-lines (λ b. alt-every (root-line-lies (suc k) b) (open-lies 0 b)) at)
     (alt-every (on-lines (array-lies (item-lies k 2) 0) at) (object-lies k 0 (nested-lies k 1) at))
 
+pub comments-go : (at : ℕ) → Every (Star (Comment >> Feed)) at (Goes at)
+comments-go at = star-goes (λ a. bind-every (comment-goes a) (λ c m h. byte-every (λ b. omega arith))) at
+
 whole-lies : (k : ℕ) → OnLines (Whole k)
 whole-lies k at =
     bind-every
-    (star-goes (λ a. bind-every (comment-goes a) (λ c m h. byte-every (λ b. omega arith))) at)
+    (comments-go at)
     (λ cs m h. bind-every
     (root-lies k m)
     (λ v e x. bind-every (star-goes (λ a. byte-every (λ b. omega arith)) e) (λ fs at′ l. ret-every (lies-from h (lies-to l x)))))
@@ -40,7 +45,7 @@ whole-lies k at =
 module _ (k : ℕ) (doc : List ℕ) (t : Tree) (d : Document k doc t) where
   document-lies : LiesIn Formed 1 1 0 t (length doc)
   unfolding Document
-  document-lies = by (d .others) (whole-lies k 0 .has (d .first)) (whole-lies k 0 .moves (d .first))
+  document-lies = by (d .others) (whole-lies k 0 .has (d .first)) (onward-length (whole-lies k 0 .moves (d .first)))
     where
       by : {v : Tree} {m : ℕ} {s : List ℕ} → End v m s t → LiesIn Formed 1 1 0 v m → m + length s ≡ 0 + length doc → LiesIn Formed 1 1 0 t (length doc)
       by end x h = lies-to (omega arith) x

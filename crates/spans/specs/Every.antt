@@ -6,11 +6,12 @@ use Prim.Native.Nat.{ℕ, zero, suc, _+_, _≤_}
 use native.Mathlib.Omega.{arith}
 use lib.ListN.{length}
 use Rattle.notation.specs.Lang.{Lang, Ret, ret, Here, here, Byte, byte, Seq, Map, Alt, one, two, Star, nil, cons, Plus, Such, Word, Indented}
+use Rattle.spans.specs.Onward.{Onward, onward-none, onward-then}
 
--- Every A from `at` on has R of its value and its end, and takes as many bytes as its places say.
+-- Every A from `at` on has R of its value and its end, and what is left behind it is what is left further on, at its end.
 pub record Every {X : Type 0} (A : Lang X) (at : ℕ) (R : X → ℕ → Type 0) : Type 0 where
   pub has : {s : List ℕ} {v : X} {at′ : ℕ} {t : List ℕ} → A at s v at′ t → R v at′
-  pub moves : {s : List ℕ} {v : X} {at′ : ℕ} {t : List ℕ} → A at s v at′ t → at′ + length t ≡ at + length s
+  pub moves : {s : List ℕ} {v : X} {at′ : ℕ} {t : List ℕ} → A at s v at′ t → Onward at s at′ t
 
 pub ret-every : {X : Type 0} {v : X} {at : ℕ} {R : X → ℕ → Type 0} → R v at → Every (Ret v) at R
 ret-every {X} {v} {at} {R} h = record { has = go; moves = on }
@@ -18,8 +19,8 @@ ret-every {X} {v} {at} {R} h = record { has = go; moves = on }
     go : {s : List ℕ} {x : X} {at′ : ℕ} {t : List ℕ} → Ret v at s x at′ t → R x at′
     go ret = h
 
-    on : {s : List ℕ} {x : X} {at′ : ℕ} {t : List ℕ} → Ret v at s x at′ t → at′ + length t ≡ at + length s
-    on ret = refl
+    on : {s : List ℕ} {x : X} {at′ : ℕ} {t : List ℕ} → Ret v at s x at′ t → Onward at s at′ t
+    on ret = onward-none _ _
 
 pub here-every : {at : ℕ} {R : ℕ → ℕ → Type 0} → R at at → Every Here at R
 here-every {at} {R} h = record { has = go; moves = on }
@@ -27,8 +28,8 @@ here-every {at} {R} h = record { has = go; moves = on }
     go : {s : List ℕ} {x at′ : ℕ} {t : List ℕ} → Here at s x at′ t → R x at′
     go here = h
 
-    on : {s : List ℕ} {x at′ : ℕ} {t : List ℕ} → Here at s x at′ t → at′ + length t ≡ at + length s
-    on here = refl
+    on : {s : List ℕ} {x at′ : ℕ} {t : List ℕ} → Here at s x at′ t → Onward at s at′ t
+    on here = onward-none _ _
 
 pub byte-every : {f : ℕ → Bool} {at : ℕ} {R : ℕ → ℕ → Type 0} → ((b : ℕ) → R b (suc at)) → Every (Byte f) at R
 byte-every {f} {at} {R} h = record { has = go; moves = on }
@@ -36,8 +37,8 @@ byte-every {f} {at} {R} h = record { has = go; moves = on }
     go : {s : List ℕ} {x at′ : ℕ} {t : List ℕ} → Byte f at s x at′ t → R x at′
     go (byte {b = b} e) = h b
 
-    on : {s : List ℕ} {x at′ : ℕ} {t : List ℕ} → Byte f at s x at′ t → at′ + length t ≡ at + length s
-    on (byte e) = omega arith
+    on : {s : List ℕ} {x at′ : ℕ} {t : List ℕ} → Byte f at s x at′ t → Onward at s at′ t
+    on (byte {b = b} e) = record { passed = b ∷ []; text = refl; place = omega arith }
 
 -- an A, and then a B: from what holds of every A, what holds of every B that follows it
 pub bind-every : {X Y : Type 0} {A : Lang X} {B : X → Lang Y} {at : ℕ} {P : X → ℕ → Type 0} {R : Y → ℕ → Type 0}
@@ -45,7 +46,7 @@ pub bind-every : {X Y : Type 0} {A : Lang X} {B : X → Lang Y} {at : ℕ} {P : 
 bind-every g k =
     record {
       has = λ z. k (z .value) (z .middle) (g .has (z .first)) .has (z .second);
-      moves = λ z. let a = g .moves (z .first) in let b = k (z .value) (z .middle) (g .has (z .first)) .moves (z .second) in omega arith;
+      moves = λ z. onward-then (g .moves (z .first)) (k (z .value) (z .middle) (g .has (z .first)) .moves (z .second));
     }
 
 -- what holds of every A may be said more weakly
@@ -72,7 +73,7 @@ alt-every {X} {A} {B} {at} {R} f g = record { has = go; moves = on }
     go (one z) = f .has z
     go (two z) = g .has z
 
-    on : {s : List ℕ} {x : X} {at′ : ℕ} {t : List ℕ} → Alt A B at s x at′ t → at′ + length t ≡ at + length s
+    on : {s : List ℕ} {x : X} {at′ : ℕ} {t : List ℕ} → Alt A B at s x at′ t → Onward at s at′ t
     on (one z) = f .moves z
     on (two z) = g .moves z
 
@@ -88,9 +89,9 @@ star-every {X} {A} I none more at = record { has = go; moves = on }
     go (nil {at = a}) = none a
     go (cons {at = a} x y) = more a .has x _ _ (go y)
 
-    on : {at : ℕ} {s : List ℕ} {x : List X} {at′ : ℕ} {t : List ℕ} → Star A at s x at′ t → at′ + length t ≡ at + length s
-    on nil = refl
-    on (cons {at = a} x y) = let h = more a .moves x in let k = on y in omega arith
+    on : {at : ℕ} {s : List ℕ} {x : List X} {at′ : ℕ} {t : List ℕ} → Star A at s x at′ t → Onward at s at′ t
+    on nil = onward-none _ _
+    on (cons {at = a} x y) = onward-then (more a .moves x) (on y)
 
 pub plus-every : {X : Type 0} {A : Lang X} (I : ℕ → List X → ℕ → Type 0) {at : ℕ} {R : List X → ℕ → Type 0}
     → ((m : ℕ) → Every (Star A) m (I m)) → Every A at (InFront I R) → Every (Plus A) at R

@@ -35,7 +35,7 @@ module _ {A : Lang Tree} (g : (at : ℕ) → Every A at (Lies Formed 0 at)) wher
       here-then
       (byte-then (λ b. seq-every (listed-every 93 ElementsLie elements-none (elements-extend g) (suc at) (λ vs m x. here-then (ret-every (inline-array-lies x))))))
 
-  pairs-extend : Extends PairsLie (InlinePair A)
+  pub pairs-extend : Extends PairsLie (InlinePair A)
   pairs-extend at b h =
       bind-every
       (key-lies b)

@@ -26,11 +26,11 @@ child-either (formed-array x) (child m) = inl (element-formed x m)
 child-either (formed-object x) (child m) = pair-either x m
 
 -- a key has no child
-abbrev Container : Tree → Type 0
+abbrev pub Container : Tree → Type 0
 Container (leaf k a e s) = ⊥
 Container (node k a e c ts) = Unit {0}
 
-has-child : {u t : Tree} → Child u t → Container t
+pub has-child : {u t : Tree} → Child u t → Container t
 has-child (child m) = tt
 
 key-childless : {t : Tree} → IsKey t → Container t → ⊥

@@ -1,3 +1,4 @@
+pub mod Onward
 pub mod Every
 pub mod Placed
 pub mod Formed
@@ -12,3 +13,10 @@ pub mod Body
 pub mod Parts
 pub mod Blocks
 pub mod Document
+pub mod Rising
+pub mod Words
+pub mod Starts
+pub mod Ascii
+pub mod Gives
+pub mod Leaves
+pub mod Begins

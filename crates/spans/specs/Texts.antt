@@ -10,6 +10,7 @@ use Rattle.notation.specs.Class.{pick, Class}
 use Rattle.notation.specs.Lang.{Lang, Byte, Map, Star, Plus, cat}
 use Rattle.language.specs.Tree.{Decoded, unescaped, together}
 use Rattle.language.specs.Characters.{utf8, Char, char, Piece, Comment, Option, LineComment}
+use Rattle.spans.specs.Onward.{Onward}
 use Rattle.spans.specs.Every.{Every, InFront, ret-every, byte-every, byte-then, bind-every, via, map-every, alt-every, star-every, plus-every, word-then}
 
 -- the bytes s were read from `at` up to at′
@@ -96,8 +97,8 @@ char-every {c} {at} {R} k = record { has = go; moves = on }
     go : {s v : List ℕ} {at′ : ℕ} {t : List ℕ} → Char c at s v at′ t → R v at′
     go (char v e) = k (utf8 v) _ refl
 
-    on : {s v : List ℕ} {at′ : ℕ} {t : List ℕ} → Char c at s v at′ t → at′ + length t ≡ at + length s
-    on (char {t = t} v e) = omega (arith, joined (utf8 v) t)
+    on : {s v : List ℕ} {at′ : ℕ} {t : List ℕ} → Char c at s v at′ t → Onward at s at′ t
+    on (char v e) = record { passed = utf8 v; text = refl; place = refl }
 
 pub char-fits : {c : Class} (at : ℕ) → Every (Char c) at (Fits at)
 char-fits at = char-every (λ s m h. omega arith)

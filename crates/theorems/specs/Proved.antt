@@ -1,9 +1,9 @@
--- THE THEOREMS, by name, of every document and of every reader that meets the promise. What they say that is not in `language` stands in `spans` (Keys, Placed), `found`
+-- THE THEOREMS, by name, of every document and of every reader that meets the promise. What they say that is not in `language` stands in `spans` (Keys, Placed, Rising), `found`
 -- (Objects, Once, Kinds, Spans, Read) and `exports` (Exports).
 use mathlib.Core.Path.{_≡_}
 use mathlib.Core.List.{List, _++_}
 use Prim.Native.Nat.{ℕ, suc, _*_, _≤_, _<_}
-use lib.ListN.{length, take}
+use lib.ListN.{length, take, getD}
 use lib.IntN.{ℤ}
 use Rattle.language.specs.declared.Answer.{Answer}
 use Rattle.language.specs.Tree.{Tree, first, after, size, textOf, escapesOf}
@@ -22,8 +22,10 @@ use Rattle.blocks.specs.Document as readers
 use Rattle.blocks.specs.Clean as clean
 use Rattle.spans.specs.Keys.{keysIn}
 use Rattle.spans.specs.Placed.{Within, Child, Siblings, Inside}
+use Rattle.spans.specs.Rising.{Rising, firsts, document-rises}
 use Rattle.spans.specs.Document as documents
-use Rattle.found.specs.Spans.{RowSpans}
+use Rattle.spans.specs.Begins as begins
+use Rattle.found.specs.Spans.{RowSpans, firstByte}
 use Rattle.found.specs.Read as found
 use Rattle.promise.specs.Unique as unique
 use Rattle.promise.specs.Refusals as refusals
@@ -149,6 +151,19 @@ spans k doc t d =
 -- .. and in the words of the table that is filled for an accepted document
 pub spans-in-table : (doc table text table′ text′ : List ℕ) (n m : ℕ) → Answered doc table text 0 n m table′ text′ → RowSpans (length doc) n table′
 spans-in-table doc table text table′ text′ n m x = found.spans-in-table x
+
+-- ROWS RISE: they stand in the order of their first bytes, which all lie inside the document
+pub rows-rise : (k : ℕ) (doc : List ℕ) (t : Tree) → Document k doc t → Rising 0 (firsts t) (length doc)
+rows-rise = document-rises
+
+-- .. and in the words of the table that is filled for an accepted document
+pub rows-rise-in-table : (doc table text table′ text′ : List ℕ) (n m : ℕ) → Answered doc table text 0 n m table′ text′ → (r q : ℕ) → r < q → q < n
+    → firstByte table′ r ≤ firstByte table′ q
+rows-rise-in-table doc table text table′ text′ n m x r q l h = found.rise-in-table x r q l h
+
+-- BEGINNINGS: every tree of a document, at any depth, keys too, begins with an ASCII byte, and so its span with a whole character
+pub begins-ascii : (k : ℕ) (doc : List ℕ) (t : Tree) → Document k doc t → (u : Tree) → Within u t → getD doc (first u) 128 < 128
+begins-ascii = begins.begins-ascii
 
 -- FINDING in the table that is filled for an accepted document answers the value of the key in that object, exactly if the object has the key
 pub find-exactly : (doc table text table′ text′ : List ℕ) (n m : ℕ) → Answered doc table text 0 n m table′ text′ → (t : Tree) → Document deepest doc t
