@@ -72,6 +72,22 @@ static struct answer read_in(const uint8_t *doc, size_t len, size_t rows, size_t
     return answer;
 }
 
+/* A row's line is 1 and the line feeds before its first byte; its column is 1 and the characters since the last of
+ * them, where a byte that continues a character begins none. */
+static void expect_place(const uint8_t *doc, const uint32_t *words, size_t row) {
+    size_t line = 1, column = 1;
+    for (size_t i = 0; i < words[YAY_FROM]; i++) {
+        if (doc[i] == '\n') {
+            line++;
+            column = 1;
+        } else if ((doc[i] & 0xc0) != 0x80) {
+            column++;
+        }
+    }
+    expect(words[YAY_LINE] == line, "the line of a row", row);
+    expect(words[YAY_COLUMN] == column, "the column of a row", row);
+}
+
 /* Asks every row of a table, good or broken, for its text and for a key. */
 static void ask(const uint32_t *table, size_t words, size_t rows, const uint8_t *text, size_t len) {
     for (size_t row = 0; row < rows + 2; row++) {
@@ -103,8 +119,9 @@ static void try_document(const uint8_t *doc, size_t len) {
         expect(exact.number == YAY_OK && exact.first == all.first && exact.second == all.second, "exact rooms", len);
         expect(exact.third == all.third && all.third <= len / 2, "the escapes in exact rooms", exact.third);
         size_t words = all.first * YAY_WORDS;
-        ask((uint32_t *)(void *)part(table_room, words * 4, at_end), words, all.first,
-            part(text_room, all.second, at_end), all.second);
+        uint32_t *table = (uint32_t *)(void *)part(table_room, words * 4, at_end);
+        for (size_t row = 0; row < all.first; row++) expect_place(doc, table + YAY_WORDS * row, row);
+        ask(table, words, all.first, part(text_room, all.second, at_end), all.second);
     }
 }
 
@@ -112,7 +129,7 @@ static void try_document(const uint8_t *doc, size_t len) {
 static void try_broken_tables(void) {
     uint32_t seed = 1;
     for (size_t round = 0; round < 2000; round++) {
-        size_t words = round % 40, rows = round % 9;
+        size_t words = round % (6 * YAY_WORDS), rows = round % 9;
         uint32_t *table = (uint32_t *)(void *)part(table_room, words * 4, 1);
         for (size_t i = 0; i < words; i++) {
             seed = seed * 1664525u + 1013904223u;
@@ -170,6 +187,33 @@ static void try_escapes(void) {
     expect_escapes("# \\n\n` \\n\n  \"\\n\"\n", 0);
 }
 
+/* The words of every row of a document, in a table that ends where they do. */
+static void expect_words(const char *doc, size_t rows, const uint32_t *wanted) {
+    struct answer answer = read_in((const uint8_t *)doc, strlen(doc), rows, strlen(doc), 1);
+    const uint8_t *table = part(table_room, rows * YAY_WORDS * 4, 1);
+    expect(answer.number == YAY_OK && answer.first == rows, doc, answer.first);
+    expect(memcmp(table, wanted, rows * YAY_WORDS * 4) == 0, doc, rows);
+}
+
+/* Lines and columns stand behind the other words, columns in characters. */
+static void try_places(void) {
+    static const uint32_t list[3][YAY_WORDS] = {
+        {YAY_ARRAY, 0, 7, 0, 2, 0, 3, 1, 1},
+        {YAY_INTEGER, 1, 2, 0, 1, 0, 2, 1, 2},
+        {YAY_INTEGER, 4, 6, 1, 3, 0, 3, 1, 5},
+    };
+    static const uint32_t accent[4][YAY_WORDS] = {
+        {YAY_OBJECT, 0, 9, 0, 1, 0, 4, 1, 1},
+        {YAY_KEY, 0, 4, 0, 2, 0, 2, 1, 1},
+        {YAY_ARRAY, 6, 9, 0, 1, 0, 4, 1, 6},
+        {YAY_INTEGER, 7, 8, 2, 3, 2, 4, 1, 7},
+    };
+    static const uint32_t comment[1][YAY_WORDS] = {{YAY_NULL, 7, 11, 0, 0, 0, 1, 3, 1}};
+    expect_words("[1, 22]\n", 3, list[0]);
+    expect_words("\"\xc3\xa9\": [1]\n", 4, accent[0]);
+    expect_words("#\n# \xc3\xa9\nnull\n", 1, comment[0]);
+}
+
 int main(int count, char **args) {
     static uint8_t doc[YAY_LONGEST + 1];
     doc_room = make_room();
@@ -177,6 +221,7 @@ int main(int count, char **args) {
     text_room = make_room();
     try_borders();
     try_escapes();
+    try_places();
     try_broken_tables();
     memset(doc, ' ', sizeof doc);
     expect(read_in(doc, sizeof doc, 9, 9, 1).number == YAY_LONG, "a document too long", sizeof doc);

@@ -66,7 +66,7 @@ int main(int count, char **args) {
     print_text("capacity", find(find(0, "battery"), "capacity"));
     size_t version = find(0, "version");
     if (version < rows && table[YAY_WORDS * version + YAY_KIND] == YAY_ARRAY) {
-        printf("version:\n");
+        printf("version, in line %u:\n", (unsigned)table[YAY_WORDS * version + YAY_LINE]);
         print_numbers(version, "9");
     }
     return 0;

@@ -63,8 +63,18 @@ static size_t count_children(const uint32_t *table, size_t words, size_t rows, s
     return count;
 }
 
+/* Line and column of each row's first byte are those that the table has. */
+static void expect_positions(const uint8_t *doc, size_t len, const uint32_t *table, size_t rows) {
+    for (size_t row = 0; row < rows; row++) {
+        const uint32_t *words = table + YAY_WORDS * row;
+        size_t line = 77, column = 77;
+        yay_position(doc, len, words[YAY_FROM], &line, &column);
+        expect(line == words[YAY_LINE] && column == words[YAY_COLUMN], "the position of a row", row);
+    }
+}
+
 static void try_children(void) {
-    static const char doc[] = "a: [1, [2, 3], 4]\nb: {}\nc: \"x\"\n";
+    static const char doc[] = "# \xc3\xa9\na: [1, [2, 3], 4]\n\"\xf0\x9f\x98\x80\": {}\nc: \"x\"\n";
     static const size_t counts[] = {6, 0, 3, 0, 2, 0, 0, 0, 0, 0, 0, 0};
     uint32_t table[YAY_TABLE_ROOM(sizeof doc)];
     uint8_t text[YAY_TEXT_ROOM(sizeof doc)];
@@ -75,13 +85,14 @@ static void try_children(void) {
     for (size_t row = 0; row < rows; row++) {
         expect(count_children(table, rows * YAY_WORDS, rows, row) == counts[row], "children", row);
     }
+    expect_positions((const uint8_t *)doc, sizeof doc - 1, table, rows);
 }
 
 /* Tables that no reader made: a walk ends, and touches nothing outside. */
 static void try_broken_tables(void) {
     uint32_t seed = 1;
     for (size_t round = 0; round < 20000; round++) {
-        size_t words = round % 60, rows = round % 11;
+        size_t words = round % (9 * YAY_WORDS), rows = round % 11;
         uint32_t *table = malloc(words * sizeof *table + (words == 0));
         for (size_t i = 0; i < words; i++) {
             seed = seed * 1664525u + 1013904223u;

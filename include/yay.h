@@ -8,8 +8,9 @@
  * one of them the answer is the one that the documents of the project fix.
  * yay_read has rooms of its own on the stack: see YAY_STACK.
  *
- * A place is counted in bytes from 0, a row from 0; they are never taken for one another. yay_help.h has names and
- * sentences for the numbers, line and column of a place, and a way through the children of a row; it is not proved. */
+ * A place is counted in bytes from 0, a row from 0, a line and a column from 1; they are never taken for one another.
+ * yay_help.h has names and sentences for the numbers, line and column of any place, and a way through the
+ * children of a row; it is not proved. */
 #ifndef YAY_H
 #define YAY_H
 
@@ -23,7 +24,7 @@ extern "C" {
 /* The most bytes of a document, the most containers one inside another, and the words of a row. */
 #define YAY_LONGEST 32768
 #define YAY_NESTING 32
-#define YAY_WORDS 7
+#define YAY_WORDS 9
 
 /* The stack that a call of yay_read touches at most, in bytes, as c/stack.c measures it: for a document of at most
  * 1,024 bytes, and for any. So a thread of 128 KB reads every document. */
@@ -56,6 +57,8 @@ extern "C" {
 #define YAY_TEXT_TO 4    /* byte after the text; of an array its elements, of an object its pairs */
 #define YAY_PARENT 5     /* row of the container; the root's is 0 */
 #define YAY_NEXT 6       /* row after the last descendant */
+#define YAY_LINE 7       /* line of the span's first byte, from 1 */
+#define YAY_COLUMN 8     /* its column, from 1, in characters: one of several bytes is one */
 
 /* Kinds. A key's row stands just before its value's row, and the object is the parent of both. */
 #define YAY_NULL 1

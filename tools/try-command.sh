@@ -9,9 +9,14 @@ printf 1 > build/bad.yay
 expect 'a value for scripts' stable "$("$yay" get examples/tablet.yay image-channel)"
 expect 'a word of escapes' '(standard input): ok, 3 rows, 3 bytes of text, 2 escapes' \
     "$(printf '"\\n": "\\u{41}x"\n' | "$yay" check -)"
+expect 'line and column before each value' '2:1  array of 2 elements
+2:3    0: string "é"
+3:3    1: integer 2' "$(printf '# é\n- "é"\n- 2\n' | "$yay" show -p -)"
+expect 'line and column in rows' '2 4 12 13 2 3 0 3 2 7 integer 1' \
+    "$(printf '# é\n["é", 1]\n' | "$yay" rows - | tail -n 1 | tr -s ' ' | sed 's/^ //')"
 expect 'bytes as they are' "$(printf '\x00\xff\n' | od -An -tx1)" \
     "$(printf 'a: <00ff0a>\n' | "$yay" get --raw - a | od -An -tx1)"
-expect 'an answer before the next document' 'ok 1 1 0 4,0,1,0,1,0,1 31' "$(
+expect 'an answer before the next document' 'ok 1 1 0 4,0,1,0,1,0,1,1,1 31' "$(
     coproc batch { "$yay" batch; }
     printf '\x02\x00\x00\x001\n' >&"${batch[1]}"
     read -r -t 20 line <&"${batch[0]}"

@@ -8,7 +8,7 @@ source tools/expect.sh
 
 sed -n '/^```c$/,/^```$/{/^```/!p}' c/README.md > "$folder/readme.c"
 cc "${flags[@]}" -O2 "$folder/readme.c" "$library" -o "$folder/readme" || exit 1
-expect "c/README's program" stable "$("$folder/readme" < examples/tablet.yay)"
+expect "c/README's program" 'stable, in line 2' "$("$folder/readme" < examples/tablet.yay)"
 expect "c/README's program, refused" '1:11: SYNTAX: no document goes on like this' \
     "$(printf 'doors: [1,2]\n' | "$folder/readme")"
 expect "c/README's program, no such key" "NONE: the key isn't in the object" "$(printf 'a: 1\n' | "$folder/readme")"

@@ -42,6 +42,7 @@ offered() {
 }
 expect 'a command' 'check compare' "$(offered yay c)"
 expect 'an option' '--json' "$(offered yay get --j)"
+expect 'an option of show' '--places' "$(offered yay show --p)"
 expect 'how numbers are written' 'text' "$(offered yay json --numbers = te)"
 expect 'all of these' 'json text exact' "$(offered yay get --numbers =)"
 expect 'files are left to bash' '' "$(offered yay show exa)"

@@ -2,11 +2,12 @@
 # The questions of document 01 written a second time, in Python's own numbers. `python3 model.py | diff - stdout` is silent.
 import re
 
+WIDTH = 9
 ROOM = b'a1bc22-3aba'
 ROWS = [
-    (9, 0, 35, 0, 3, 0, 11), (10, 1, 2, 0, 1, 0, 2), (4, 4, 5, 1, 2, 0, 3), (10, 7, 9, 2, 4, 0, 4),
-    (8, 11, 19, 0, 2, 0, 7), (4, 12, 14, 4, 6, 4, 6), (4, 16, 18, 6, 8, 4, 7), (10, 21, 23, 8, 10, 0, 8),
-    (9, 25, 34, 0, 1, 0, 11), (10, 26, 27, 10, 11, 8, 10), (1, 29, 33, 0, 0, 8, 11)]
+    (9, 0, 35, 0, 3, 0, 11, 1, 1), (10, 1, 2, 0, 1, 0, 2, 1, 2), (4, 4, 5, 1, 2, 0, 3, 1, 5), (10, 7, 9, 2, 4, 0, 4, 1, 8),
+    (8, 11, 19, 0, 2, 0, 7, 1, 12), (4, 12, 14, 4, 6, 4, 6, 1, 13), (4, 16, 18, 6, 8, 4, 7, 1, 17), (10, 21, 23, 8, 10, 0, 8, 1, 22),
+    (9, 25, 34, 0, 1, 0, 11, 1, 26), (10, 26, 27, 10, 11, 8, 10, 1, 27), (1, 29, 33, 0, 0, 8, 11, 1, 30)]
 TABLE = [w for row in ROWS for w in row]
 MOST, GREAT = 2 ** 64 - 1, 2 ** 32 - 1
 
@@ -16,9 +17,9 @@ class Bad(Exception):
 
 
 def row(table, count, r):
-    if not r < count or 7 * (r + 1) > len(table):
+    if not r < count or WIDTH * (r + 1) > len(table):
         raise Bad
-    return dict(zip(('kind', 'first', 'after', 'start', 'end', 'parent', 'next'), table[7 * r:7 * r + 7]))
+    return dict(zip(('kind', 'first', 'after', 'start', 'end', 'parent', 'next', 'line', 'column'), table[WIDTH * r:WIDTH * (r + 1)]))
 
 
 def text_of(table, count, room, r):
@@ -86,13 +87,13 @@ def with_word(at, value):
 def texts():
     for r in list(range(12)) + [MOST]:
         text(TABLE, 11, ROOM, r)
-    for count, r in (0, 0), (5, 4), (5, 5), (6, 5), (100, 9), (100, 11), (MOST, 2635249153387078802), (MOST, MOST - 1):
+    for count, r in (0, 0), (5, 4), (5, 5), (6, 5), (100, 9), (100, 11), (MOST, 2049638230412172401), (MOST, MOST - 1):
         text(TABLE, count, ROOM, r)
     for n, r in (7, 5), (7, 6), (0, 1):
         text(TABLE, 11, ROOM[:n], r)
-    for n, r in (70, 9), (69, 9), (0, 0):
+    for n, r in (90, 9), (89, 9), (0, 0):
         text(TABLE[:n], 11, ROOM, r)
-    for at, values in (21, (0, 3, 4, 7, 8, 11, GREAT)), (22, (GREAT,)), (23, (0,)), (24, (0, 4, 5, GREAT)), (25, (2, 1, 11, 12, GREAT)), (26, (GREAT,)), (27, (GREAT,)):
+    for at, values in (27, (0, 3, 4, 7, 8, 11, GREAT)), (28, (GREAT,)), (29, (0,)), (30, (0, 4, 5, GREAT)), (31, (2, 1, 11, 12, GREAT)), (32, (GREAT,)), (33, (GREAT,)), (34, (GREAT,)), (35, (GREAT,)):
         for value in values:
             t, mark = with_word(at, value)
             text(t, 11, ROOM, 3, mark)
@@ -105,15 +106,15 @@ def finds():
     find(TABLE, 11, ROOM, 8, b'ab')
     for r in list(range(1, 13)) + [MOST]:
         find(TABLE, 11, ROOM, r, b'a')
-    for at, value, key in ((25, 3, b'b'), (24, 10, b'a'), (34, 0, b'a'), (34, 0, b'bc'), (20, 1, b'ab'), (20, 2, b'ab'), (20, 0, b'ab'),
-                           (34, 3, b'ab'), (34, 4, b'ab'), (34, 5, b'ab'), (34, 11, b'ab'), (34, 12, b'ab'), (6, 0, b'a'), (6, 1, b'a'),
+    for at, value, key in ((31, 3, b'b'), (30, 10, b'a'), (42, 0, b'a'), (42, 0, b'bc'), (24, 1, b'ab'), (24, 2, b'ab'), (24, 0, b'ab'),
+                           (42, 3, b'ab'), (42, 4, b'ab'), (42, 5, b'ab'), (42, 11, b'ab'), (42, 12, b'ab'), (6, 0, b'a'), (6, 1, b'a'),
                            (6, 2, b'a'), (6, 4, b'ab'), (6, 12, b'ab'), (6, 12, b'no')):
         t, mark = with_word(at, value)
         find(t, 11, ROOM, 0, key, mark)
 
 
 def cuts():
-    for n in range(78):
+    for n in range(100):
         find(TABLE[:n], 11, ROOM, 0, b'ab', f'words {n} ')
     for count in range(13):
         find(TABLE, count, ROOM, 0, b'ab')
@@ -125,7 +126,7 @@ def cuts():
 
 
 def damages():
-    for at in range(77):
+    for at in range(99):
         for value in 0, TABLE[at] + 1, GREAT:
             t, mark = with_word(at, value)
             find(t, 11, ROOM, 0, b'ab', mark)

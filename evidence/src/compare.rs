@@ -5,6 +5,7 @@
 mod asked;
 pub mod faults;
 pub mod forms;
+pub mod places;
 pub mod run;
 pub mod stream;
 
@@ -82,7 +83,7 @@ impl Questions for SecondQuestions {
     }
 }
 
-/// How often each answer number, each kind of row and each form of backslash was met.
+/// How often each answer number, each kind and place of a row and each form of backslash was met.
 #[derive(Default, Clone)]
 pub struct Tally {
     pub documents: usize,
@@ -94,6 +95,8 @@ pub struct Tally {
     pub kinds: [usize; 11],
     /// Backslashes of accepted documents, as forms::NAMES has them.
     pub forms: [usize; forms::NAMES.len()],
+    /// Rows of accepted documents by their place, as places::NAMES has them.
+    pub places: [usize; places::NAMES.len()],
 }
 
 impl Tally {
@@ -103,6 +106,7 @@ impl Tally {
         self.numbers.iter_mut().zip(other.numbers).for_each(|(sum, more)| *sum += more);
         self.kinds.iter_mut().zip(other.kinds).for_each(|(sum, more)| *sum += more);
         self.forms.iter_mut().zip(other.forms).for_each(|(sum, more)| *sum += more);
+        self.places.iter_mut().zip(other.places).for_each(|(sum, more)| *sum += more);
     }
 }
 
@@ -159,6 +163,7 @@ impl Comparer {
         for row in words.chunks_exact(WORDS) {
             self.tally.kinds[row[0] as usize] += 1;
             forms::count(doc, row, &mut self.tally.forms);
+            places::count(doc, row, &mut self.tally.places);
         }
         asked::difference(reader.questions()?, words, text, &mut rng, &mut self.tally)
     }

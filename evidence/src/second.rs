@@ -10,6 +10,7 @@ mod items;
 mod keys;
 mod lines;
 mod numbers;
+mod places;
 pub mod questions;
 mod quoted;
 mod scan;
@@ -26,7 +27,7 @@ pub const LONGEST: usize = 32_768;
 /// The most containers one inside another.
 pub const NESTING: usize = 32;
 /// Words of a row.
-pub const WORDS: usize = 7;
+pub const WORDS: usize = 9;
 
 pub const LONG: u32 = 1;
 pub const CHAR: u32 = 2;
@@ -159,10 +160,11 @@ impl Second {
         let answer = pass.document();
         (self.tree, self.frames, self.body) = (pass.tree, pass.frames, pass.body);
         answer.map_err(|stop| refusal(doc, stop))?;
-        match self.tree.repeat {
-            Some(place) => Err(Refusal { number: REPEAT, place }),
-            None => Ok((self.tree.rows.as_flattened(), self.tree.text.all(), self.tree.escapes)),
+        if let Some(place) = self.tree.repeat {
+            return Err(Refusal { number: REPEAT, place });
         }
+        places::tell(doc, &mut self.tree.rows);
+        Ok((self.tree.rows.as_flattened(), self.tree.text.all(), self.tree.escapes))
     }
 
     /// The answer of `read`: fills the lent rooms or leaves both unchanged.

@@ -34,7 +34,8 @@ pub fn meant(answer: &str) -> Option<Meant> {
         ["ok", rows, bytes, escapes, list, text] => {
             let words = list.split(',').map(|word| word.parse().ok()).collect::<Option<Vec<u32>>>()?;
             let (text, escapes) = (hex::parse(text)?, escapes.parse().ok()?);
-            let counted = rows.parse() == Ok(words.len() / WORDS) && bytes.parse() == Ok(text.len());
+            let counted =
+                rows.parse().is_ok_and(|rows: usize| words.len() == rows * WORDS) && bytes.parse() == Ok(text.len());
             counted.then_some(Ok(Given { words, text, escapes }))
         }
         _ => None,

@@ -2,7 +2,7 @@
 
 use evidence::documents::borders::borders;
 use evidence::second::questions::{compare_integers, Lent, BADROW, NONE, NOTINT};
-use evidence::second::Second;
+use evidence::second::{Second, WORDS};
 use evidence::slow;
 
 #[test]
@@ -23,7 +23,7 @@ fn places_and_escapes_of_borders() {
 
 #[test]
 fn questions() {
-    let (mut table, mut room) = ([0; 49], [0; 9]);
+    let (mut table, mut room) = ([0; 7 * WORDS], [0; 9]);
     let counts = Second::new().read(b"a: 1\nb: {c: -20}\n", &mut table, &mut room).unwrap();
     let lent = Lent { table: &table, rows: counts.rows, text: &room };
     assert_eq!(lent.find_key(0, b"b"), Ok(4));

@@ -1,7 +1,7 @@
 //! How many escapes a document has: by the second reader, the slow checker of places, and the spans of the rows.
 
 use evidence::compare::forms;
-use evidence::second::{Counts, Refusal, Second, REPEAT, ROWS, TEXT};
+use evidence::second::{Counts, Refusal, Second, REPEAT, ROWS, TEXT, WORDS};
 use evidence::slow;
 
 /// The count on which all three agree.
@@ -58,10 +58,10 @@ fn none_outside_quotes() {
 
 #[test]
 fn refusals_tell_none() {
-    let (doc, mut table, mut room) = (b"[\"\\n\", '\\'']\n", [0; 21], [0; 2]);
+    let (doc, mut table, mut room) = (b"[\"\\n\", '\\'']\n", [0; 3 * WORDS], [0; 2]);
     let mut second = Second::new();
     assert_eq!(second.read(doc, &mut table, &mut room), Ok(Counts { rows: 3, text: 2, escapes: 2 }));
-    assert_eq!(second.read(doc, &mut table[..20], &mut room), Err(Refusal { number: ROWS, place: 3 }));
+    assert_eq!(second.read(doc, &mut table[..3 * WORDS - 1], &mut room), Err(Refusal { number: ROWS, place: 3 }));
     assert_eq!(second.read(doc, &mut table, &mut room[..1]), Err(Refusal { number: TEXT, place: 2 }));
     let repeated = second.given(b"\"\\n\": 1\n\"\\u{a}\": 2\n");
     assert_eq!(repeated, Err(Refusal { number: REPEAT, place: 8 }));

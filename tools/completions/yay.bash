@@ -8,6 +8,7 @@ _yay() {
         *,help,*) words='check show rows get json compare batch' ;;
         *,json,--numbers,* | *,get,--numbers,*) words='json text exact' ;;
         *,check,*,-*) words='-q --quiet -h --help' ;;
+        *,show,*,-*) words='-p --places -h --help' ;;
         *,get,*,-*) words='-r --raw -j --json -c --compact --numbers= -d --default= -h --help' ;;
         *,json,*,-*) words='-c --compact --numbers= -h --help' ;;
         *,-*) words='-h --help' ;;

@@ -7,9 +7,13 @@ use native.Mathlib.Omega.{arith}
 use lib.ListN.{length, drop}
 use lib.Seq.{sets, sets-eq}
 use Rattle.rooms.specs.Forest.{length-rows}
-use Rattle.language.specs.Tree.{Tree, width, size, textOf, escapesOf, rowsOf, Repeats}
+use Rattle.language.specs.Tree.{unlined, Tree, width, size, textOf, escapesOf, rowsOf, Repeats}
 use Rattle.language.specs.Document.{Document}
 use Rattle.language.specs.Answered.{limit, deepest, REPEAT, ROWS, TEXT, Reads, Answered, accepted, repeated, rows, bytes, Totals, total}
+use Rattle.language.specs.Lines.{linesOf}
+use Rattle.lined.specs.Lined.{Ranked, lined}
+use Rattle.lined.specs.Rows.{lined-rows}
+use Rattle.lined.specs.Ranking.{ranked-rows}
 use Rattle.repeats.specs.declared.Repeat.{Repeat}
 use Rattle.repeats.specs.declared.Repeat.the-variants.{At, Nowhere}
 use Rattle.repeats.specs.Later.{Names, LeastOf}
@@ -51,12 +55,23 @@ module _ {doc : List ℕ} {n m z : ℕ} {a : Repeat} (f : Counted doc n m z a) w
         (bytes (f .tree) (reads e) (omega (arith, f .row)) (omega (arith, f .text-count)))
 
     -- both stored in the rooms lent
-    pub counted-all : a ≡ Nowhere → width * n ≤ length table → m ≤ length text → (table′ text′ : List ℕ) → table′ ≡ sets table 0 (rowsOf 0 0 0 (f .tree))
-        → text′ ≡ sets text 0 (textOf (f .tree)) → Answered doc table text 0 n m table′ text′
-    counted-all e l k table′ text′ x y =
-        let t = f .tree in
-        let j = length-rows 0 0 0 t in
-        let p : table′ ≡ rowsOf 0 0 0 t ++ drop (width * size t) table =
-        x ∙ (stored table (rowsOf 0 0 0 t) (omega (arith, f .row)) ∙ ap (λ (i : ℕ). rowsOf 0 0 0 t ++ drop i table) j) in
-        let q : text′ ≡ textOf t ++ drop (length (textOf t)) text = y ∙ stored text (textOf t) (omega (arith, f .text-count)) in
-        rw (p, q, f .row, f .text-count) (accepted t (reads e) (omega (arith, f .row)) (omega (arith, f .text-count)))
+    module _ (l : width * n ≤ length table) (table′ : List ℕ) (x : table′ ≡ sets table 0 (rowsOf unlined 0 0 0 (f .tree))) where
+      rows-stored : table′ ≡ rowsOf unlined 0 0 0 (f .tree) ++ drop (width * size (f .tree)) table
+      rows-stored =
+          let T = rowsOf unlined 0 0 0 (f .tree) in
+          let j = length-rows unlined 0 0 0 (f .tree) in
+          x ∙ (stored table T (omega (arith, f .row)) ∙ ap (λ (i : ℕ). T ++ drop i table) j)
+
+      -- their lines and columns may be told
+      pub counted-ranked : Ranked doc table′ n
+      counted-ranked = rw (rows-stored, f .row) (ranked-rows deepest doc (f .tree) (drop (width * size (f .tree)) table) (f .word) (f .short))
+
+      -- .. and are
+      pub counted-all : a ≡ Nowhere → m ≤ length text → (table″ text′ : List ℕ) → table″ ≡ lined (linesOf doc) n table′ → text′ ≡ sets text 0 (textOf (f .tree))
+          → Answered doc table text 0 n m table″ text′
+      counted-all e k table″ text′ w y =
+          let t = f .tree in
+          let p : table″ ≡ rowsOf (linesOf doc) 0 0 0 t ++ drop (width * size t) table =
+          w ∙ rw (rows-stored, f .row) (lined-rows (linesOf doc) t (drop (width * size t) table)) in
+          let q : text′ ≡ textOf t ++ drop (length (textOf t)) text = y ∙ stored text (textOf t) (omega (arith, f .text-count)) in
+          rw (p, q, f .row, f .text-count) (accepted t (reads e) (omega (arith, f .row)) (omega (arith, f .text-count)))

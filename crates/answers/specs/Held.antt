@@ -7,7 +7,7 @@ use native.Mathlib.Omega.{arith}
 use lib.ListN.{length, take, getD, set}
 use lib.Seq.{sets, slice, slice-cons, slice-empty, take-at}
 use Rattle.rooms.specs.Forest.{length-rows}
-use Rattle.language.specs.Tree.{Tree, width, size, textOf, escapesOf, rowsOf}
+use Rattle.language.specs.Tree.{unlined, Tree, width, size, textOf, escapesOf, rowsOf}
 use Rattle.language.specs.Document.{Document}
 use Rattle.language.specs.Answered.{limit, deepest, REPEAT, ROWS, TEXT, Answered, Totals, untold}
 use Rattle.spans.specs.Document.{few-rows, document-sound}
@@ -17,7 +17,9 @@ use Rattle.repeats.specs.Listed.{Stands}
 use Rattle.repeats.specs.Chains.{Table, most-rows}
 use Rattle.repeats.specs.Twice.{FirstRepeat}
 use Rattle.repeats.specs.Told.{tree-table, told}
-use Rattle.answers.specs.Counted.{Counted, counted-repeat, counted-rows, counted-bytes, counted-all, counted-total}
+use Rattle.language.specs.Lines.{linesOf}
+use Rattle.lined.specs.Lined.{Ranked, lined}
+use Rattle.answers.specs.Counted.{Counted, counted-repeat, counted-rows, counted-bytes, counted-ranked, counted-all, counted-total}
 
 -- a turn of the loop that copies words, and its end
 module _ (goal l w : List ℕ) (i n : ℕ) (inv : goal ≡ sets l i (slice i n w)) where
@@ -39,14 +41,14 @@ pub record Held (doc R T : List ℕ) (n m z : ℕ) : Type 0 where
   pub linked : n ≤ most-rows
   pub fits : m ≤ length T
   pub small : n + m ≤ 2 * limit
-  pub table-is : Stands R 0 (rowsOf 0 0 0 tree)
+  pub table-is : Stands R 0 (rowsOf unlined 0 0 0 tree)
   pub text-is : Stands T 0 (textOf tree)
 
 module _ {doc R T : List ℕ} {n m z : ℕ} (f : Held doc R T n m z) where
-  pub table-held : slice 0 (width * n) R ≡ rowsOf 0 0 0 (f .tree)
+  pub table-held : slice 0 (width * n) R ≡ rowsOf unlined 0 0 0 (f .tree)
   table-held =
-      let j = length-rows 0 0 0 (f .tree) in
-      ap (take (width * n)) (f .table-is .is) ∙ take-at (rowsOf 0 0 0 (f .tree)) (f .table-is .rest) (width * n) (omega (arith, f .row))
+      let j = length-rows unlined 0 0 0 (f .tree) in
+      ap (take (width * n)) (f .table-is .is) ∙ take-at (rowsOf unlined 0 0 0 (f .tree)) (f .table-is .rest) (width * n) (omega (arith, f .row))
 
   pub text-held : slice 0 m T ≡ textOf (f .tree)
   text-held = ap (take m) (f .text-is .is) ∙ take-at (textOf (f .tree)) (f .text-is .rest) m (omega (arith, f .text-count))
@@ -86,10 +88,15 @@ module _ (doc R T : List ℕ) (n m z : ℕ) (f : Held doc R T n m z) (a : Repeat
     pub answer-bytes : a ≡ Nowhere → width * n ≤ length table → length text < m → Answered doc table text TEXT m 0 table text
     answer-bytes = counted-bytes counted table text
 
-    pub answer-all : a ≡ Nowhere → width * n ≤ length table → m ≤ length text → (table' text' : List ℕ) → table' ≡ sets table 0 (slice 0 (width * n) R)
-        → text' ≡ sets text 0 (slice 0 m T) → Answered doc table text 0 n m table' text'
-    unfolding counted
-    answer-all e l k table' text' x y = counted-all counted table text e l k table' text' (x ∙ ap (sets table 0) (table-held f)) (y ∙ ap (sets text 0) (text-held f))
+    module _ (l : width * n ≤ length table) (table' : List ℕ) (x : table' ≡ sets table 0 (slice 0 (width * n) R)) where
+      pub answer-ranked : Ranked doc table' n
+      unfolding counted
+      answer-ranked = counted-ranked counted table text l table' (x ∙ ap (sets table 0) (table-held f))
+
+      pub answer-all : a ≡ Nowhere → m ≤ length text → (table'' text' : List ℕ) → table'' ≡ lined (linesOf doc) n table' → text' ≡ sets text 0 (slice 0 m T)
+          → Answered doc table text 0 n m table'' text'
+      unfolding counted
+      answer-all e k table'' text' w y = counted-all counted table text l table' (x ∙ ap (sets table 0) (table-held f)) e k table'' text' w (y ∙ ap (sets text 0) (text-held f))
 
 -- a refusal has no escapes
 pub no-total : (doc : List ℕ) (n : ℕ) → 0 < n → Totals doc n 0

@@ -1,4 +1,4 @@
-// The answer for a document whose rows and text are known: REPEAT, ROWS and TEXT in this order, or both copied into the rooms lent.
+// The answer for a document whose rows and text are known: REPEAT, ROWS and TEXT in this order, or both copied into the rooms lent, and the rows' lines and columns told.
 ghost use mathlib.Core.Path.{_≡_};
 ghost use Prim.Native.Nat.{_≤_};
 ghost use lib.ListN.{length};
@@ -9,6 +9,7 @@ use language::Answer;
 use language::Place;
 use language::Row;
 use language::WIDTH;
+use lined::line_up;
 use repeats::Repeat;
 use repeats::first_repeat;
 use rooms::copy;
@@ -54,5 +55,6 @@ pub fn answer(
     }
     copy_words(&*rows, WIDTH * n, table);
     copy(&*bytes, 0, m, text, 0);
+    line_up(&*doc, table, n);
     Answer::Accepted(Row(n), m, escapes)
 }

@@ -5,7 +5,7 @@ use super::show::say;
 use super::table::MOST;
 use super::table::ROWS;
 
-pub fn all(t: &[u32; 77]) {
+pub fn all(t: &[u32; 99]) {
     tables(t);
     counts(t);
     count(t, MOST, 0);
@@ -15,7 +15,7 @@ pub fn all(t: &[u32; 77]) {
 }
 
 fn tables(t: &[u32]) {
-    for n in 0..78 {
+    for n in 0..100 {
         words(t, n);
     }
 }

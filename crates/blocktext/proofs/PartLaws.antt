@@ -13,7 +13,7 @@ use Rattle.exact.specs.Out.{Out, Reader, Tame, soft, bad}
 use Rattle.exact.specs.Lang.{byteR}
 use Rattle.exact.specs.Block.{manyG}
 use Rattle.exact.specs.Place.{peek, peek-in}
-use Rattle.language.specs.Tree.{Tree, Decoded, _then_, width, rowList}
+use Rattle.language.specs.Tree.{unlined, Tree, Decoded, _then_, width, rowList}
 use Rattle.language.specs.BlockText.{Part, part, partText, partEnd}
 use Rattle.characters.specs.declared.Skip.{Skip}
 use Rattle.characters.specs.declared.Skip.the-variants.{End}
@@ -189,7 +189,7 @@ module _ (g : List ℕ → Bool) (w : List ℕ → ℕ) (r : Reader Part) (doc :
 -- ---- the row of a leaf
 pub rowed : (c : Cursor) (parent kind at x far e y z : ℕ) (w : Words) (R R' : List ℕ) → y ≡ spot (c .text) → z ≡ spot x
     → w ≡ record { kind = kind; first = c .at; after = e; from = y; to = z; parent = parent; next = c .row + 1 }
-    → R' ≡ sets R (width * c .row) (rowList (w .kind) (w .first) (w .after) (w .from) (w .to) (w .parent) (w .next))
+    → R' ≡ sets R (width * c .row) (rowList unlined (w .kind) (w .first) (w .after) (w .from) (w .to) (w .parent) (w .next))
     → Rowed c parent kind at x far e (Done (record { at = at; row = c .row + 1; text = x }) far e) R R'
 rowed c parent kind at x far e y z w R R' a b h r = record { is = refl; table = rw (h, a, b) at r }
 

@@ -11,7 +11,7 @@ use borrow.Author.Tests.{lt-leb}
 use Rattle.exact.specs.Out.{Out, fmap, ok, soft, bad}
 use Rattle.exact.specs.Lines.{soft-reached}
 use Rattle.language.specs.Kind.{TRUE}
-use Rattle.language.specs.Tree.{Decoded, _then_, Tree, leaf, after, width, size, textOf, escapesOf, rowsOf, rowList}
+use Rattle.language.specs.Tree.{unlined, Decoded, _then_, Tree, leaf, after, width, size, textOf, escapesOf, rowsOf, rowList}
 use Rattle.language.specs.Answered.{limit}
 use Rattle.rooms.specs.Told.{ESCAPE, spot, tally, told, spot-on, tally-on}
 use Rattle.rooms.specs.declared.Cursor.{Cursor}
@@ -32,7 +32,7 @@ pub record Begun (doc : List ℕ) (c : Cursor) (e x col : ℕ) : Type 0 where
 -- the row of a leaf from c up to `at`, whose span ends at e and whose text, with its escapes, ends at x
 pub record Rowed (c : Cursor) (parent kind at x far e : ℕ) (r : Block) (rows rows' : List ℕ) : Type 0 where
   pub is : r ≡ Done (record { at = at; row = c .row + 1; text = x }) far e
-  pub table : rows' ≡ sets rows (width * c .row) (rowList kind (c .at) e (spot (c .text)) (spot x) parent (c .row + 1))
+  pub table : rows' ≡ sets rows (width * c .row) (rowList unlined kind (c .at) e (spot (c .text)) (spot x) parent (c .row + 1))
 
 -- PROMISED of further lines, which o reads from `from` on: where they end, the text that they add from x on, and the leaf's row
 pub record Further {X : Type 0} (doc : List ℕ) (c : Cursor) (parent kind : ℕ) (o : Out X) (ends : X → ℕ) (bytes : X → Decoded) (from x : ℕ) (r : Block)

@@ -5,7 +5,7 @@ use mathlib.Core.List.{List}
 use Prim.Native.Nat.{ℕ, _*_, _≤_}
 use native.Mathlib.Omega.{arith}
 use lib.ListN.{length}
-use Rattle.language.specs.Tree.{Tree, width, size, textOf, rowsOf, Repeats}
+use Rattle.language.specs.Tree.{Positions, Tree, width, size, textOf, rowsOf, Repeats}
 use Rattle.rooms.specs.Forest.{length-rows}
 use Rattle.questions.specs.declared.Found.{Found}
 use Rattle.questions.specs.declared.Found.the-variants.{At, Missing, BadRow}
@@ -22,15 +22,16 @@ use Rattle.found.specs.Walks.{finds}
 -- the table holds the n rows of the tree t, and the room its text
 pub record Filled (t : Tree) (n : ℕ) (table room : List ℕ) : Type 0 where
   pub count : n ≡ size t
-  pub rows : Stands table 0 (rowsOf 0 0 0 t)
+  pub lines : Positions
+  pub rows : Stands table 0 (rowsOf lines 0 0 0 t)
   pub text : Stands room 0 (textOf t)
 
 module _ {t : Tree} {n : ℕ} {table room : List ℕ} (h : Filled t n table room) where
   pub enough : width * n ≤ length table
-  enough = omega (arith, stands-fits (h .rows), length-rows 0 0 0 t, h .count)
+  enough = omega (arith, stands-fits (h .rows), length-rows (h .lines) 0 0 0 t, h .count)
 
   pub placed : Placed table room n 0 t
-  placed = record { parent = 0; from = 0; rows = h .rows; text = h .text; last = omega (arith, h .count) }
+  placed = record { parent = 0; from = 0; lines = h .lines; rows = h .rows; text = h .text; last = omega (arith, h .count) }
 
   -- FINDING is looking for the key in the pairs
   pub find-looks : {r : ℕ} {s : List ℕ} {fs : List Pair} {reply : Reply} → ObjectAt t r fs → Looks s fs reply → Finds table n room s r reply

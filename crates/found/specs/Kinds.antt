@@ -65,7 +65,7 @@ module _ {t : Tree} {n : ℕ} {table room : List ℕ} (h : Filled t n table room
   kind-word : (r : ℕ) (u : Tree) → Placed table room n r u → word table r 0 ≡ kindOf u
   kind-word r (leaf k a e s) p = leaf-word table room n r k a e s p 0 (omega arith) ∙ by (leb k TRUE)
     where
-      by : (y : Bool) → getD (pick y (rowList k a e 0 0 (p .parent) (r + 1)) (rowList k a e (p .from) (p .from + length (s .bytes)) (p .parent) (r + 1))) 0 0 ≡ k
+      by : (y : Bool) → getD (pick y (rowList (p .lines) k a e 0 0 (p .parent) (r + 1)) (rowList (p .lines) k a e (p .from) (p .from + length (s .bytes)) (p .parent) (r + 1))) 0 0 ≡ k
       by true = refl
       by false = refl
   kind-word r (node k a e c ts) p = node-word table room n r k a e c ts p 0 (omega arith)

@@ -1,4 +1,4 @@
--- What the theorems say: Objects, Once, Find, Kinds, Spans, Read (find-exactly, spans-in-table, rise-in-table). The rest serves the proofs.
+-- What the theorems say: Objects, Once, Find, Kinds, Spans, Firsts, Read (find-exactly, spans-in-table, rise-in-table, back-in-table). The rest serves the proofs.
 pub mod Objects
 pub mod Stands
 pub mod Rows
@@ -9,4 +9,5 @@ pub mod Once
 pub mod Find
 pub mod Kinds
 pub mod Spans
+pub mod Firsts
 pub mod Read

@@ -1,14 +1,16 @@
 -- ON WHAT `read` FILLED: on the table of an accepted document `find` answers the value of the key in that object, exactly if the object has the key
--- (01, Questions), and the spans are in their place, the rows in the order of their first bytes (01, What the reader takes and gives). Assumes nothing.
-use mathlib.Core.Path.{_≡_, refl, sym, subst}
+-- (01, Questions), and the spans are in their place, the rows in the order of their first bytes (01, What the reader takes and gives), and line and
+-- column lead back to the first byte (02, Ticket 8). Assumes nothing.
+use mathlib.Core.Path.{_≡_, refl, sym, subst, _∙_}
 use mathlib.Core.List.{List}
 use mathlib.Core.Bool.{Bool, true, false}
 use mathlib.Core.Logic.{_↔_}
 use Prim.Native.Nat.{ℕ, _*_, _≤_, _<_}
 use native.Mathlib.Omega.{arith}
-use lib.ListN.{length, drop}
-use Rattle.language.specs.Tree.{Tree, width, size, textOf, rowsOf}
+use lib.ListN.{length, getD, drop}
+use Rattle.language.specs.Tree.{Positions, Tree, width, size, textOf, rowsOf}
 use Rattle.language.specs.Document.{Document}
+use Rattle.language.specs.Lines.{linesOf}
 use Rattle.language.specs.Answered.{deepest, Stops, char, syntax, deep, end, Reads, Answered, accepted, stopped}
 use Rattle.questions.specs.declared.Found.{Found}
 use Rattle.questions.specs.declared.Found.the-variants.{BadRow}
@@ -16,20 +18,25 @@ use Rattle.questions.specs.Walk.{foundReply, object, Finds, refused}
 use Rattle.questions.specs.Unique.{one-found}
 use Rattle.spans.specs.Document.{placed, sound, in-document}
 use Rattle.spans.specs.Placed.{itself}
-use Rattle.spans.specs.Rising.{document-rises}
+use Rattle.spans.specs.Rising.{firsts, firsts-within, document-rises}
+use Rattle.spans.specs.Begins.{begins-ascii}
+use Rattle.lined.specs.Back.{lines-back}
 use Rattle.found.specs.Objects.{RowOf, Pair, Holds, ObjectAt}
 use Rattle.found.specs.Stands.{stands-first}
 use Rattle.found.specs.Rooted.{value-row, one-object}
 use Rattle.found.specs.Once.{Once, once}
 use Rattle.found.specs.Find.{Filled, Answers, answers, find-value}
 use Rattle.found.specs.Kinds.{Object, objects}
-use Rattle.found.specs.Spans.{RowSpans, row-spans, firstByte, rows-rise}
+use Rattle.found.specs.Spans.{RowSpans, row-spans}
+use Rattle.lined.specs.Lined.{firstByte}
+use Rattle.found.specs.Firsts.{rowLine, rowColumn, From, row-from, rows-rise}
 
 -- the tree of a document that was read, and what its table and its room hold
 pub record Filling (doc : List ℕ) (n : ℕ) (table room : List ℕ) : Type 0 where
   pub tree : Tree
   pub reads : Reads doc tree
   pub filled : Filled tree n table room
+  pub lines-are : filled .lines ≡ linesOf doc
 
 -- a document that stops has a number
 refused-so : {doc : List ℕ} {n p : ℕ} → Stops doc n p → 0 < n
@@ -40,11 +47,12 @@ refused-so (end b z) = omega arith
 
 pub filling : {doc table text table′ text′ : List ℕ} {n m : ℕ} → Answered doc table text 0 n m table′ text′ → Filling doc n table′ text′
 filling (stopped n p l x) = let h = refused-so x in absurd (omega arith)
-filling {table = table} {text = text} (accepted t r l k) =
+filling {doc = doc} {table = table} {text = text} (accepted t r l k) =
     record {
       tree = t;
       reads = r;
-      filled = record { count = refl; rows = stands-first (rowsOf 0 0 0 t) (drop (width * size t) table); text = stands-first (textOf t) (drop (length (textOf t)) text) };
+      filled = record { count = refl; lines = linesOf doc; rows = stands-first (rowsOf (linesOf doc) 0 0 0 t) (drop (width * size t) table); text = stands-first (textOf t) (drop (length (textOf t)) text) };
+      lines-are = refl;
     }
 
 -- OF A TREE, A TABLE WITH ITS n ROWS AND A ROOM: what each answer f that `find` may give for the row r and the key s has to be
@@ -98,7 +106,7 @@ spans-in-table {doc} {table′ = table′} x =
     let z = filling x in
     let t = z .tree in
     let d = z .reads .word in
-    subst (λ (k : ℕ). RowSpans (length doc) k table′) (sym (z .filled .count)) (row-spans table′ (z .filled .rows) (placed deepest doc t d) (in-document deepest doc t d itself))
+    subst (λ (k : ℕ). RowSpans (length doc) k table′) (sym (z .filled .count)) (row-spans (z .filled .lines) table′ (z .filled .rows) (placed deepest doc t d) (in-document deepest doc t d itself))
 
 -- .. whose rows stand in the order of their first bytes
 pub rise-in-table : {doc table text table′ text′ : List ℕ} {n m : ℕ} → Answered doc table text 0 n m table′ text′ → (r q : ℕ) → r < q → q < n
@@ -106,4 +114,19 @@ pub rise-in-table : {doc table text table′ text′ : List ℕ} {n m : ℕ} →
 rise-in-table {doc} {table′ = table′} x r q l h =
     let z = filling x in
     let t = z .tree in
-    rows-rise table′ t (z .filled .rows) (document-rises deepest doc t (z .reads .word)) r q l (omega (arith, z .filled .count))
+    rows-rise (z .filled .lines) table′ t (z .filled .rows) (document-rises deepest doc t (z .reads .word)) r q l (omega (arith, z .filled .count))
+
+-- .. and begin where their line and their column say: two rows of equal line and column start at the same byte
+pub back-in-table : {doc table text table′ text′ : List ℕ} {n m : ℕ} → Answered doc table text 0 n m table′ text′ → (r q : ℕ) → r < n → q < n
+    → rowLine table′ r ≡ rowLine table′ q → rowColumn table′ r ≡ rowColumn table′ q → firstByte table′ r ≡ firstByte table′ q
+back-in-table {doc} {table′ = table′} {n = n} x r q l h e f =
+    let z = filling x in
+    let t = z .tree in
+    let ascii : (i : ℕ) → i < size t → getD doc (getD (firsts t) i 0) 128 < 128 = firsts-within (λ (p : ℕ). getD doc p 128 < 128) t (begins-ascii deepest doc t (z .reads .word)) in
+    let at : (i : ℕ) → i < n → From (linesOf doc) table′ i (getD (firsts t) i 0) =
+    λ i j. subst (λ (L : Positions). From L table′ i (getD (firsts t) i 0)) (z .lines-are) (row-from (z .filled .lines) table′ t (z .filled .rows) i (omega (arith, z .filled .count))) in
+    at r l .begins
+    ∙ (lines-back doc (getD (firsts t) r 0) (getD (firsts t) q 0) (ascii r (omega (arith, z .filled .count))) (ascii q (omega (arith, z .filled .count)))
+    (sym (at r l .line) ∙ (e ∙ at q h .line))
+    (sym (at r l .column) ∙ (f ∙ at q h .column))
+    ∙ sym (at q h .begins))

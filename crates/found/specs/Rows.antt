@@ -8,7 +8,7 @@ use lib.ListN.{length, getD}
 use lib.Dec.{leb}
 use Rattle.notation.specs.Class.{pick}
 use Rattle.language.specs.Kind.{TRUE}
-use Rattle.language.specs.Tree.{Decoded, Tree, leaf, node, Forest, more, width, size, sizes, textOf, textsOf, rowList, leafRow, rowsOf, rowss}
+use Rattle.language.specs.Tree.{Positions, Decoded, Tree, leaf, node, Forest, more, width, size, sizes, textOf, textsOf, rowList, leafRow, rowsOf, rowss}
 use Rattle.rooms.specs.Forest.{length-rows}
 use Rattle.questions.specs.Table.{word}
 use Rattle.found.specs.Objects.{RowOf, own, within, RowAmong, in-first, in-further}
@@ -19,7 +19,8 @@ module _ (table room : List ℕ) (n : ℕ) where
   pub record Placed (r : ℕ) (t : Tree) : Type 0 where
     pub parent : ℕ
     pub from : ℕ
-    pub rows : Stands table (width * r) (rowsOf r parent from t)
+    pub lines : Positions
+    pub rows : Stands table (width * r) (rowsOf lines r parent from t)
     pub text : Stands room from (textOf t)
     pub last : r + size t ≤ n
 
@@ -27,7 +28,8 @@ module _ (table room : List ℕ) (n : ℕ) where
   pub record PlacedAll (r : ℕ) (ts : Forest) : Type 0 where
     pub parent : ℕ
     pub from : ℕ
-    pub rows : Stands table (width * r) (rowss r parent from ts)
+    pub lines : Positions
+    pub rows : Stands table (width * r) (rowss lines r parent from ts)
     pub text : Stands room from (textsOf ts)
     pub last : r + sizes ts ≤ n
 
@@ -37,7 +39,8 @@ module _ (table room : List ℕ) (n : ℕ) where
       record {
         parent = r;
         from = p .from;
-        rows = stands-right (rowList k a e 0 c (p .parent) (r + 1 + sizes ts)) (rowss (r + 1) r (p .from) ts) (p .rows) (width * (r + 1)) (omega arith);
+        lines = p .lines;
+        rows = stands-right (rowList (p .lines) k a e 0 c (p .parent) (r + 1 + sizes ts)) (rowss (p .lines) (r + 1) r (p .from) ts) (p .rows) (width * (r + 1)) (omega arith);
         text = p .text;
         last = omega (arith, p .last);
       }
@@ -49,7 +52,8 @@ module _ (table room : List ℕ) (n : ℕ) where
         record {
           parent = p .parent;
           from = p .from;
-          rows = stands-left (rowsOf r (p .parent) (p .from) t) (rowss (r + size t) (p .parent) (p .from + length (textOf t)) ts) (p .rows);
+          lines = p .lines;
+          rows = stands-left (rowsOf (p .lines) r (p .parent) (p .from) t) (rowss (p .lines) (r + size t) (p .parent) (p .from + length (textOf t)) ts) (p .rows);
           text = stands-left (textOf t) (textsOf ts) (p .text);
           last = omega (arith, p .last);
         }
@@ -60,9 +64,10 @@ module _ (table room : List ℕ) (n : ℕ) where
         record {
           parent = p .parent;
           from = p .from + length (textOf t);
+          lines = p .lines;
           rows =
-              stands-right (rowsOf r (p .parent) (p .from) t) (rowss (r + size t) (p .parent) (p .from + length (textOf t)) ts) (p .rows) (width * (r + size t))
-              (omega (arith, length-rows r (p .parent) (p .from) t));
+              stands-right (rowsOf (p .lines) r (p .parent) (p .from) t) (rowss (p .lines) (r + size t) (p .parent) (p .from + length (textOf t)) ts) (p .rows) (width * (r + size t))
+              (omega (arith, length-rows (p .lines) r (p .parent) (p .from) t));
           text = stands-right (textOf t) (textsOf ts) (p .text) (p .from + length (textOf t)) refl;
           last = omega (arith, p .last);
         }
@@ -80,22 +85,22 @@ module _ (table room : List ℕ) (n : ℕ) where
   -- ---- the words of a row
 
   pub leaf-word : (r k a e : ℕ) (s : Decoded) (p : Placed r (leaf k a e s)) (j : ℕ) → j < width
-      → word table r j ≡ getD (leafRow r (p .parent) (p .from) k a e (s .bytes)) j 0
+      → word table r j ≡ getD (leafRow (p .lines) r (p .parent) (p .from) k a e (s .bytes)) j 0
   unfolding word rowsOf size
-  leaf-word r k a e s p j h = stands-word (p .rows) j (omega (arith, length-rows r (p .parent) (p .from) (leaf k a e s)))
+  leaf-word r k a e s p j h = stands-word (p .rows) j (omega (arith, length-rows (p .lines) r (p .parent) (p .from) (leaf k a e s)))
 
   pub node-word : (r k a e c : ℕ) (ts : Forest) (p : Placed r (node k a e c ts)) (j : ℕ) → j < width
-      → word table r j ≡ getD (rowList k a e 0 c (p .parent) (r + 1 + sizes ts)) j 0
+      → word table r j ≡ getD (rowList (p .lines) k a e 0 c (p .parent) (r + 1 + sizes ts)) j 0
   unfolding word rowsOf
   node-word r k a e c ts p j h =
-      stands-word (stands-left (rowList k a e 0 c (p .parent) (r + 1 + sizes ts)) (rowss (r + 1) r (p .from) ts) (p .rows)) j (omega arith)
+      stands-word (stands-left (rowList (p .lines) k a e 0 c (p .parent) (r + 1 + sizes ts)) (rowss (p .lines) (r + 1) r (p .from) ts) (p .rows)) j (omega arith)
 
   -- "row after the last descendant"
   pub next-word : (r : ℕ) (t : Tree) → Placed r t → word table r 6 ≡ r + size t
   unfolding size
   next-word r (leaf k a e s) p = leaf-word r k a e s p 6 (omega arith) ∙ by (leb k TRUE)
     where
-      by : (y : Bool) → getD (pick y (rowList k a e 0 0 (p .parent) (r + 1)) (rowList k a e (p .from) (p .from + length (s .bytes)) (p .parent) (r + 1))) 6 0 ≡ r + 1
+      by : (y : Bool) → getD (pick y (rowList (p .lines) k a e 0 0 (p .parent) (r + 1)) (rowList (p .lines) k a e (p .from) (p .from + length (s .bytes)) (p .parent) (r + 1))) 6 0 ≡ r + 1
       by true = refl
       by false = refl
   next-word r (node k a e c ts) p = node-word r k a e c ts p 6 (omega arith) ∙ omega arith

@@ -1,27 +1,22 @@
--- SPANS IN THE WORDS OF A TABLE that holds the rows of a tree: each child's inside its parent's, siblings' disjoint and in order, all inside the document,
--- and the rows in the order of their first bytes (01, What the reader takes and gives). Assumes nothing.
-use mathlib.Core.Path.{_≡_, sym, ap, subst, _∙_}
-use mathlib.Core.List.{List, _++_}
+-- SPANS IN THE WORDS OF A TABLE that holds the rows of a tree: each child's inside its parent's, siblings' disjoint and in order, all inside the document (01, What the reader takes and gives). Assumes nothing.
+use mathlib.Core.Path.{_≡_, sym, ap, subst}
+use mathlib.Core.List.{List}
 use mathlib.Core.Bool.{Bool, true, false}
-use Prim.Native.Nat.{ℕ, zero, suc, _+_, _*_, _-_, _≤_, _<_}
+use Prim.Native.Nat.{ℕ, suc, _+_, _*_, _≤_, _<_}
 use native.Mathlib.Omega.{arith}
 use native.Mathlib.Decide.{decLe}
-use lib.ListN.{length, getD, List·getD-append}
-use lib.Seq.{getD-append-add}
+use lib.ListN.{length}
 use lib.Dec.{leb}
 use Rattle.notation.specs.Class.{pick}
 use Rattle.language.specs.Kind.{TRUE}
-use Rattle.language.specs.Tree.{Tree, leaf, node, Forest, none, more, first, after, width, size, sizes, textOf, rowList, leafRow, rowsOf, rowss}
+use Rattle.language.specs.Tree.{Positions, Tree, leaf, node, Forest, none, more, first, after, width, size, sizes, textOf, rowList, leafRow, rowsOf, rowss}
 use Rattle.rooms.specs.Forest.{length-rows}
 use Rattle.spans.specs.Placed.{Placed, Along, placed-leaf, placed-node, along-none, along-more, along-le, span-some}
-use Rattle.spans.specs.Rising.{firsts, firstsIn, Rising, length-firsts, rising-order}
 use Rattle.questions.specs.Table.{word}
+use Rattle.lined.specs.Lined.{firstByte}
 use Rattle.found.specs.Stands.{Stands, stands-left, stands-right, stands-word}
 
--- "first byte of the span; byte after it; .. parent row"
-abbrev pub firstByte : List ℕ → ℕ → ℕ
-firstByte table r = word table r 1
-
+-- "byte after it; .. parent row"
 abbrev pub byteAfter : List ℕ → ℕ → ℕ
 byteAfter table r = word table r 2
 
@@ -39,7 +34,15 @@ pub record RowSpans (bytes n : ℕ) (table : List ℕ) : Type 0 where
   -- no span is empty, and all lie inside the document
   pub in-document : (r : ℕ) → r < n → (firstByte table r < byteAfter table r) × (byteAfter table r ≤ bytes)
 
-module _ (table : List ℕ) where
+-- one of two ranges of rows
+pub either : {C : Type 0} (m n : ℕ) → (m ≤ n → C) → (n < m → C) → C
+either {C} m n f g = by (decLe m n)
+  where
+    by : Dec (m ≤ n) → C
+    by (yes x) = f x
+    by (no x) = g (omega arith)
+
+module _ (L : Positions) (table : List ℕ) where
   -- the row b of a tree with the span from a to e, whose parent is p
   record Own (b p a e : ℕ) : Type 0 where
     begins : firstByte table b ≡ a
@@ -61,14 +64,14 @@ module _ (table : List ℕ) where
     lies : (r : ℕ) → b ≤ r → r < b + n → Lies p a e r
     order : (r q : ℕ) → b ≤ r → r < q → q < b + n → parentRow table r ≡ parentRow table q → byteAfter table r ≤ firstByte table q
 
-  list-own : (b p k a e u v n : ℕ) → Stands table (width * b) (rowList k a e u v p n) → Own b p a e
+  list-own : (b p k a e u v n : ℕ) → Stands table (width * b) (rowList L k a e u v p n) → Own b p a e
   unfolding word
   list-own b p k a e u v n h = record { begins = stands-word h 1 (omega arith); ends = stands-word h 2 (omega arith); parent = stands-word h 5 (omega arith) }
 
-  leaf-own : (b p x k a e : ℕ) (s : List ℕ) → Stands table (width * b) (leafRow b p x k a e s) → Own b p a e
+  leaf-own : (b p x k a e : ℕ) (s : List ℕ) → Stands table (width * b) (leafRow L b p x k a e s) → Own b p a e
   leaf-own b p x k a e s h = by (leb k TRUE) h
     where
-      by : (y : Bool) → Stands table (width * b) (pick y (rowList k a e 0 0 p (b + 1)) (rowList k a e x (x + length s) p (b + 1))) → Own b p a e
+      by : (y : Bool) → Stands table (width * b) (pick y (rowList L k a e 0 0 p (b + 1)) (rowList L k a e x (x + length s) p (b + 1))) → Own b p a e
       by true z = list-own b p k a e 0 0 (b + 1) z
       by false z = list-own b p k a e x (x + length s) (b + 1) z
 
@@ -99,13 +102,6 @@ module _ (table : List ℕ) where
         low = omega (arith, x .low);
         high = omega (arith, x .high);
       }
-
-  either : {C : Type 0} (m n : ℕ) → (m ≤ n → C) → (n < m → C) → C
-  either {C} m n f g = by (decLe m n)
-    where
-      by : Dec (m ≤ n) → C
-      by (yes x) = f x
-      by (no x) = g (omega arith)
 
   -- a leaf; a container and what is below it; no tree; a tree and those behind it
   leaf-rows : {b p a e : ℕ} → Own b p a e → p < b → a < e → firstByte table p ≤ a → e ≤ byteAfter table p → Rows p b 1 a e
@@ -151,29 +147,29 @@ module _ (table : List ℕ) where
   mutual
     unfolding size rowsOf
 
-    tree-rows : (x : ℕ) {b p : ℕ} {t : Tree} → p < b → Stands table (width * b) (rowsOf b p x t) → Placed t → firstByte table p ≤ first t → after t ≤ byteAfter table p
+    tree-rows : (x : ℕ) {b p : ℕ} {t : Tree} → p < b → Stands table (width * b) (rowsOf L b p x t) → Placed t → firstByte table p ≤ first t → after t ≤ byteAfter table p
         → Rows p b (size t) (first t) (after t)
     tree-rows x {b} {p} l h (placed-leaf {k} {a} {e} {s} i) y z = leaf-rows (leaf-own b p x k a e (s .bytes) h) l i y z
     tree-rows x {b} {p} l h (placed-node {k} {a} {e} {c} {ts} i m) y z =
-        let w = rowList k a e 0 c p (b + 1 + sizes ts) in
-        let v = rowss (b + 1) b x ts in
+        let w = rowList L k a e 0 c p (b + 1 + sizes ts) in
+        let v = rowss L (b + 1) b x ts in
         let o = list-own b p k a e 0 c (b + 1 + sizes ts) (stands-left w v h) in
         node-rows o l i y z (forest-rows x (omega arith) (stands-right w v h (width * (b + 1)) (omega arith)) m (omega (arith, o .begins)) (omega (arith, o .ends)))
 
-    forest-rows : (x : ℕ) {b p a e : ℕ} {ts : Forest} → p < b → Stands table (width * b) (rowss b p x ts) → Along a ts e → firstByte table p ≤ a → e ≤ byteAfter table p
+    forest-rows : (x : ℕ) {b p a e : ℕ} {ts : Forest} → p < b → Stands table (width * b) (rowss L b p x ts) → Along a ts e → firstByte table p ≤ a → e ≤ byteAfter table p
         → Rows p b (sizes ts) a e
     forest-rows x l h (along-none i) y z = no-rows
     forest-rows x {b} {p} l h (along-more {t = t} {ts = ts} i m n) y z =
-        let u = rowsOf b p x t in
-        let v = rowss (b + size t) p (x + length (textOf t)) ts in
+        let u = rowsOf L b p x t in
+        let v = rowss L (b + size t) p (x + length (textOf t)) ts in
         let g = along-le n in
         let s = span-some m in
         more-rows i s g
         (tree-rows x l (stands-left u v h) m (omega arith) (omega arith))
-        (forest-rows (x + length (textOf t)) (omega arith) (stands-right u v h (width * (b + size t)) (omega (arith, length-rows b p x t))) n (omega arith) z)
+        (forest-rows (x + length (textOf t)) (omega arith) (stands-right u v h (width * (b + size t)) (omega (arith, length-rows L b p x t))) n (omega arith) z)
 
   -- THE ROWS OF A TREE in its place, which ends within so many bytes
-  pub row-spans : {bytes : ℕ} {t : Tree} → Stands table 0 (rowsOf 0 0 0 t) → Placed t → after t ≤ bytes → RowSpans bytes (size t) table
+  pub row-spans : {bytes : ℕ} {t : Tree} → Stands table 0 (rowsOf L 0 0 0 t) → Placed t → after t ≤ bytes → RowSpans bytes (size t) table
   unfolding size rowsOf
   row-spans h (placed-leaf {k} {a} {e} {s} i) l =
       let o = leaf-own 0 0 0 k a e (s .bytes) h in
@@ -184,8 +180,8 @@ module _ (table : List ℕ) where
         in-document = λ r m. let z : r ≡ 0 = omega arith in (omega (arith, ap (firstByte table) z, ap (byteAfter table) z, o .begins, o .ends), omega (arith, ap (byteAfter table) z, o .ends));
       }
   row-spans {bytes} h (placed-node {k} {a} {e} {c} {ts} i m) l =
-      let w = rowList k a e 0 c 0 (0 + 1 + sizes ts) in
-      let v = rowss (0 + 1) 0 0 ts in
+      let w = rowList L k a e 0 c 0 (0 + 1 + sizes ts) in
+      let v = rowss L (0 + 1) 0 0 ts in
       let o = list-own 0 0 k a e 0 c (0 + 1 + sizes ts) (stands-left w v h) in
       let z : Rows 0 1 (sizes ts) a e =
       forest-rows 0 (omega arith) (stands-right w v h (width * 1) (omega arith)) m (omega (arith, o .begins)) (omega (arith, o .ends)) in
@@ -199,36 +195,3 @@ module _ (table : List ℕ) where
             (λ g. let y = z .lies r g (omega arith) in (y .some, omega (arith, y .high)))
             (λ g. let q : r ≡ 0 = omega arith in (omega (arith, ap (firstByte table) q, ap (byteAfter table) q, o .begins, o .ends), omega (arith, ap (byteAfter table) q, o .ends)));
       }
-
-  -- the first bytes of the rows from b on are those of the tree, or of the trees, in row order
-  mutual
-    unfolding size rowsOf firsts
-
-    tree-firsts : (b p x : ℕ) (t : Tree) → Stands table (width * b) (rowsOf b p x t) → (i r : ℕ) → r ≡ b + i → i < size t → firstByte table r ≡ getD (firsts t) i 0
-    tree-firsts b p x (leaf k a e s) h zero r z l = ap (firstByte table) (omega arith) ∙ leaf-own b p x k a e (s .bytes) h .begins
-    tree-firsts b p x (leaf k a e s) h (suc i) r z l = absurd (omega arith)
-    tree-firsts b p x (node k a e c ts) h zero r z l =
-        ap (firstByte table) (omega arith) ∙ list-own b p k a e 0 c (b + 1 + sizes ts) (stands-left (rowList k a e 0 c p (b + 1 + sizes ts)) (rowss (b + 1) b x ts) h) .begins
-    tree-firsts b p x (node k a e c ts) h (suc i) r z l =
-        let w = rowList k a e 0 c p (b + 1 + sizes ts) in
-        forest-firsts (b + 1) b x ts (stands-right w (rowss (b + 1) b x ts) h (width * (b + 1)) (omega arith)) i r (omega arith) (omega arith)
-
-    forest-firsts : (b p x : ℕ) (ts : Forest) → Stands table (width * b) (rowss b p x ts) → (i r : ℕ) → r ≡ b + i → i < sizes ts → firstByte table r ≡ getD (firstsIn ts) i 0
-    forest-firsts b p x none h i r z l = absurd (omega arith)
-    forest-firsts b p x (more t ts) h i r z l =
-        let u = rowsOf b p x t in
-        let v = rowss (b + size t) p (x + length (textOf t)) ts in
-        let w = stands-right u v h (width * (b + size t)) (omega (arith, length-rows b p x t)) in
-        let n = length-firsts t in
-        let j = i - size t in
-        either
-        (size t)
-        i
-        (λ g. forest-firsts (b + size t) p (x + length (textOf t)) ts w j r (omega arith) (omega arith)
-        ∙ (sym (getD-append-add (firsts t) (firstsIn ts) j 0) ∙ ap (λ (y : ℕ). getD (firsts t ++ firstsIn ts) y 0) (omega arith)))
-        (λ g. tree-firsts b p x t (stands-left u v h) i r z g ∙ sym (List·getD-append (firsts t) (firstsIn ts) 0 i (omega arith)))
-
-  -- ROWS STAND IN THE ORDER OF THEIR FIRST BYTES, where the tree's do
-  pub rows-rise : {lo hi : ℕ} (t : Tree) → Stands table 0 (rowsOf 0 0 0 t) → Rising lo (firsts t) hi → (r q : ℕ) → r < q → q < size t → firstByte table r ≤ firstByte table q
-  rows-rise t h x r q k l =
-      omega (arith, rising-order x r q k (omega (arith, length-firsts t)), tree-firsts 0 0 0 t h r r (omega arith) (omega arith), tree-firsts 0 0 0 t h q q (omega arith) l)

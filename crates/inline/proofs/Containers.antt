@@ -7,7 +7,7 @@ use native.Mathlib.Omega.{arith}
 use lib.ListN.{length, drop}
 use lib.Seq.{sets}
 use borrow.Author.Needs.{needs}
-use Rattle.language.specs.Tree.{Tree, count, width, rowList}
+use Rattle.language.specs.Tree.{unlined, Tree, count, width, rowList}
 use Rattle.exact.specs.Class.{is}
 use Rattle.exact.specs.Out.{Out, Reader, bind, ok, bad}
 use Rattle.exact.specs.Lang.{retR}
@@ -190,7 +190,7 @@ module _ (o : Bool) (r : Reader Tree) (doc : List ℕ) (c : Cursor) (R0 T0 S0 R 
 -- ---- the row
 
 pub closed-row : (c n : Cursor) (p cnt k : ℕ) (R R' : List ℕ) (w : Words) → w ≡ record { kind = k; first = c .at; after = n .at; from = 0; to = cnt; parent = p; next = n .row }
-    → R' ≡ sets R (width * c .row) (rowList (w .kind) (w .first) (w .after) (w .from) (w .to) (w .parent) (w .next)) → Closed c n p cnt k (Ok n) R R'
+    → R' ≡ sets R (width * c .row) (rowList unlined (w .kind) (w .first) (w .after) (w .from) (w .to) (w .parent) (w .next)) → Closed c n p cnt k (Ok n) R R'
 closed-row c n p cnt k R R' w f h = record { answer = refl; table = h ∙ rw f refl }
 
 pub ruleset containing = (closed-row, needs)

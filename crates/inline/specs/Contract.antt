@@ -10,7 +10,7 @@ use Rattle.exact.specs.Place.{peek}
 use Rattle.rooms.specs.declared.Cursor.{Cursor}
 use Rattle.rooms.specs.declared.Ans.{Ans}
 use Rattle.rooms.specs.declared.Ans.the-variants.{Ok, No}
-use Rattle.language.specs.Tree.{width, rowList}
+use Rattle.language.specs.Tree.{unlined, width, rowList}
 use Rattle.rooms.specs.Contract.{ample, onward}
 use Rattle.inline.specs.declared.Sep.{Sep}
 use Rattle.inline.specs.declared.Sep.the-variants.{More, Last, Bad}
@@ -28,7 +28,7 @@ pub record Enclosed (c n : Cursor) (count : ℕ) : Type 0 where
 -- the row of a container of that kind from c up to n is stored, and n is answered
 pub record Closed (c n : Cursor) (parent count kind : ℕ) (r : Ans) (R R' : List ℕ) : Type 0 where
   pub answer : r ≡ Ok n
-  pub table : R' ≡ sets R (width * c .row) (rowList kind (c .at) (n .at) 0 count parent (n .row))
+  pub table : R' ≡ sets R (width * c .row) (rowList unlined kind (c .at) (n .at) 0 count parent (n .row))
 
 -- BEHIND THE BRACKET b of a container at c, where its first child's row comes next; or another byte stands there
 abbrev pub within : Cursor → Cursor

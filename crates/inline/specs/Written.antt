@@ -6,7 +6,7 @@ use native.Mathlib.Nat.{add-zero}
 use native.Mathlib.Omega.{arith}
 use lib.ListN.{length, length-append}
 use lib.Seq.{sets}
-use Rattle.language.specs.Tree.{Tree, node, forest, width, size, sizes, textOf, textsOf, escapesOf, escapesIn, rowsOf, rowss, rowList}
+use Rattle.language.specs.Tree.{unlined, Tree, node, forest, width, size, sizes, textOf, textsOf, escapesOf, escapesIn, rowsOf, rowss, rowList}
 use Rattle.rooms.specs.declared.Cursor.{Cursor}
 use Rattle.rooms.specs.Told.{spot, tally}
 use Rattle.rooms.specs.Contract.{Span, Filled}
@@ -34,14 +34,14 @@ escapes-append [] us = omega arith
 escapes-append (t ∷ ts) us = let h = escapes-append ts us in omega arith
 
 pub rowss-append : (r p x : ℕ) (ts us : List Tree)
-    → rowss r p x (forest (ts ++ us)) ≡ rowss r p x (forest ts) ++ rowss (r + sizes (forest ts)) p (x + length (textsOf (forest ts))) (forest us)
+    → rowss unlined r p x (forest (ts ++ us)) ≡ rowss unlined r p x (forest ts) ++ rowss unlined (r + sizes (forest ts)) p (x + length (textsOf (forest ts))) (forest us)
 unfolding rowss sizes textsOf
 rowss-append r p x [] us = rw (add-zero r, add-zero x)
 rowss-append r p x (t ∷ ts) us =
     let a : r + size t + sizes (forest ts) ≡ r + (size t + sizes (forest ts)) = omega arith in
     let l = length-append (textOf t) (textsOf (forest ts)) in
     let b : x + length (textOf t) + length (textsOf (forest ts)) ≡ x + length (textOf t ++ textsOf (forest ts)) = omega arith in
-    rw (rowss-append (r + size t) p (x + length (textOf t)) ts us, a, b) (sym (append-assoc (rowsOf r p x t) (rowss (r + size t) p (x + length (textOf t)) (forest ts)) _))
+    rw (rowss-append (r + size t) p (x + length (textOf t)) ts us, a, b) (sym (append-assoc (rowsOf unlined r p x t) (rowss unlined (r + size t) p (x + length (textOf t)) (forest ts)) _))
 
 -- ---- what is written from the cursor c up to n: the trees ts, with one parent
 
@@ -54,7 +54,7 @@ pub record Written (doc : List ℕ) (c n : Cursor) (parent : ℕ) (ts : List Tre
   pub fewRows : c .at + sizes (forest ts) ≤ n .at
   pub fewText : c .at + length (textsOf (forest ts)) ≤ n .at
   pub fewEscapes : c .at + escapesIn (forest ts) ≤ n .at
-  pub table : R' ≡ sets R (width * c .row) (rowss (c .row) parent (spot (c .text)) (forest ts))
+  pub table : R' ≡ sets R (width * c .row) (rowss unlined (c .row) parent (spot (c .text)) (forest ts))
   pub room : T' ≡ sets T (spot (c .text)) (textsOf (forest ts))
 
 module _ (doc : List ℕ) (c n : Cursor) (p : ℕ) where
@@ -98,8 +98,8 @@ written-append doc c m n p ts us R R' R'' T T' T'' x y =
     let s = sizes-append ts us in
     let l = length-texts ts us in
     let z = escapes-append ts us in
-    let k = length-rowss (c .row) p (spot (c .text)) (forest ts) in
-    let i : width * m .row ≡ width * c .row + length (rowss (c .row) p (spot (c .text)) (forest ts)) = omega (arith, x .row) in
+    let k = length-rowss unlined (c .row) p (spot (c .text)) (forest ts) in
+    let i : width * m .row ≡ width * c .row + length (rowss unlined (c .row) p (spot (c .text)) (forest ts)) = omega (arith, x .row) in
     record {
       onward = omega (arith, x .onward, y .onward);
       inside = y .inside;
@@ -112,7 +112,7 @@ written-append doc c m n p ts us R R' R'' T T' T'' x y =
       table =
           y .table
           ∙ rw (i, x .table, x .row, x .text, rowss-append (c .row) p (spot (c .text)) ts us)
-          (sym (sets-append R (width * c .row) (rowss (c .row) p (spot (c .text)) (forest ts)) (rowss (c .row + sizes (forest ts)) p (spot (c .text) + length (textsOf (forest ts))) (forest us))));
+          (sym (sets-append R (width * c .row) (rowss unlined (c .row) p (spot (c .text)) (forest ts)) (rowss unlined (c .row + sizes (forest ts)) p (spot (c .text) + length (textsOf (forest ts))) (forest us))));
       room = y .room ∙ rw (x .room, x .text, texts-append ts us) (sym (sets-append T (spot (c .text)) (textsOf (forest ts)) (textsOf (forest us))));
     }
 
@@ -136,13 +136,13 @@ module _ (doc : List ℕ) (c c′ n : Cursor) (p kind cnt : ℕ) (ts : List Tree
         fewEscapes = omega (arith, w .fewEscapes);
       }
 
-  pub node-filled : R'' ≡ sets R' (width * c .row) (rowList kind (c .at) (n .at) 0 cnt p (n .row)) → Filled c p whole R R'' T T'
+  pub node-filled : R'' ≡ sets R' (width * c .row) (rowList unlined kind (c .at) (n .at) 0 cnt p (n .row)) → Filled c p whole R R'' T T'
   unfolding rowsOf textOf
   node-filled h =
       let e : n .row ≡ c .row + 1 + sizes (forest ts) = omega (arith, w .row) in
       record {
         table =
             rw (h, w .table, e, row, text)
-            (row-behind R (width * c .row) (width * (c .row + 1)) (rowList kind (c .at) (n .at) 0 cnt p (c .row + 1 + sizes (forest ts))) (rowss (c .row + 1) (c .row) (spot (c .text)) (forest ts)) (omega arith));
+            (row-behind R (width * c .row) (width * (c .row + 1)) (rowList unlined kind (c .at) (n .at) 0 cnt p (c .row + 1 + sizes (forest ts))) (rowss unlined (c .row + 1) (c .row) (spot (c .text)) (forest ts)) (omega arith));
         room = rw text at (w .room);
       }

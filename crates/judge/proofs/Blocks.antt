@@ -6,7 +6,7 @@ use Prim.Native.Nat.{ℕ, suc, _+_, _-_, _*_, _≤_, _<_, max}
 use native.Mathlib.Omega.{arith}
 use lib.ListN.{length, drop, length-drop}
 use lib.Seq.{sets}
-use Rattle.language.specs.Tree.{Tree, node, forest, count, endOf, width, size, sizes, textOf, rowsOf, rowss, rowList, escapesOf}
+use Rattle.language.specs.Tree.{unlined, Tree, node, forest, count, endOf, width, size, sizes, textOf, rowsOf, rowss, rowList, escapesOf}
 use Rattle.exact.specs.Out.{Out, fmap, soft, bad}
 use Rattle.exact.specs.Answers.{map-fmap, fmap-none, fmap-join}
 use Rattle.exact.specs.Class.{is}
@@ -50,14 +50,14 @@ module _ (doc : List ℕ) (c n : Cursor) (p kind e cnt : ℕ) (ts : List Tree) (
         fewEscapes = w .fewEscapes;
       }
 
-  whole-filled : R'' ≡ sets R' (width * c .row) (rowList kind (c .at) e 0 cnt p (n .row)) → Filled c p (node kind (c .at) e cnt (forest ts)) R R'' T T'
+  whole-filled : R'' ≡ sets R' (width * c .row) (rowList unlined kind (c .at) e 0 cnt p (n .row)) → Filled c p (node kind (c .at) e cnt (forest ts)) R R'' T T'
   unfolding rowsOf textOf
   whole-filled h =
       let i : n .row ≡ c .row + 1 + sizes (forest ts) = omega (arith, w .row) in
       record {
         table =
             rw (h, w .table, i)
-            (row-behind R (width * c .row) (width * (c .row + 1)) (rowList kind (c .at) e 0 cnt p (c .row + 1 + sizes (forest ts))) (rowss (c .row + 1) (c .row) (spot (c .text)) (forest ts)) (omega arith));
+            (row-behind R (width * c .row) (width * (c .row + 1)) (rowList unlined kind (c .at) e 0 cnt p (c .row + 1 + sizes (forest ts))) (rowss unlined (c .row + 1) (c .row) (spot (c .text)) (forest ts)) (omega arith));
         room = w .room;
       }
 
@@ -212,7 +212,7 @@ module _ (o : Bool) (k n : ℕ) (doc : List ℕ) (c : Cursor) (R₀ T₀ : List 
         ∙ (soft-reached (max (max far f) p) (node (kindOf o) (c .at) e (cnt + 1) (forest (children o (l .done ++ g .member ∷ [])))) (m .at) (drop (m .at) doc) (omega (arith, q .upto)))))
 
     pub block-last : (parent p : ℕ) (R'' : List ℕ) → Ended o doc (m .at) n p
-        → R'' ≡ sets R' (width * c .row) (rowList (kindOf o) (c .at) e 0 (cnt + 1) parent (m .row))
+        → R'' ≡ sets R' (width * c .row) (rowList unlined (kindOf o) (c .at) e 0 (cnt + 1) parent (m .row))
         → Blocks doc c parent (blockR o k n (c .at) (drop (c .at) doc)) (Done m (max (max far f) p) e) R₀ R'' T₀ T'
     block-last parent p R'' q h =
         let ts = children o (l .done ++ g .member ∷ []) in
@@ -252,7 +252,7 @@ module _ (k n : ℕ) (doc : List ℕ) (c : Cursor) (parent : ℕ) (R₀ T₀ R' 
   bullet-bad p h = Laws.not-block doc c parent _ R₀ R' T₀ T' p (bullet-is ∙ ap (fmap (λ i. blockOf false (i ∷ []))) h)
 
   pub bullet-last : (R'' : List ℕ) (m : Cursor) (far e : ℕ) → Read false doc (within c) (c .row) (memberR false k n (c .at) (drop (c .at) doc)) m far e R₀ R' T₀ T'
-      → R'' ≡ sets R' (width * c .row) (rowList (kindOf false) (c .at) e 0 1 parent (m .row))
+      → R'' ≡ sets R' (width * c .row) (rowList unlined (kindOf false) (c .at) e 0 1 parent (m .row))
       → Blocks doc c parent (bulletR (itemR k (suc (suc n))) (c .at) (drop (c .at) doc)) (Done m far e) R₀ R'' T₀ T'
   bullet-last R'' m far e g h =
       let ts = children false (g .member ∷ []) in

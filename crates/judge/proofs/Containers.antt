@@ -7,7 +7,7 @@ use native.Mathlib.Omega.{arith}
 use lib.ListN.{length, drop}
 use lib.Seq.{sets, drop-drop}
 use borrow.Author.Needs.{needs}
-use Rattle.language.specs.Tree.{Tree, entry, sizes, width, rowList}
+use Rattle.language.specs.Tree.{unlined, Tree, entry, sizes, width, rowList}
 use Rattle.exact.specs.Out.{Out, Reader, bind, fmap, bad}
 use Rattle.exact.specs.Answers.{map-fmap}
 use Rattle.exact.specs.Comb.{mapR}
@@ -164,7 +164,7 @@ module _ (o : Bool) (k n : ℕ) (doc : List ℕ) (c : Cursor) (R₀ T₀ : List 
 
         module _ (x : Next) (fl : Follows o doc m n x) where
           pub block-done : (p q g h i : ℕ) (R'' : List ℕ) → x ≡ Over q → g ≡ max far f → h ≡ max g q → i ≡ cnt + 1
-              → R'' ≡ sets R' (width * c .row) (rowList (kindOf o) (c .at) e 0 i p (m .row))
+              → R'' ≡ sets R' (width * c .row) (rowList unlined (kindOf o) (c .at) e 0 i p (m .row))
               → Blocks doc c p (blockR o k n (c .at) (drop (c .at) doc)) (Done m h e) R₀ R'' T₀ T'
           unfolding Follows
           block-done p q g h i R'' y u v j s =
@@ -203,7 +203,7 @@ module _ (k n : ℕ) (doc : List ℕ) (c : Cursor) (p : ℕ) (R R' T T' : List �
           next-fits = omega (arith, r .small, r .fewRows, v .inside, v .row, v .fewRows);
         }
 
-    pub bullet-done : (R'' : List ℕ) → R'' ≡ sets R' (width * c .row) (rowList (kindOf false) (c .at) e 0 1 p (m .row))
+    pub bullet-done : (R'' : List ℕ) → R'' ≡ sets R' (width * c .row) (rowList unlined (kindOf false) (c .at) e 0 1 p (m .row))
         → Blocks doc c p (bulletR (itemR k (suc (suc n))) (c .at) (drop (c .at) doc)) (Done m f e) R R'' T T'
     bullet-done R'' s = Blocks.bullet-last k n doc c p R T R' T' R'' m f e (member-read false doc (Within c) (c .row) _ a R R' T T' w m f e z) s
 

@@ -8,7 +8,7 @@ use lib.ListN.{length, drop}
 use lib.Seq.{sets}
 use borrow.Author.Needs.{needs}
 use Rattle.language.specs.Kind.{ARRAY, OBJECT, KEY}
-use Rattle.language.specs.Tree.{Tree, after, width, size, textOf, rowList, escapesOf, rowsOf, leaf}
+use Rattle.language.specs.Tree.{unlined, Tree, after, width, size, textOf, rowList, escapesOf, rowsOf, leaf}
 use Rattle.exact.specs.Class.{is, only}
 use Rattle.exact.specs.Out.{Out, Reader, Firm, bind, ok, bad, f-ok, f-bad}
 use Rattle.exact.specs.Lang.{retR, byteR}
@@ -213,7 +213,7 @@ module _ (doc : List ℕ) (c : Cursor) (p : ℕ) (a : Ans) (W W' R R' T T' : Lis
         }
 
     pub key-placed : (y z : ℕ) (x : Words) → y ≡ spot (c .text) → z ≡ spot (n .text) → x ≡ record { kind = KEY; first = c .at; after = n .at; from = y; to = z; parent = p; next = c .row + 1 }
-        → R' ≡ sets R (width * c .row) (rowList (x .kind) (x .first) (x .after) (x .from) (x .to) (x .parent) (x .next))
+        → R' ≡ sets R (width * c .row) (rowList unlined (x .kind) (x .first) (x .after) (x .from) (x .to) (x .parent) (x .next))
         → Answers doc c p (keyR (c .at) (drop (c .at) doc)) (Ok (record { at = n .at; row = c .row + 1; text = n .text })) R R' T T'
     unfolding size textOf escapesOf rowsOf
     key-placed y z x h k g s =
@@ -241,7 +241,7 @@ module _ (doc : List ℕ) (c : Cursor) (p : ℕ) (a : Ans) (W W' R R' T T' : Lis
               record {
                 table =
                     s
-                    ∙ (ap (λ (m : Words). sets R (width * c .row) (rowList (m .kind) (m .first) (m .after) (m .from) (m .to) (m .parent) (m .next))) g
+                    ∙ (ap (λ (m : Words). sets R (width * c .row) (rowList unlined (m .kind) (m .first) (m .after) (m .from) (m .to) (m .parent) (m .next))) g
                     ∙ rw (h, k ∙ e) refl);
                 room = key-got .filled .room ∙ ap (sets T (spot (c .text))) i;
               };
@@ -264,9 +264,9 @@ module _ (c : Cursor) (e count next : ℕ) (s : Enclosed c e count next) where
 
 pub enclosed-stored : (c : Cursor) (e count next parent : ℕ) (o : Bool) (k : Kind) (w : Words) (R R' : List ℕ) → k .0 ≡ kindOf o
     → w ≡ record { kind = k .0; first = c .at; after = e; from = 0; to = count; parent = parent; next = next }
-    → R' ≡ sets R (width * c .row) (rowList (w .kind) (w .first) (w .after) (w .from) (w .to) (w .parent) (w .next))
-    → R' ≡ sets R (width * c .row) (rowList (kindOf o) (c .at) e 0 count parent next)
-enclosed-stored c e count next parent o k w R R' h g s = s ∙ ap (λ (u : Words). sets R (width * c .row) (rowList (u .kind) (u .first) (u .after) (u .from) (u .to) (u .parent) (u .next))) g ∙ rw h refl
+    → R' ≡ sets R (width * c .row) (rowList unlined (w .kind) (w .first) (w .after) (w .from) (w .to) (w .parent) (w .next))
+    → R' ≡ sets R (width * c .row) (rowList unlined (kindOf o) (c .at) e 0 count parent next)
+enclosed-stored c e count next parent o k w R R' h g s = s ∙ ap (λ (u : Words). sets R (width * c .row) (rowList unlined (u .kind) (u .first) (u .after) (u .from) (u .to) (u .parent) (u .next))) g ∙ rw h refl
 
 pub ruleset lining = (line-none, line-inside, line-cut, line-done, needs)
 

@@ -5,7 +5,7 @@ use mathlib.Core.Bool.{Bool, true, false}
 use Prim.Native.Nat.{ℕ, _+_, _≤_, _<_, max}
 use lib.ListN.{length, drop}
 use lib.Seq.{sets}
-use Rattle.language.specs.Tree.{Tree, forest, endOf, size, sizes, textOf, rowsOf, escapesOf}
+use Rattle.language.specs.Tree.{unlined, Tree, forest, endOf, size, sizes, textOf, rowsOf, escapesOf}
 use Rattle.language.specs.Answered.{limit}
 use Rattle.exact.specs.Class.{is, only}
 use Rattle.exact.specs.Verdict.{acc, stop}
@@ -138,7 +138,7 @@ Checked k doc (No p) = verdict k doc ≡ stop p
 
 -- .. and what it has written
 pub record Filled (k : ℕ) (doc rows rows' text text' : List ℕ) : Type 0 where
-  pub filled : (t : Tree) → verdict k doc ≡ acc t → (rows' ≡ sets rows 0 (rowsOf 0 0 0 t)) × (text' ≡ sets text 0 (textOf t))
+  pub filled : (t : Tree) → verdict k doc ≡ acc t → (rows' ≡ sets rows 0 (rowsOf unlined 0 0 0 t)) × (text' ≡ sets text 0 (textOf t))
 
 -- .. and the keys that it has noted
 pub record Logged (k : ℕ) (doc S S' : List ℕ) : Type 0 where

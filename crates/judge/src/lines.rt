@@ -3,7 +3,7 @@ ghost use mathlib.Core.Path.{_≡_};
 ghost use Prim.Native.Nat.{_*_, _≤_};
 ghost use lib.ListN.{drop};
 ghost use lib.Seq.{sets};
-ghost use Rattle.language.specs.Tree.{width, rowList};
+ghost use Rattle.language.specs.Tree.{width, unlined, rowList};
 ghost use Rattle.rooms.specs.Contract.{columns, Ready, Answers, Blocks};
 ghost use Rattle.strings.specs.Keys.{keyR};
 ghost use Rattle.blocks.specs.ValueLine.{lineR};
@@ -178,7 +178,7 @@ pub fn enclose(
     object: bool,
 )
     requires { ⌜ Enclosed c e count next ⌝ }
-    ensures { λ _. ⌜ now (rows .exit) ≡ sets (now (rows .entry)) (width * c .row) (rowList (kindOf object) (c .at) e 0 count parent next) ⌝ }
+    ensures { λ _. ⌜ now (rows .exit) ≡ sets (now (rows .entry)) (width * c .row) (rowList unlined (kindOf object) (c .at) e 0 count parent next) ⌝ }
 {
     let w = row_of(kind_of(object), c.at, e, 0, count, parent, next);
     put_row(rows, c.row, w);

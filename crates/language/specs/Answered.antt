@@ -8,6 +8,7 @@ use Rattle.language.specs.declared.Answer.the-variants.{Accepted, Long, 
 use Rattle.language.specs.Tree.{Tree, width, size, textOf, escapesOf, rowsOf, Repeats}
 use Rattle.language.specs.Characters.{Allowed}
 use Rattle.language.specs.Document.{Document}
+use Rattle.language.specs.Lines.{linesOf}
 
 -- "more than 32,768 bytes"; "at most 32 containers one inside another"
 abbrev pub limit : ℕ
@@ -122,14 +123,14 @@ pub data Answered (doc table text : List ℕ) : ℕ → ℕ → ℕ → List ℕ
       0
       (size t)
       (length (textOf t))
-      (rowsOf 0 0 0 t ++ drop (width * size t) table)
+      (rowsOf (linesOf doc) 0 0 0 t ++ drop (width * size t) table)
       (textOf t ++ drop (length (textOf t)) text)
   long : limit < length doc → Answered doc table text LONG 0 0 table text
   stopped : (n p : ℕ) → length doc ≤ limit → Stops doc n p → Answered doc table text n p 0 table text
   -- "smallest start of a later equal key"
   repeated : (t : Tree) (p : ℕ) → length doc ≤ limit → Document deepest doc t → Repeats p t → ((q : ℕ) → Repeats q t → p ≤ q)
       → Answered doc table text REPEAT p 0 table text
-  -- "seven times the rows needed exceeds the words lent"
+  -- "seven times the rows needed exceeds the words lent" (01); "ROWS is reckoned with nine" (02, Ticket 8)
   rows : (t : Tree) → Reads doc t → length table < width * size t → Answered doc table text ROWS (size t) 0 table text
   -- "text needed exceeds the bytes lent"
   bytes : (t : Tree) → Reads doc t → width * size t ≤ length table → length text < length (textOf t)

@@ -7,4 +7,5 @@ pub mod Inline
 pub mod BlockText
 pub mod Blocks
 pub mod Document
+pub mod Lines
 pub mod Answered

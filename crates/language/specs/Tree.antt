@@ -89,13 +89,21 @@ abbrev pub blockObject : List Field → Tree
 blockObject [] = objectTree 0 0 []
 blockObject (field k v ∷ fs) = objectTree (first k) (endOf 0 (fields (field k v ∷ fs))) (field k v ∷ fs)
 
--- THE ROWS. "Rows stand in document order, seven words each"
+-- THE ROWS. "Rows stand in document order" (01); "A row is nine words" (02, Ticket 8)
 abbrev pub width : ℕ
-width = 7
+width = 9
 
--- kind; first byte of the span; byte after it; text start; text end; parent row; row after the last descendant
-abbrev pub rowList : ℕ → ℕ → ℕ → ℕ → ℕ → ℕ → ℕ → List ℕ
-rowList k a e s t p n = k ∷ a ∷ e ∷ s ∷ t ∷ p ∷ n ∷ []
+-- how the lines and columns of places are told; where none are, both words are 0
+pub record Positions : Type 0 where
+  pub line : ℕ → ℕ
+  pub column : ℕ → ℕ
+
+abbrev pub unlined : Positions
+unlined = record { line = λ _. 0; column = λ _. 0 }
+
+-- kind; first byte of the span; byte after it; text start; text end; parent row; row after the last descendant; "the line of its first byte .. and the column"
+abbrev pub rowList : Positions → ℕ → ℕ → ℕ → ℕ → ℕ → ℕ → ℕ → List ℕ
+rowList L k a e s t p n = k ∷ a ∷ e ∷ s ∷ t ∷ p ∷ n ∷ L .line a ∷ L .column a ∷ []
 
 unfoldable mutual
   pub size : Tree → ℕ
@@ -127,18 +135,19 @@ unfoldable mutual
   escapesIn (more t ts) = escapesOf t + escapesIn ts
 
 -- "For kinds 1 to 3 both text words are 0"
-abbrev pub leafRow : ℕ → ℕ → ℕ → ℕ → ℕ → ℕ → List ℕ → List ℕ
-leafRow r p x k a e s = pick (leb k TRUE) (rowList k a e 0 0 p (r + 1)) (rowList k a e x (x + length s) p (r + 1))
+abbrev pub leafRow : Positions → ℕ → ℕ → ℕ → ℕ → ℕ → ℕ → List ℕ → List ℕ
+leafRow L r p x k a e s =
+    pick (leb k TRUE) (rowList L k a e 0 0 p (r + 1)) (rowList L k a e x (x + length s) p (r + 1))
 
 -- the rows of a tree from the row r, with the parent p, and the text from x on; "For 8 and 9 text start is 0 and text end is the number of elements or pairs"
 unfoldable mutual
-  pub rowsOf : ℕ → ℕ → ℕ → Tree → List ℕ
-  rowsOf r p x (leaf k a e s) = leafRow r p x k a e (s .bytes)
-  rowsOf r p x (node k a e c ts) = rowList k a e 0 c p (r + 1 + sizes ts) ++ rowss (r + 1) r x ts
+  pub rowsOf : Positions → ℕ → ℕ → ℕ → Tree → List ℕ
+  rowsOf L r p x (leaf k a e s) = leafRow L r p x k a e (s .bytes)
+  rowsOf L r p x (node k a e c ts) = rowList L k a e 0 c p (r + 1 + sizes ts) ++ rowss L (r + 1) r x ts
 
-  pub rowss : ℕ → ℕ → ℕ → Forest → List ℕ
-  rowss r p x none = []
-  rowss r p x (more t ts) = rowsOf r p x t ++ rowss (r + size t) p (x + length (textOf t)) ts
+  pub rowss : Positions → ℕ → ℕ → ℕ → Forest → List ℕ
+  rowss L r p x none = []
+  rowss L r p x (more t ts) = rowsOf L r p x t ++ rowss L (r + size t) p (x + length (textOf t)) ts
 
 -- EQUAL KEYS. A key of this text, which starts at a, stands among these children; how it is escaped is not asked
 pub data Has (s : List ℕ) (a : ℕ) : Forest → Type 0 where

@@ -3,8 +3,8 @@ ghost use mathlib.Core.Path.{_≡_};
 ghost use Rattle.language.specs.Kind.{hasText};
 ghost use Rattle.language.specs.Answered as answered;
 
-// "Rows stand in document order, seven words each".
-pub const WIDTH: usize = 7;
+// "A row is nine words" (02, Ticket 8).
+pub const WIDTH: usize = 9;
 
 // LONG: "more than 32,768 bytes".
 pub const LIMIT: usize = 32768;

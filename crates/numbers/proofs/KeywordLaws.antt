@@ -20,7 +20,7 @@ use Rattle.rooms.specs.declared.Far.the-variants.{Upto, Not}
 use Rattle.rooms.specs.Contract.{Ready, Reaches, Small}
 use Rattle.rooms.specs.Laws.{reaching, not-reached, leaf-bare}
 use Rattle.language.specs.Kind.{TRUE, FLOAT}
-use Rattle.language.specs.Tree.{unescaped, leaf, width, rowList}
+use Rattle.language.specs.Tree.{unlined, unescaped, leaf, width, rowList}
 use Rattle.numbers.specs.Keyword.{keywordR}
 use Rattle.numbers.specs.Contract.{Put}
 use Rattle.numbers.proofs.PutLaws.{text-read}
@@ -60,7 +60,7 @@ module _ (doc : List ℕ) (c : Cursor) (p : ℕ) (word : List ℕ) (n : ℕ) (re
   module _ (R R' T : List ℕ) (w : Words) where
     pub keyword-read : (kind : ℕ) → kind ≤ TRUE → n ≡ length word
         → w ≡ record { kind = kind; first = c .at; after = c .at + n; from = 0; to = 0; parent = p; next = c .row + 1 }
-        → R' ≡ sets R (width * c .row) (rowList (w .kind) (w .first) (w .after) (w .from) (w .to) (w .parent) (w .next))
+        → R' ≡ sets R (width * c .row) (rowList unlined (w .kind) (w .first) (w .after) (w .from) (w .to) (w .parent) (w .next))
         → Reaches doc c p (keywordR kind word [] (c .at) (drop (c .at) doc)) (Upto (record { at = c .at + n; row = c .row + 1; text = c .text }) 0) R R' T T
     keyword-read kind l k e r =
         reaching doc c p (keywordR kind word [] (c .at) (drop (c .at) doc)) R R' T T (record { at = c .at + n; row = c .row + 1; text = c .text }) 0

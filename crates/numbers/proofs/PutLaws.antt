@@ -9,7 +9,7 @@ use borrow.Author.Needs.{needs}
 use Rattle.exact.specs.Out.{Out}
 use Rattle.exact.specs.Lines.{reached}
 use Rattle.language.specs.Kind.{TRUE}
-use Rattle.language.specs.Tree.{unescaped, Tree, leaf, width, rowList}
+use Rattle.language.specs.Tree.{unlined, unescaped, Tree, leaf, width, rowList}
 use Rattle.rooms.specs.Told.{ESCAPE, spot, told, word-is}
 use Rattle.rooms.specs.declared.Cursor.{Cursor}
 use Rattle.rooms.specs.declared.Words.{Words}
@@ -21,7 +21,7 @@ use Rattle.numbers.specs.Contract.{Longer, Put}
 -- THE ROW, whose text begins at x
 module _ (c : Cursor) (e to x : ℕ) (at-x : x ≡ spot (c .text)) where
   pub put-read : (p kind : ℕ) (R R' : List ℕ) (w : Words) → w ≡ record { kind = kind; first = c .at; after = e; from = x; to = to; parent = p; next = c .row + 1 }
-      → R' ≡ sets R (width * c .row) (rowList (w .kind) (w .first) (w .after) (w .from) (w .to) (w .parent) (w .next))
+      → R' ≡ sets R (width * c .row) (rowList unlined (w .kind) (w .first) (w .after) (w .from) (w .to) (w .parent) (w .next))
       → Put R R' c p kind e to (record { at = e; row = c .row + 1; text = c .text + (to - x) })
   put-read p kind R R' w h r = record { next = rw at-x refl; table = rw at-x at (rw h at r) }
 

@@ -9,7 +9,7 @@ use Rattle.exact.specs.Out.{Out, bad}
 use Rattle.exact.specs.Lines.{reached}
 use Rattle.exact.specs.Place.{peek, runEnd}
 use Rattle.language.specs.Kind.{INTEGER, FLOAT}
-use Rattle.language.specs.Tree.{width, rowList}
+use Rattle.language.specs.Tree.{unlined, width, rowList}
 use Rattle.rooms.specs.Told.{spot, tally}
 use Rattle.rooms.specs.declared.Cursor.{Cursor}
 use Rattle.rooms.specs.Contract.{ample}
@@ -156,4 +156,4 @@ pub record Longer (c : Cursor) (to : ℕ) : Type 0 where
 -- the row of a leaf with a text is written, and the cursor n stands behind it
 pub record Put (rows rows' : List ℕ) (c : Cursor) (parent kind e to : ℕ) (n : Cursor) : Type 0 where
   pub next : n ≡ record { at = e; row = c .row + 1; text = c .text + (to - spot (c .text)) }
-  pub table : rows' ≡ sets rows (width * c .row) (rowList kind (c .at) e (spot (c .text)) to parent (c .row + 1))
+  pub table : rows' ≡ sets rows (width * c .row) (rowList unlined kind (c .at) e (spot (c .text)) to parent (c .row + 1))

@@ -17,6 +17,7 @@ use Rattle.language.specs.declared.Answer.the-variants.{Accepted, Long, Char, S
 use Rattle.language.specs.Tree.{Tree, width, size, textOf, escapesOf, rowsOf, Repeats}
 use Rattle.language.specs.Characters.{Allowed}
 use Rattle.language.specs.Document.{Document}
+use Rattle.language.specs.Lines.{linesOf}
 use Rattle.language.specs.Answered.{limit, deepest, LONG, CHAR, SYNTAX, DEEP, END, REPEAT, ROWS, TEXT, number, value, second, third, Viable, Stops, char, syntax, deep, end, Reads, Answered, accepted, long, stopped, repeated, rows, bytes, Totals, total, untold}
 
 -- WHAT IS TAKEN FROM THE READERS: a document has one tree, and is a sequence of allowed characters
@@ -124,24 +125,24 @@ module _ (κ : Known) where
   kept : List ℕ → List ℕ → ℕ → ℕ → Outcome
   kept table text n p = record { counted = n; valued = p; other = 0; table-after = table; text-after = text }
 
-  outcome : List ℕ → List ℕ → Report → Outcome
-  outcome table text too-long = kept table text LONG 0
-  outcome table text (stops-at n p) = kept table text n p
-  outcome table text (repeats-at p) = kept table text REPEAT p
-  outcome table text (has-tree t) =
+  outcome : List ℕ → List ℕ → List ℕ → Report → Outcome
+  outcome doc table text too-long = kept table text LONG 0
+  outcome doc table text (stops-at n p) = kept table text n p
+  outcome doc table text (repeats-at p) = kept table text REPEAT p
+  outcome doc table text (has-tree t) =
       pick (ltb (length table) (width * size t)) (kept table text ROWS (size t))
       (pick (ltb (length text) (length (textOf t))) (kept table text TEXT (length (textOf t)))
       (record {
         counted = 0;
         valued = size t;
         other = length (textOf t);
-        table-after = rowsOf 0 0 0 t ++ drop (width * size t) table;
+        table-after = rowsOf (linesOf doc) 0 0 0 t ++ drop (width * size t) table;
         text-after = textOf t ++ drop (length (textOf t)) text;
       }))
 
   module _ {doc table text : List ℕ} where
     report : {n v s : ℕ} {table′ text′ : List ℕ} → Answered doc table text n v s table′ text′
-        → (r : Report) × Reports doc r × (record { counted = n; valued = v; other = s; table-after = table′; text-after = text′ } ≡ outcome table text r)
+        → (r : Report) × Reports doc r × (record { counted = n; valued = v; other = s; table-after = table′; text-after = text′ } ≡ outcome doc table text r)
     unfolding outcome kept
     report (accepted t x h k) = (has-tree t, is-tree t x, rw (le-ltb (length table) (width * size t) h, le-ltb (length text) (length (textOf t)) k) refl)
     report (long l) = (too-long, is-long l, refl)
@@ -157,7 +158,7 @@ module _ (κ : Known) where
         let a = report x in
         let b = report y in
         let e : _≡_ {A = Outcome} (record { counted = n; valued = v; other = s; table-after = table′; text-after = text′ }) (record { counted = n₂; valued = v₂; other = s₂; table-after = table″; text-after = text″ }) =
-        a .2 ∙ (ap (outcome table text) (reports-unique doc (a .0) (b .0) (a .1) (b .1)) ∙ sym (b .2)) in (
+        a .2 ∙ (ap (outcome doc table text) (reports-unique doc (a .0) (b .0) (a .1) (b .1)) ∙ sym (b .2)) in (
           ap (λ (o : Outcome). o .counted) e,
           ap (λ (o : Outcome). o .valued) e,
           ap (λ (o : Outcome). o .other) e,

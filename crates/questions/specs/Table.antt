@@ -24,7 +24,7 @@ end table r = word table r 4
 abbrev pub next : List ℕ → ℕ → ℕ
 next table r = word table r 6
 
--- "Row r is bad if r is not below R or seven times (r+1) exceeds the words" (Questions)
+-- "Row r is bad if r is not below R or seven times (r+1) exceeds the words" (Questions); nine times, since "a row is nine words" (02, Ticket 8)
 unfoldable pub good : List ℕ → ℕ → ℕ → Bool
 good table R r = ltb r R && leb (width * (r + 1)) (length table)
 

@@ -12,7 +12,7 @@ use Rattle.rooms.specs.Forest.{length-rows}
 use Rattle.reader.specs.declared.Tried.{Tried}
 use Rattle.reader.specs.declared.Tried.the-variants.{Settled, TooFew}
 use Rattle.language.specs.declared.Answer.{Answer}
-use Rattle.language.specs.Tree.{width, textOf, rowsOf}
+use Rattle.language.specs.Tree.{unlined, width, textOf, rowsOf}
 use Rattle.language.specs.Answered.{limit, deepest, number, value, second, third, Answered, Totals}
 use Rattle.spans.specs.Document.{few-rows, few-text}
 use Rattle.repeats.specs.Chains.{most-rows}
@@ -54,7 +54,7 @@ reads doc R R' T T' a c m z p q f x e w u v =
     let t = g .tree in
     let d = accepts deepest doc t (g .is) in
     let y = w .filled t (g .is) in
-    let n = length-rows 0 0 0 t in
+    let n = length-rows unlined 0 0 0 t in
     let h = few-rows deepest doc t d in
     let k = few-text deepest doc t d in
     let l = f .short in
@@ -74,7 +74,7 @@ reads doc R R' T T' a c m z p q f x e w u v =
             linked = omega arith;
             fits = omega (arith, g .text);
             small = omega (arith, g .row, g .text);
-            table-is = subst (λ (s : List ℕ). Stands s 0 (rowsOf 0 0 0 t)) (sym (y .0)) (stands-sets R 0 (rowsOf 0 0 0 t) (omega (arith, g .row)));
+            table-is = subst (λ (s : List ℕ). Stands s 0 (rowsOf unlined 0 0 0 t)) (sym (y .0)) (stands-sets R 0 (rowsOf unlined 0 0 0 t) (omega (arith, g .row)));
             text-is = subst (λ (s : List ℕ). Stands s 0 (textOf t)) (sym (y .1)) (stands-sets T 0 (textOf t) (omega arith));
           };
     }

@@ -4,11 +4,12 @@ use mathlib.Core.List.{List}
 use Prim.Native.Nat.{ℕ, suc, _*_, _≤_, _<_}
 use native.Mathlib.Omega.{arith}
 use lib.ListN.{length, replicate}
+use lib.Seq.{sets}
 use Rattle.rooms.specs.Told.{spot, tally}
 use Rattle.rooms.specs.declared.Cursor.{Cursor}
 use Rattle.rooms.specs.declared.Ans.{Ans}
 use Rattle.rooms.specs.declared.Ans.the-variants.{Ok}
-use Rattle.language.specs.Tree.{Tree, width, size, textOf, escapesOf, Repeats}
+use Rattle.language.specs.Tree.{unlined, rowsOf, Tree, width, size, textOf, escapesOf, Repeats}
 use Rattle.language.specs.Answered.{limit, deepest, REPEAT, ROWS, TEXT, Answered, Totals}
 use Rattle.blocks.specs.Document.{one-tree}
 use Rattle.spans.specs.Document.{few-rows}
@@ -17,7 +18,9 @@ use Rattle.repeats.specs.declared.Repeat.the-variants.{At, Nowhere}
 use Rattle.repeats.specs.Later.{Names}
 use Rattle.places.specs.Places.{most-keys}
 use Rattle.places.specs.Log.{Log, Told}
-use Rattle.answers.specs.Counted.{Counted, counted-repeat, counted-rows, counted-bytes, counted-all, counted-total}
+use Rattle.language.specs.Lines.{linesOf}
+use Rattle.lined.specs.Lined.{Ranked, lined}
+use Rattle.answers.specs.Counted.{Counted, counted-repeat, counted-rows, counted-bytes, counted-ranked, counted-all, counted-total}
 use Rattle.judge.specs.Contract.{Known, Checked, Filled, Logged}
 use Rattle.reader.specs.Count.{few-noted}
 use Rattle.reader.specs.Judged.{accepts, accepted}
@@ -72,12 +75,17 @@ module _ (doc keys : List ℕ) (n m z : ℕ) (f : Passed doc keys n m z) (a : Re
   pub filled-bytes : a ≡ Nowhere → width * n ≤ length table → length text < m → Answered doc table text TEXT m 0 table text
   filled-bytes = counted-bytes counted table text
 
-  pub filled-all : a ≡ Nowhere → width * n ≤ length table → m ≤ length text → (table′ text′ : List ℕ) → Filled deepest doc table table′ text text′
-      → Answered doc table text 0 n m table′ text′
-  unfolding counted
-  filled-all e l k table′ text′ w =
-      let z = w .filled (f .log .tree) (accepted deepest doc (f .log .tree) (f .log .word)) in
-      counted-all counted table text e l k table′ text′ (z .0) (z .1)
+  module _ (l : width * n ≤ length table) (table′ text′ : List ℕ) (w : Filled deepest doc table table′ text text′) where
+    rooms : (table′ ≡ sets table 0 (rowsOf unlined 0 0 0 (f .log .tree))) × (text′ ≡ sets text 0 (textOf (f .log .tree)))
+    rooms = w .filled (f .log .tree) (accepted deepest doc (f .log .tree) (f .log .word))
+
+    pub filled-ranked : Ranked doc table′ n
+    unfolding counted
+    filled-ranked = counted-ranked counted table text l table′ (rooms .0)
+
+    pub filled-all : a ≡ Nowhere → m ≤ length text → (table″ : List ℕ) → table″ ≡ lined (linesOf doc) n table′ → Answered doc table text 0 n m table″ text′
+    unfolding counted
+    filled-all e k table″ v = counted-all counted table text l table′ (rooms .0) e k table″ text′ v (rooms .1)
 
   pub filled-total : a ≡ Nowhere → Totals doc 0 z
   filled-total e = counted-total counted e

@@ -14,6 +14,7 @@ use language::LIMIT;
 use language::Place;
 use language::Row;
 use language::WIDTH;
+use lined::line_up;
 use places::MOST;
 use places::first_again;
 use repeats::Repeat;
@@ -126,6 +127,7 @@ fn filled(
         return Answer::Text(m);
     }
     pass(&*doc, table, text, &mut keys[..0], DEEPEST);
+    line_up(&*doc, table, n);
     Answer::Accepted(Row(n), m, escapes)
 }
 

@@ -11,7 +11,7 @@ use lib.Dec.{eqb, leb}
 use borrow.Author.Tests.{eqb-true, ne-eqb}
 use Rattle.notation.specs.Class.{pick}
 use Rattle.language.specs.Kind.{TRUE, KEY}
-use Rattle.language.specs.Tree.{Tree, leaf, node, Forest, none, more, width, size, sizes, textOf, textsOf, rowList, leafRow, rowsOf, rowss}
+use Rattle.language.specs.Tree.{unlined, Tree, leaf, node, Forest, none, more, width, size, sizes, textOf, textsOf, rowList, leafRow, rowsOf, rowss}
 use Rattle.spans.specs.Formed.{Sound, sound-leaf, sound-node, Sounds, sound-none, sound-more}
 use Rattle.rooms.specs.Forest.{length-rows}
 use Rattle.repeats.specs.Flat.{Named, named, flat, flats}
@@ -64,25 +64,25 @@ module _ (rows text : List ℕ) where
   no-key i k h n = rw (h, ne-eqb k KEY n)
 
   -- the words of a leaf's row
-  pub leaf-kind : (r p x k a e : ℕ) (s : List ℕ) → Stands rows (width * r) (leafRow r p x k a e s) → getD rows (width * r) 0 ≡ k
+  pub leaf-kind : (r p x k a e : ℕ) (s : List ℕ) → Stands rows (width * r) (leafRow unlined r p x k a e s) → getD rows (width * r) 0 ≡ k
   leaf-kind r p x k a e s h = by (leb k TRUE) refl
     where
       by : (c : Bool) → leb k TRUE ≡ c → getD rows (width * r) 0 ≡ k
       by true z =
-          let y : Stands rows (width * r) (rowList k a e 0 0 p (r + 1)) = rw z at h in
-          ap (λ (j : ℕ). getD rows j 0) (sym (add-zero (width * r))) ∙ stands-word rows (width * r) (rowList k a e 0 0 p (r + 1)) 0 (omega arith) y
+          let y : Stands rows (width * r) (rowList unlined k a e 0 0 p (r + 1)) = rw z at h in
+          ap (λ (j : ℕ). getD rows j 0) (sym (add-zero (width * r))) ∙ stands-word rows (width * r) (rowList unlined k a e 0 0 p (r + 1)) 0 (omega arith) y
       by false z =
-          let y : Stands rows (width * r) (rowList k a e x (x + length s) p (r + 1)) = rw z at h in
-          ap (λ (j : ℕ). getD rows j 0) (sym (add-zero (width * r))) ∙ stands-word rows (width * r) (rowList k a e x (x + length s) p (r + 1)) 0 (omega arith) y
+          let y : Stands rows (width * r) (rowList unlined k a e x (x + length s) p (r + 1)) = rw z at h in
+          ap (λ (j : ℕ). getD rows j 0) (sym (add-zero (width * r))) ∙ stands-word rows (width * r) (rowList unlined k a e x (x + length s) p (r + 1)) 0 (omega arith) y
 
-  pub key-word : (r p x k a e : ℕ) (s : List ℕ) → k ≡ KEY → Stands rows (width * r) (leafRow r p x k a e s) → (j : ℕ) → j < width
-      → getD rows (width * r + j) 0 ≡ getD (rowList KEY a e x (x + length s) p (r + 1)) j 0
+  pub key-word : (r p x k a e : ℕ) (s : List ℕ) → k ≡ KEY → Stands rows (width * r) (leafRow unlined r p x k a e s) → (j : ℕ) → j < width
+      → getD rows (width * r + j) 0 ≡ getD (rowList unlined KEY a e x (x + length s) p (r + 1)) j 0
   key-word r p x k a e s q h j l =
-      let y : Stands rows (width * r) (rowList KEY a e x (x + length s) p (r + 1)) = subst (λ (j : ℕ). Stands rows (width * r) (leafRow r p x j a e s)) q h in
-      stands-word rows (width * r) (rowList KEY a e x (x + length s) p (r + 1)) j l y
+      let y : Stands rows (width * r) (rowList unlined KEY a e x (x + length s) p (r + 1)) = subst (λ (j : ℕ). Stands rows (width * r) (leafRow unlined r p x j a e s)) q h in
+      stands-word rows (width * r) (rowList unlined KEY a e x (x + length s) p (r + 1)) j l y
 
   -- the row of a leaf
-  leaf-row : (r p x k a e : ℕ) (s : List ℕ) → Stands rows (width * r) (leafRow r p x k a e s) → Stands text x s
+  leaf-row : (r p x k a e : ℕ) (s : List ℕ) → Stands rows (width * r) (leafRow unlined r p x k a e s) → Stands text x s
       → keyRow rows text r ≡ pick (eqb k KEY) (named p a s ∷ []) []
   unfolding keyRow
   leaf-row r p x k a e s h t = by (eqb k KEY) refl
@@ -97,21 +97,21 @@ module _ (rows text : List ℕ) where
     unfolding flat listed size rowsOf textOf
 
     -- THE ROWS OF A TREE name its keys
-    pub listed-tree : (r p x : ℕ) (t : Tree) → Sound t → Stands rows (width * r) (rowsOf r p x t) → Stands text x (textOf t) → listed (size t) r rows text ≡ flat r p t
+    pub listed-tree : (r p x : ℕ) (t : Tree) → Sound t → Stands rows (width * r) (rowsOf unlined r p x t) → Stands text x (textOf t) → listed (size t) r rows text ≡ flat r p t
     listed-tree r p x (leaf k a e s) sound-leaf h t = append-nil (keyRow rows text r) ∙ leaf-row r p x k a e (s .bytes) h t
     listed-tree r p x (node k a e c ts) (sound-node n m) h t =
-        let w = rowList k a e 0 c p (r + 1 + sizes ts) in
-        let y : getD rows (width * r) 0 ≡ k = ap (λ (j : ℕ). getD rows j 0) (sym (add-zero (width * r))) ∙ stands-word rows (width * r) w 0 (omega arith) (stands-left rows (width * r) w (rowss (r + 1) r x ts) h) in
-        let z : Stands rows (width * (r + 1)) (rowss (r + 1) r x ts) = subst (λ (j : ℕ). Stands rows j (rowss (r + 1) r x ts)) (omega arith) (stands-right rows (width * r) w (rowss (r + 1) r x ts) h) in
+        let w = rowList unlined k a e 0 c p (r + 1 + sizes ts) in
+        let y : getD rows (width * r) 0 ≡ k = ap (λ (j : ℕ). getD rows j 0) (sym (add-zero (width * r))) ∙ stands-word rows (width * r) w 0 (omega arith) (stands-left rows (width * r) w (rowss unlined (r + 1) r x ts) h) in
+        let z : Stands rows (width * (r + 1)) (rowss unlined (r + 1) r x ts) = subst (λ (j : ℕ). Stands rows j (rowss unlined (r + 1) r x ts)) (omega arith) (stands-right rows (width * r) w (rowss unlined (r + 1) r x ts) h) in
         rw (no-key r k y n) (ap (λ (j : ℕ). listed (sizes ts) j rows text) (omega arith) ∙ listed-trees (r + 1) r x ts m z t)
 
-    pub listed-trees : (r p x : ℕ) (ts : Forest) → Sounds ts → Stands rows (width * r) (rowss r p x ts) → Stands text x (textsOf ts) → listed (sizes ts) r rows text ≡ flats r p ts
+    pub listed-trees : (r p x : ℕ) (ts : Forest) → Sounds ts → Stands rows (width * r) (rowss unlined r p x ts) → Stands text x (textsOf ts) → listed (sizes ts) r rows text ≡ flats r p ts
     listed-trees r p x none sound-none h t = refl
     listed-trees r p x (more u us) (sound-more m n) h t =
-        let w = rowsOf r p x u in
-        let v = rowss (r + size u) p (x + length (textOf u)) us in
+        let w = rowsOf unlined r p x u in
+        let v = rowss unlined (r + size u) p (x + length (textOf u)) us in
         let z : Stands rows (width * (r + size u)) v =
-        subst (λ (j : ℕ). Stands rows j v) (omega (arith, length-rows r p x u)) (stands-right rows (width * r) w v h) in
+        subst (λ (j : ℕ). Stands rows j v) (omega (arith, length-rows unlined r p x u)) (stands-right rows (width * r) w v h) in
         listed-add (size u) (sizes us) r rows text
         ∙ (ap (λ (l : List Named). l ++ listed (sizes us) (r + size u) rows text) (listed-tree r p x u m (stands-left rows (width * r) w v h) (stands-left text x (textOf u) (textsOf us) t))
         ∙ ap (λ (l : List Named). flat r p u ++ l) (listed-trees (r + size u) p (x + length (textOf u)) us n z (stands-right text x (textOf u) (textsOf us) t)))

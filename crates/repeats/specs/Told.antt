@@ -8,7 +8,7 @@ use native.Mathlib.Decide.{decLt}
 use lib.ListN.{length, getD, take, drop, length-append, length-take}
 use lib.Seq.{sets, sets-eq, drop-at}
 use Rattle.language.specs.Kind.{KEY}
-use Rattle.language.specs.Tree.{Decoded, Tree, leaf, node, Forest, none, more, width, size, sizes, textOf, textsOf, rowList, rowsOf, rowss, Repeats}
+use Rattle.language.specs.Tree.{unlined, Decoded, Tree, leaf, node, Forest, none, more, width, size, sizes, textOf, textsOf, rowList, rowsOf, rowss, Repeats}
 use Rattle.language.specs.Answered.{limit}
 use Rattle.spans.specs.Formed.{Sound, sound-leaf, sound-node, Sounds, sound-none, sound-more}
 use Rattle.rooms.specs.Forest.{length-rows}
@@ -35,7 +35,7 @@ module _ (rows text : List ℕ) where
     ordered : fromOf rows k ≤ toOf rows k
     fits : toOf rows k ≤ length text
 
-  leaf-within : (r p x k a e : ℕ) (s : Decoded) → Stands rows (width * r) (rowsOf r p x (leaf k a e s)) → x + length (s .bytes) ≤ length text → kindOf rows r ≡ KEY → Within r
+  leaf-within : (r p x k a e : ℕ) (s : Decoded) → Stands rows (width * r) (rowsOf unlined r p x (leaf k a e s)) → x + length (s .bytes) ≤ length text → kindOf rows r ≡ KEY → Within r
   unfolding rowsOf
   leaf-within r p x k a e s h l m =
       let w = key-word rows text r p x k a e (s .bytes) (sym (leaf-kind rows text r p x k a e (s .bytes) h) ∙ m) h in
@@ -44,26 +44,26 @@ module _ (rows text : List ℕ) where
   mutual
     unfolding size rowsOf textOf
 
-    within : (r p x : ℕ) (t : Tree) → Sound t → Stands rows (width * r) (rowsOf r p x t) → x + length (textOf t) ≤ length text
+    within : (r p x : ℕ) (t : Tree) → Sound t → Stands rows (width * r) (rowsOf unlined r p x t) → x + length (textOf t) ≤ length text
         → (k : ℕ) → r ≤ k → k < r + size t → kindOf rows k ≡ KEY → Within k
     within r p x (leaf k a e s) sound-leaf h l i g f m =
         let z : i ≡ r = omega arith in
         subst Within (sym z) (leaf-within r p x k a e s h l (ap (kindOf rows) (sym z) ∙ m))
     within r p x (node k a e c ts) (sound-node n u) h l i g f m =
-        let w = rowList k a e 0 c p (r + 1 + sizes ts) in
-        let y : kindOf rows r ≡ k = ap (λ (j : ℕ). getD rows j 0) (sym (add-zero (width * r))) ∙ stands-word rows (width * r) w 0 (omega arith) (stands-left rows (width * r) w (rowss (r + 1) r x ts) h) in
-        let z : Stands rows (width * (r + 1)) (rowss (r + 1) r x ts) = subst (λ (j : ℕ). Stands rows j (rowss (r + 1) r x ts)) (omega arith) (stands-right rows (width * r) w (rowss (r + 1) r x ts) h) in
+        let w = rowList unlined k a e 0 c p (r + 1 + sizes ts) in
+        let y : kindOf rows r ≡ k = ap (λ (j : ℕ). getD rows j 0) (sym (add-zero (width * r))) ∙ stands-word rows (width * r) w 0 (omega arith) (stands-left rows (width * r) w (rowss unlined (r + 1) r x ts) h) in
+        let z : Stands rows (width * (r + 1)) (rowss unlined (r + 1) r x ts) = subst (λ (j : ℕ). Stands rows j (rowss unlined (r + 1) r x ts)) (omega arith) (stands-right rows (width * r) w (rowss unlined (r + 1) r x ts) h) in
         let b : i ≡ r → ⊥ = λ q. n (sym y ∙ (ap (kindOf rows) (sym q) ∙ m)) in
         withins (r + 1) r x ts u z l i (omega (arith, b)) (omega arith) m
 
-    withins : (r p x : ℕ) (ts : Forest) → Sounds ts → Stands rows (width * r) (rowss r p x ts) → x + length (textsOf ts) ≤ length text
+    withins : (r p x : ℕ) (ts : Forest) → Sounds ts → Stands rows (width * r) (rowss unlined r p x ts) → x + length (textsOf ts) ≤ length text
         → (k : ℕ) → r ≤ k → k < r + sizes ts → kindOf rows k ≡ KEY → Within k
     withins r p x none sound-none h l i g f m = absurd (omega arith)
     withins r p x (more t ts) (sound-more u v) h l i g f m =
-        let a = rowsOf r p x t in
-        let b = rowss (r + size t) p (x + length (textOf t)) ts in
+        let a = rowsOf unlined r p x t in
+        let b = rowss unlined (r + size t) p (x + length (textOf t)) ts in
         let d : length (textOf t ++ textsOf ts) ≡ length (textOf t) + length (textsOf ts) = length-append (textOf t) (textsOf ts) in
-        let z : Stands rows (width * (r + size t)) b = subst (λ (j : ℕ). Stands rows j b) (omega (arith, length-rows r p x t)) (stands-right rows (width * r) a b h) in
+        let z : Stands rows (width * (r + size t)) b = subst (λ (j : ℕ). Stands rows j b) (omega (arith, length-rows unlined r p x t)) (stands-right rows (width * r) a b h) in
         by
         (decLt i (r + size t))
         (λ q. within r p x t u (stands-left rows (width * r) a b h) (omega arith) i g q m)
@@ -73,9 +73,9 @@ module _ (rows text : List ℕ) where
         by (yes q) one others = one q
         by (no q) one others = others (omega arith)
 
-  module _ (t : Tree) (sound : Sound t) (h : Stands rows 0 (rowsOf 0 0 0 t)) (k : Stands text 0 (textOf t)) where
+  module _ (t : Tree) (sound : Sound t) (h : Stands rows 0 (rowsOf unlined 0 0 0 t)) (k : Stands text 0 (textOf t)) where
     rows-long : width * size t ≤ length rows
-    rows-long = omega (arith, ap length (h .is), length-append (rowsOf 0 0 0 t) (h .rest), length-rows 0 0 0 t)
+    rows-long = omega (arith, ap length (h .is), length-append (rowsOf unlined 0 0 0 t) (h .rest), length-rows unlined 0 0 0 t)
 
     text-long : 0 + length (textOf t) ≤ length text
     text-long = omega (arith, ap length (k .is), length-append (textOf t) (k .rest))

@@ -7,7 +7,7 @@ use lib.Seq.{sets}
 use Rattle.exact.specs.Out.{Out, ok, soft, bad}
 use Rattle.exact.specs.Lines.{reached}
 use Rattle.exact.specs.Place.{peek}
-use Rattle.language.specs.Tree.{Tree, after, width, size, textOf, escapesOf, rowsOf}
+use Rattle.language.specs.Tree.{unlined, Tree, after, width, size, textOf, escapesOf, rowsOf}
 use Rattle.language.specs.Answered.{limit, deepest}
 use Rattle.rooms.specs.Told.{spot, tally}
 use Rattle.rooms.specs.declared.Cursor.{Cursor}
@@ -63,7 +63,7 @@ pub record Span (doc : List ℕ) (c n : Cursor) (t : Tree) : Type 0 where
 
 -- and what the rooms hold, as far as they reach,
 pub record Filled (c : Cursor) (parent : ℕ) (t : Tree) (rows rows' text text' : List ℕ) : Type 0 where
-  pub table : rows' ≡ sets rows (width * c .row) (rowsOf (c .row) parent (spot (c .text)) t)
+  pub table : rows' ≡ sets rows (width * c .row) (rowsOf unlined (c .row) parent (spot (c .text)) t)
   pub room : text' ≡ sets text (spot (c .text)) (textOf t)
 
 -- where the reader's answer o is that tree, and what is left from n on; what is longer stays viable up to far, 0 for nowhere

@@ -15,7 +15,7 @@ use Rattle.exact.specs.Comb.{altR}
 use Rattle.exact.specs.Lines.{reached}
 use Rattle.exact.specs.Place.{peek, getD-any, alt-is, alt-not}
 use Rattle.language.specs.Kind.{TRUE}
-use Rattle.language.specs.Tree.{Decoded, unescaped, Tree, leaf, width, size, textOf, escapesOf, rowsOf, rowList}
+use Rattle.language.specs.Tree.{unlined, Decoded, unescaped, Tree, leaf, width, size, textOf, escapesOf, rowsOf, rowList}
 use Rattle.rooms.specs.Told.{ESCAPE, spot, tally, told, spot-on, tally-on}
 use Rattle.rooms.specs.declared.Cursor.{Cursor}
 use Rattle.rooms.specs.declared.Step.{Step}
@@ -141,7 +141,7 @@ module _ (doc : List ℕ) (c : Cursor) (p : ℕ) (o : Out Tree) (R R' T T' : Lis
 
 module _ (doc : List ℕ) (c : Cursor) (p : ℕ) (o : Out Tree) (k e far : ℕ) (ahead : c .at < e) (inside : e ≤ length doc) (R R' T T' : List ℕ) where
   pub leaf-text : (s : Decoded) → Ready doc c → o ≡ reached far (leaf k (c .at) e s) e (drop e doc) → TRUE < k → c .at + length (s .bytes) ≤ e → c .at + s .escapes ≤ e
-      → R' ≡ sets R (width * c .row) (rowList k (c .at) e (spot (c .text)) (spot (c .text) + length (s .bytes)) p (c .row + 1)) → T' ≡ sets T (spot (c .text)) (s .bytes)
+      → R' ≡ sets R (width * c .row) (rowList unlined k (c .at) e (spot (c .text)) (spot (c .text) + length (s .bytes)) p (c .row + 1)) → T' ≡ sets T (spot (c .text)) (s .bytes)
       → Taken doc c p o (record { at = e; row = c .row + 1; text = c .text + told s }) far R R' T T'
   unfolding size textOf escapesOf rowsOf
   leaf-text s d h l f g r t =
@@ -164,7 +164,7 @@ module _ (doc : List ℕ) (c : Cursor) (p : ℕ) (o : Out Tree) (k e far : ℕ) 
         filled = record { table = rw z r; room = t };
       }
 
-  pub leaf-bare : o ≡ reached far (leaf k (c .at) e (unescaped [])) e (drop e doc) → k ≤ TRUE → R' ≡ sets R (width * c .row) (rowList k (c .at) e 0 0 p (c .row + 1)) → T' ≡ T
+  pub leaf-bare : o ≡ reached far (leaf k (c .at) e (unescaped [])) e (drop e doc) → k ≤ TRUE → R' ≡ sets R (width * c .row) (rowList unlined k (c .at) e 0 0 p (c .row + 1)) → T' ≡ T
       → Taken doc c p o (record { at = e; row = c .row + 1; text = c .text }) far R R' T T'
   unfolding size textOf escapesOf rowsOf
   leaf-bare h l r t =

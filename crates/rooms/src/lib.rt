@@ -2,11 +2,11 @@
 // rooms, and fill the rooms.
 ghost use mathlib.Core.Path.{_≡_};
 ghost use Prim.Native.Nat.{ℕ, _+_, _*_, _≤_, _<_, max};
-ghost use lib.ListN.{length, set, drop};
+ghost use lib.ListN.{length, set, take, drop};
 ghost use lib.Seq.{sets, slice};
 ghost use Rattle.exact.specs.Place.{peek, common};
 ghost use Rattle.exact.specs.Block.{lead};
-ghost use Rattle.language.specs.Tree.{width, rowList};
+ghost use Rattle.language.specs.Tree.{width, unlined, rowList};
 ghost use Rattle.rooms.specs.Told as told;
 ghost use Rattle.rooms.specs.Contract.{ample, Stepped, Takes, Small};
 use language::Kind;
@@ -80,7 +80,7 @@ impl Block {
     }
 }
 
-// The words of a row.
+// The words of a row but its line and column, which are told once all rows are read.
 pub struct Words {
     pub kind: u32,
     pub first: u32,
@@ -253,28 +253,40 @@ pub fn copy(doc: &[u8], a: usize, e: usize, text: &mut [u8], x: usize)
     copy_part(&*doc, a, e, text, x);
 }
 
-// The words of a row, where some may have no room.
-fn put_part(rows: &mut [u32], i: usize, w: Words)
-    requires { ⌜ i < width * ample ⌝ }
-    ensures { λ _. ⌜ now (rows .exit) ≡ sets (now (rows .entry)) i (rowList (w .kind) (w .first) (w .after) (w .from) (w .to) (w .parent) (w .next)) ⌝ }
+// The first n of these words from i on, where some may have no room. It calls itself before it stores, so that it is put into no caller: those stay small.
+fn put_part(rows: &mut [u32], i: usize, words: &[u32], n: usize)
+    requires { ⌜ (n ≤ length (now words)) × (i + n ≤ width * ample) ⌝ }
+    ensures { λ _. ⌜ now (rows .exit) ≡ sets (now (rows .entry)) i (take n (now (words .entry))) ⌝ }
 {
-    put(rows, i, w.kind);
-    put(rows, i + 1, w.first);
-    put(rows, i + 2, w.after);
-    put(rows, i + 3, w.from);
-    put(rows, i + 4, w.to);
-    put(rows, i + 5, w.parent);
-    put(rows, i + 6, w.next);
+    if n == 0 {
+        return;
+    }
+    let m = n - 1;
+    put_part(rows, i, words, m);
+    put(rows, i + m, words[m]);
 }
 
 // The words of a row: one test, then plain stores.
 pub fn put_row(rows: &mut [u32], row: usize, w: Words)
     requires { ⌜ row < ample ⌝ }
-    ensures { λ _. ⌜ now (rows .exit) ≡ sets (now (rows .entry)) (width * row) (rowList (w .kind) (w .first) (w .after) (w .from) (w .to) (w .parent) (w .next)) ⌝ }
+    ensures { λ _. ⌜ now (rows .exit) ≡ sets (now (rows .entry)) (width * row) (rowList unlined (w .kind) (w .first) (w .after) (w .from) (w .to) (w .parent) (w .next)) ⌝ }
 {
     let i = WIDTH * row;
     if rows.len() < i + WIDTH {
-        put_part(rows, i, w);
+        if i < rows.len() {
+            let words = [
+                w.kind,
+                w.first,
+                w.after,
+                w.from,
+                w.to,
+                w.parent,
+                w.next,
+                0,
+                0,
+            ];
+            put_part(rows, i, &words, WIDTH);
+        }
         return;
     }
     rows[i] = w.kind;
@@ -284,6 +296,8 @@ pub fn put_row(rows: &mut [u32], row: usize, w: Words)
     rows[i + 4] = w.to;
     rows[i + 5] = w.parent;
     rows[i + 6] = w.next;
+    rows[i + 7] = 0;
+    rows[i + 8] = 0;
 }
 
 // The words of a row of numbers that fit.

@@ -1,13 +1,15 @@
 -- ROWS STAND IN THE ORDER OF THEIR FIRST BYTES: each row of a document begins where the row before it does or later, and before the document's end (01, What the reader
 -- takes and gives). Assumes nothing.
-use mathlib.Core.Path.{_≡_, refl}
+use mathlib.Core.Path.{_≡_, refl, sym, ap, subst, _∙_}
 use mathlib.Core.List.{List, [], _∷_, _++_}
-use Prim.Native.Nat.{ℕ, zero, suc, _+_, _≤_, _<_}
+use Prim.Native.Nat.{ℕ, zero, suc, _+_, _-_, _≤_, _<_}
 use native.Mathlib.Omega.{arith}
-use lib.ListN.{length, getD, length-append}
+use native.Mathlib.Decide.{decLe}
+use lib.ListN.{length, getD, length-append, List·getD-append}
+use lib.Seq.{getD-append-add}
 use Rattle.language.specs.Tree.{Tree, leaf, node, Forest, none, more, first, after, size, sizes}
 use Rattle.language.specs.Document.{Document}
-use Rattle.spans.specs.Placed.{Placed, Along, placed-leaf, placed-node, along-none, along-more, along-le, span-some, itself}
+use Rattle.spans.specs.Placed.{Placed, Along, placed-leaf, placed-node, along-none, along-more, along-le, span-some, Among, among-first, among-later, child, Within, itself, below}
 use Rattle.spans.specs.Document.{placed, in-document}
 
 -- the first bytes of a tree's rows, in row order
@@ -31,6 +33,31 @@ mutual
   pub length-firstsIn : (ts : Forest) → length (firstsIn ts) ≡ sizes ts
   length-firstsIn none = refl
   length-firstsIn (more t ts) = omega (arith, length-firsts t, length-firstsIn ts, length-append (firsts t) (firstsIn ts))
+
+-- what holds of each number of two lists holds of each of the one behind the other
+in-either : (P : ℕ → Type 0) (ms ns : List ℕ) → ((i : ℕ) → i < length ms → P (getD ms i 0)) → ((i : ℕ) → i < length ns → P (getD ns i 0)) → (i : ℕ) → i < length ms + length ns → P (getD (ms ++ ns) i 0)
+in-either P ms ns f g i l = by (decLe (length ms) i)
+  where
+    by : Dec (length ms ≤ i) → P (getD (ms ++ ns) i 0)
+    by (yes h) = let j = i - length ms in subst P (sym (getD-append-add ms ns j 0) ∙ ap (λ (y : ℕ). getD (ms ++ ns) y 0) (omega arith)) (g j (omega arith))
+    by (no h) = subst P (sym (List·getD-append ms ns 0 i (omega arith))) (f i (omega arith))
+
+-- each of them is the first byte of a tree that stands there
+mutual
+  unfolding firsts size
+
+  pub firsts-within : (P : ℕ → Type 0) (t : Tree) → ((u : Tree) → Within u t → P (first u)) → (i : ℕ) → i < size t → P (getD (firsts t) i 0)
+  firsts-within P (leaf k a e s) f zero l = f (leaf k a e s) itself
+  firsts-within P (leaf k a e s) f (suc i) l = absurd (omega arith)
+  firsts-within P (node k a e c ts) f zero l = f (node k a e c ts) itself
+  firsts-within P (node k a e c ts) f (suc i) l = firsts-among P ts (λ t m u w. f u (below (child m) w)) i (omega arith)
+
+  firsts-among : (P : ℕ → Type 0) (ts : Forest) → ((t : Tree) → Among t ts → (u : Tree) → Within u t → P (first u)) → (i : ℕ) → i < sizes ts → P (getD (firstsIn ts) i 0)
+  firsts-among P none f i l = absurd (omega arith)
+  firsts-among P (more t ts) f i l =
+      let n = length-firsts t in
+      let m = length-firstsIn ts in
+      in-either P (firsts t) (firstsIn ts) (λ j g. firsts-within P t (f t among-first) j (omega arith)) (λ j g. firsts-among P ts (λ v w. f v (among-later w)) j (omega arith)) i (omega arith)
 
 -- each number is at least the one before it, the first at least lo, and all are below hi
 pub data Rising : ℕ → List ℕ → ℕ → Type 0 where

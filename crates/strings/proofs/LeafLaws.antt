@@ -11,7 +11,7 @@ use Rattle.exact.specs.Out.{Out, bind, Reader}
 use Rattle.exact.specs.Lang.{retR}
 use Rattle.exact.specs.Place.{peek, alt-is, alt-not}
 use Rattle.language.specs.Kind.{TRUE, STRING}
-use Rattle.language.specs.Tree.{Decoded, leaf, width, rowList}
+use Rattle.language.specs.Tree.{unlined, Decoded, leaf, width, rowList}
 use Rattle.rooms.specs.Told.{spot, told}
 use Rattle.rooms.specs.declared.Cursor.{Cursor}
 use Rattle.rooms.specs.declared.Words.{Words}
@@ -48,7 +48,7 @@ pub ruleset quotes = (is-double, is-single, via-double-quote, via-single-quote, 
 -- ---- a row
 
 pub leafed : (c n : Cursor) (p k : ℕ) (x y : ℕ) (w : Words) (R R' : List ℕ) → x ≡ spot (c .text) → y ≡ spot (n .text) → w ≡ record { kind = k; first = c .at; after = n .at; from = x; to = y; parent = p; next = c .row + 1 }
-    → R' ≡ sets R (width * c .row) (rowList (w .kind) (w .first) (w .after) (w .from) (w .to) (w .parent) (w .next))
+    → R' ≡ sets R (width * c .row) (rowList unlined (w .kind) (w .first) (w .after) (w .from) (w .to) (w .parent) (w .next))
     → Leafed c n p k (record { at = n .at; row = c .row + 1; text = n .text }) R R'
 leafed c n p k x y w R R' a b e h =
     record { cursor = refl; table = rw (e, a, b) at h }

@@ -10,7 +10,7 @@ use Rattle.exact.specs.Class.{pick, Class, is}
 use Rattle.exact.specs.Out.{Reader, ok, bad, fmap}
 use Rattle.exact.specs.Place.{peek}
 use Rattle.language.specs.Characters.{utf8}
-use Rattle.language.specs.Tree.{Decoded, unescaped, _then_, width, rowList}
+use Rattle.language.specs.Tree.{unlined, Decoded, unescaped, _then_, width, rowList}
 use Rattle.utf8.specs.Utf8.{charR}
 use Rattle.characters.specs.declared.Read.{Read}
 use Rattle.characters.specs.declared.Read.the-variants.{Scalar, Not}
@@ -94,4 +94,4 @@ pub record Close (c n : Cursor) : Type 0 where
 -- the row of a text that was read from c up to n, and the cursor behind it
 pub record Leafed (c n : Cursor) (parent kind : ℕ) (r : Cursor) (rows rows' : List ℕ) : Type 0 where
   pub cursor : r ≡ record { at = n .at; row = c .row + 1; text = n .text }
-  pub table : rows' ≡ sets rows (width * c .row) (rowList kind (c .at) (n .at) (spot (c .text)) (spot (n .text)) parent (c .row + 1))
+  pub table : rows' ≡ sets rows (width * c .row) (rowList unlined kind (c .at) (n .at) (spot (c .text)) (spot (n .text)) parent (c .row + 1))

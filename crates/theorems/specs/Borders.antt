@@ -9,6 +9,7 @@ use lib.Signed.{ltZ}
 use Rattle.language.specs.Kind.{INTEGER, ARRAY, OBJECT, KEY}
 use Rattle.language.specs.Tree.{unescaped, Tree, leaf, node, none, more, width, size, sizes, textOf, textsOf, rowsOf, rowss, Repeats, inside, again, has-here, has-later}
 use Rattle.language.specs.Document.{Document}
+use Rattle.language.specs.Lines.{lineOf, columnOf, feeds, characters, lastLine}
 use Rattle.language.specs.Answered.{limit, deepest, SYNTAX, END, REPEAT, Stops, Answered, accepted, stopped, repeated}
 use Rattle.utf8.specs.Told.{Answer as Judgement, given, refused-syntax, refused-end}
 use Rattle.language.specs.Scalars.{plain, minus}
@@ -71,7 +72,7 @@ table =
     ∷ refuses (49 ∷ []) END 1
     -- P3: `[1, 22]⏎`
     ∷ gives (91 ∷ 49 ∷ 44 ∷ 32 ∷ 50 ∷ 50 ∷ 93 ∷ 10 ∷ []) 3
-    (8 ∷ 0 ∷ 7 ∷ 0 ∷ 2 ∷ 0 ∷ 3 ∷ 4 ∷ 1 ∷ 2 ∷ 0 ∷ 1 ∷ 0 ∷ 2 ∷ 4 ∷ 4 ∷ 6 ∷ 1 ∷ 3 ∷ 0 ∷ 3 ∷ [])
+    (8 ∷ 0 ∷ 7 ∷ 0 ∷ 2 ∷ 0 ∷ 3 ∷ 1 ∷ 1 ∷ 4 ∷ 1 ∷ 2 ∷ 0 ∷ 1 ∷ 0 ∷ 2 ∷ 1 ∷ 2 ∷ 4 ∷ 4 ∷ 6 ∷ 1 ∷ 3 ∷ 0 ∷ 3 ∷ 1 ∷ 5 ∷ [])
     (49 ∷ 50 ∷ 50 ∷ [])
     -- P4: `[1,2]⏎`
     ∷ refuses (91 ∷ 49 ∷ 44 ∷ 50 ∷ 93 ∷ 10 ∷ []) SYNTAX 3
@@ -126,8 +127,8 @@ twice-two (twice-here x) = in-one x
 twice-two (twice-later (twice-here x)) = elim x [ ]
 twice-two (twice-later (twice-later x)) = elim x [ ]
 
-third : Says (gives (91 ∷ 49 ∷ 44 ∷ 32 ∷ 50 ∷ 50 ∷ 93 ∷ 10 ∷ []) 3 (8 ∷ 0 ∷ 7 ∷ 0 ∷ 2 ∷ 0 ∷ 3 ∷ 4 ∷ 1 ∷ 2 ∷ 0 ∷ 1 ∷ 0 ∷ 2 ∷ 4 ∷ 4 ∷ 6 ∷ 1 ∷ 3 ∷ 0 ∷ 3 ∷ []) (49 ∷ 50 ∷ 50 ∷ []))
-unfolding reading tree₃ size textOf rowsOf flat
+third : Says (gives (91 ∷ 49 ∷ 44 ∷ 32 ∷ 50 ∷ 50 ∷ 93 ∷ 10 ∷ []) 3 (8 ∷ 0 ∷ 7 ∷ 0 ∷ 2 ∷ 0 ∷ 3 ∷ 1 ∷ 1 ∷ 4 ∷ 1 ∷ 2 ∷ 0 ∷ 1 ∷ 0 ∷ 2 ∷ 1 ∷ 2 ∷ 4 ∷ 4 ∷ 6 ∷ 1 ∷ 3 ∷ 0 ∷ 3 ∷ 1 ∷ 5 ∷ []) (49 ∷ 50 ∷ 50 ∷ []))
+unfolding reading tree₃ size textOf rowsOf flat lineOf columnOf feeds characters lastLine
 third table text l m =
     accepted tree₃ (record { short = omega arith; word = has-tree _ tree₃ refl; once = λ p x. none-twice p (repeats-twice 0 0 tree₃ x) }) l m
   where

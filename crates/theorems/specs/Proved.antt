@@ -25,7 +25,9 @@ use Rattle.spans.specs.Placed.{Within, Child, Siblings, Inside}
 use Rattle.spans.specs.Rising.{Rising, firsts, document-rises}
 use Rattle.spans.specs.Document as documents
 use Rattle.spans.specs.Begins as begins
-use Rattle.found.specs.Spans.{RowSpans, firstByte}
+use Rattle.found.specs.Spans.{RowSpans}
+use Rattle.lined.specs.Lined.{firstByte}
+use Rattle.found.specs.Firsts.{rowLine, rowColumn}
 use Rattle.found.specs.Read as found
 use Rattle.promise.specs.Unique as unique
 use Rattle.promise.specs.Refusals as refusals
@@ -164,6 +166,11 @@ rows-rise-in-table doc table text table′ text′ n m x r q l h = found.rise-in
 -- BEGINNINGS: every tree of a document, at any depth, keys too, begins with an ASCII byte, and so its span with a whole character
 pub begins-ascii : (k : ℕ) (doc : List ℕ) (t : Tree) → Document k doc t → (u : Tree) → Within u t → getD doc (first u) 128 < 128
 begins-ascii = begins.begins-ascii
+
+-- LINES LEAD BACK to the first byte: two rows of equal line and column start at the same byte
+pub lines-back : (doc table text table′ text′ : List ℕ) (n m : ℕ) → Answered doc table text 0 n m table′ text′ → (r q : ℕ) → r < n → q < n
+    → rowLine table′ r ≡ rowLine table′ q → rowColumn table′ r ≡ rowColumn table′ q → firstByte table′ r ≡ firstByte table′ q
+lines-back doc table text table′ text′ n m x r q l h e f = found.back-in-table x r q l h e f
 
 -- FINDING in the table that is filled for an accepted document answers the value of the key in that object, exactly if the object has the key
 pub find-exactly : (doc table text table′ text′ : List ℕ) (n m : ℕ) → Answered doc table text 0 n m table′ text′ → (t : Tree) → Document deepest doc t

@@ -8,6 +8,7 @@ use Rattle.language.specs.declared.Answer.{Answer}
 use Rattle.language.specs.declared.Answer.the-variants.{Accepted}
 use Rattle.language.specs.Kind.{INTEGER, STRING}
 use Rattle.language.specs.Tree.{unescaped, escaped, Tree, leaf, width, size, textOf, escapesOf, rowsOf}
+use Rattle.language.specs.Lines.{lineOf, columnOf, feeds, characters, lastLine}
 use Rattle.language.specs.Answered.{CHAR, SYNTAX, END, ROWS, number, value, second, third, Reads, Answered, accepted, rows, Totals, total}
 use Rattle.utf8.specs.Told.{given, refused-syntax, refused-end}
 use Rattle.repeats.specs.Flat.{flat, Twice}
@@ -39,8 +40,8 @@ one = 49 ∷ 10 ∷ []
 tree₁ : Tree
 tree₁ = leaf INTEGER 0 1 (unescaped (49 ∷ []))
 
-seven : List ℕ
-seven = 0 ∷ 0 ∷ 0 ∷ 0 ∷ 0 ∷ 0 ∷ 0 ∷ []
+nine : List ℕ
+nine = 0 ∷ 0 ∷ 0 ∷ 0 ∷ 0 ∷ 0 ∷ 0 ∷ 0 ∷ 0 ∷ []
 
 reads-one : Reads one tree₁
 unfolding tree₁ reading flat
@@ -49,8 +50,8 @@ reads-one = record { short = omega arith; word = has-tree _ tree₁ refl; once =
     never : (p : ℕ) → Twice p (flat 0 0 tree₁) → ⊥
     never p x = elim x [ ]
 
-one-given : Answered one seven (0 ∷ []) 0 1 1 (4 ∷ 0 ∷ 1 ∷ 0 ∷ 1 ∷ 0 ∷ 1 ∷ []) (49 ∷ [])
-unfolding tree₁ seven size textOf rowsOf
+one-given : Answered one nine (0 ∷ []) 0 1 1 (4 ∷ 0 ∷ 1 ∷ 0 ∷ 1 ∷ 0 ∷ 1 ∷ 1 ∷ 1 ∷ []) (49 ∷ [])
+unfolding tree₁ nine size textOf rowsOf lineOf columnOf feeds characters lastLine
 one-given = accepted tree₁ reads-one (omega arith) (omega arith)
 
 one-needs : Answered one [] [] ROWS 1 0 [] []
@@ -81,8 +82,8 @@ reads-feed = record { short = omega arith; word = has-tree _ tree₂ refl; once 
     never : (p : ℕ) → Twice p (flat 0 0 tree₂) → ⊥
     never p x = elim x [ ]
 
-feed-given : Answered feed seven (0 ∷ []) 0 1 1 (6 ∷ 0 ∷ 4 ∷ 0 ∷ 1 ∷ 0 ∷ 1 ∷ []) (10 ∷ [])
-unfolding tree₂ seven size textOf rowsOf
+feed-given : Answered feed nine (0 ∷ []) 0 1 1 (6 ∷ 0 ∷ 4 ∷ 0 ∷ 1 ∷ 0 ∷ 1 ∷ 1 ∷ 1 ∷ []) (10 ∷ [])
+unfolding tree₂ nine size textOf rowsOf lineOf columnOf feeds characters lastLine
 feed-given = accepted tree₂ reads-feed (omega arith) (omega arith)
 
 feed-total : Totals feed 0 1
@@ -103,17 +104,17 @@ module _ (r : Reader) (m : Meets r) where
 
   -- "a reader that refuses everything"
   pub not-refuses-all : ((doc table text : List ℕ) → number (r doc table text .answer) ≡ 0 → ⊥) → ⊥
-  not-refuses-all w = w one seven (0 ∷ []) (must one-given .0)
+  not-refuses-all w = w one nine (0 ∷ []) (must one-given .0)
 
   -- "one that always answers the tree of `1`", whatever it says where the rooms are too small for that: ROWS and TEXT too
   pub not-always-one : ((doc table text : List ℕ) → width ≤ length table → 1 ≤ length text → r doc table text .answer ≡ Accepted (record { 0 = 1 }) 1 0) → ⊥
-  unfolding seven
-  not-always-one w = omega (arith, ap number (w (49 ∷ []) seven (0 ∷ []) (omega arith) (omega arith)), must (cut seven (0 ∷ [])) .0)
+  unfolding nine
+  not-always-one w = omega (arith, ap number (w (49 ∷ []) nine (0 ∷ []) (omega arith) (omega arith)), must (cut nine (0 ∷ [])) .0)
 
   -- "one that counts but writes no rows"
   pub not-rowless : ((doc table text : List ℕ) → r doc table text .table ≡ table) → ⊥
-  unfolding seven
-  not-rowless w = let e = ap (λ (l : List ℕ). getD l 0 0) (sym (w one seven (0 ∷ [])) ∙ must one-given .2) in omega arith
+  unfolding nine
+  not-rowless w = let e = ap (λ (l : List ℕ). getD l 0 0) (sym (w one nine (0 ∷ [])) ∙ must one-given .2) in omega arith
 
   -- "one that puts every refusal at 0"
   pub not-at-zero : ((doc table text : List ℕ) → CHAR ≤ number (r doc table text .answer) → number (r doc table text .answer) ≤ END → value (r doc table text .answer) ≡ 0) → ⊥
@@ -131,4 +132,4 @@ module _ (r : Reader) (m : Meets r) where
 
   -- one that counts no escape: it accepts with the total 0
   pub not-uncounting : ((doc table text : List ℕ) → number (r doc table text .answer) ≡ 0 → third (r doc table text .answer) ≡ 0) → ⊥
-  not-uncounting w = omega (arith, w feed seven (0 ∷ []) (must feed-given .0), must-total feed-given feed-total)
+  not-uncounting w = omega (arith, w feed nine (0 ∷ []) (must feed-given .0), must-total feed-given feed-total)

@@ -3,7 +3,7 @@
 //! without the faults: `compare --soak [--seconds N] [--seed N] [--vectors FILE]`.
 
 use evidence::compare::run::{run, Difference, Limits};
-use evidence::compare::{faults, forms, Comparer, Tally};
+use evidence::compare::{faults, forms, places, Comparer, Tally};
 use evidence::documents::shrink::shrink;
 use evidence::proved::Proved;
 use evidence::{hex, vectors};
@@ -15,7 +15,7 @@ const KINDS: [&str; 10] = ["null", "false", "true", "integer", "float", "string"
 
 /// How many documents a run has.
 const DOCUMENTS: usize = 1_100_000;
-/// From so many on, it must have met every number, kind of row and form of backslash thousands of times.
+/// From so many on, it must have met every number, kind and place of rows and form of backslash thousands of times.
 const ENOUGH: usize = 1_000_000;
 const THOUSANDS: usize = 2_000;
 
@@ -88,12 +88,14 @@ fn report(tally: &Tally) -> bool {
     let numbers: Vec<_> = NUMBERS.into_iter().zip(tally.numbers).collect();
     let kinds: Vec<_> = KINDS.into_iter().zip(tally.kinds.into_iter().skip(1)).collect();
     let forms: Vec<_> = forms::NAMES.into_iter().zip(tally.forms).collect();
-    let all = numbers.iter().chain(&kinds).chain(&forms);
+    let places: Vec<_> = places::NAMES.into_iter().zip(tally.places).collect();
+    let all = numbers.iter().chain(&kinds).chain(&forms).chain(&places);
     let rare: Vec<_> = all.filter(|pair| pair.1 < THOUSANDS).copied().collect();
     let answers: usize = tally.numbers[..=8].iter().sum();
     println!("answers: {}", list(&numbers));
     println!("rows: {}", list(&kinds));
     println!("backslashes: {}", list(&forms));
+    println!("rows by place: {}", list(&places));
     println!(
         "the proved reader: {} documents, {answers} answers, {} questions, no difference",
         tally.documents, tally.asked

@@ -25,7 +25,7 @@ pub fn difference(
     for _ in 0..1 + rng.below(3) {
         spoil(&mut spoiled, rows, text.len(), rng);
     }
-    spoiled.truncate(words.len() - if rng.once_in(4) { rng.below(9).min(words.len()) } else { 0 });
+    spoiled.truncate(words.len() - if rng.once_in(4) { rng.below(WORDS + 2).min(words.len()) } else { 0 });
     let rows = if rng.once_in(3) { rng.below(rows + 3) } else { rows };
     let text = &text[..text.len() - if rng.once_in(4) { rng.below(text.len() + 1) } else { 0 }];
     one(questions, &Lent { table: &spoiled, rows, text }, rng, tally).or_else(|| integers(questions, &good, rng, tally))

@@ -1,6 +1,7 @@
 //! Deliberate faults in copies of the second reader, each of which the comparison has to find.
 
 mod escapes;
+mod places;
 
 use super::{Questions, Reader, Said, SecondQuestions};
 use crate::second::questions::{Lent, BADROW, NONE};
@@ -141,6 +142,7 @@ pub fn faults() -> Vec<(&'static str, Box<dyn Reader>)> {
     };
     let mut list: Vec<_> = FAULTS.iter().map(read).collect();
     list.extend(escapes::faults());
+    list.extend(places::faults());
     list.push((
         "integers are compared byte by byte",
         Box::new(FaultyQuestions { bytewise: true, second: Second::new() }),

@@ -1,7 +1,7 @@
 //! A run over streams of documents, each in a thread of its own, until one differs or the limits are reached.
 
 use super::stream::{Document, Stream};
-use super::{forms, Comparer, Reader, Tally};
+use super::{forms, places, Comparer, Reader, Tally};
 use crate::vectors::Vector;
 use std::sync::atomic::{AtomicBool, AtomicUsize, Ordering::Relaxed};
 use std::thread;
@@ -110,6 +110,9 @@ fn differs(reader: &mut dyn Reader, document: &Document, comparer: &mut Comparer
     }
     if second.as_ref().is_ok_and(|given| given.escapes != forms::total(doc, &given.words)) {
         return Some("the second reader counts other escapes than stand in the spans of its rows".into());
+    }
+    if second.as_ref().is_ok_and(|given| !places::agree(doc, &given.words)) {
+        return Some("the second reader counts another line or column than stands before a row".into());
     }
     comparer.difference(reader, doc, &second, *every_room, seed)
 }

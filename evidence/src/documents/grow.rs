@@ -6,7 +6,7 @@ mod values;
 
 use super::pieces::{self, Spelled};
 use super::Rng;
-use crate::second::{Given, Refusal, REPEAT};
+use crate::second::{Given, Refusal, REPEAT, WORDS};
 
 /// Numbers 1 to 6, or all that a document gives.
 pub type Meant = Result<Given, Refusal>;
@@ -32,8 +32,8 @@ pub fn grow_wide(rng: &mut Rng, size: usize, nesting: usize) -> Grown {
 
 fn grow_so(rng: &mut Rng, size: usize, nesting: usize, repeats: usize, wide: bool) -> Grown {
     let rich = rng.once_in(4);
-    let (doc, rows, text) = (Vec::new(), Vec::new(), Vec::new());
-    let mut grower = Grower { rng, size, doc, rows, text, escapes: 0, repeat: None, repeats, wide, rich };
+    let (doc, rows, text, (line, column)) = (Vec::new(), Vec::new(), Vec::new(), (1, 1));
+    let mut grower = Grower { rng, size, doc, line, column, rows, text, escapes: 0, repeat: None, repeats, wide, rich };
     grower.document(nesting);
     let Grower { doc, rows, text, escapes, repeat, .. } = grower;
     let meant = match repeat {
@@ -47,7 +47,10 @@ struct Grower<'r> {
     rng: &'r mut Rng,
     size: usize,
     doc: Vec<u8>,
-    rows: Vec<[u32; 7]>,
+    /// Those of the next character, counted as characters are written.
+    line: u32,
+    column: u32,
+    rows: Vec<[u32; WORDS]>,
     text: Vec<u8>,
     escapes: usize,
     repeat: Option<usize>,
@@ -59,16 +62,32 @@ struct Grower<'r> {
     rich: bool,
 }
 
+/// A place in the document as it grows.
+#[derive(Clone, Copy)]
+struct Here {
+    byte: usize,
+    line: u32,
+    column: u32,
+}
+
 /// The keys an object has so far.
 type Keys = Vec<Vec<u8>>;
 
 impl Grower<'_> {
     fn write(&mut self, text: &str) {
         self.doc.extend_from_slice(text.as_bytes());
+        for character in text.chars() {
+            (self.line, self.column) =
+                if character == '\n' { (self.line + 1, 1) } else { (self.line, self.column + 1) };
+        }
     }
 
     fn indent(&mut self, column: usize) {
-        self.doc.resize(self.doc.len() + column, b' ');
+        self.write(&" ".repeat(column));
+    }
+
+    fn here(&self) -> Here {
+        Here { byte: self.at(), line: self.line, column: self.column }
     }
 
     fn at(&self) -> usize {
@@ -80,17 +99,18 @@ impl Grower<'_> {
         self.doc.len() < self.size && (self.wide || !self.rng.once_in(8))
     }
 
-    fn leaf(&mut self, kind: u32, parent: usize, span: (usize, usize), text: &[u8]) {
+    fn leaf(&mut self, kind: u32, parent: usize, span: (Here, usize), text: &[u8]) {
         let from = self.text.len() as u32;
         self.text.extend_from_slice(text);
         let words = if kind <= 3 { (0, 0) } else { (from, self.text.len() as u32) };
         let next = self.rows.len() as u32 + 1;
-        self.rows.push([kind, span.0 as u32, span.1 as u32, words.0, words.1, parent as u32, next]);
+        let (Here { byte, line, column }, to) = span;
+        self.rows.push([kind, byte as u32, to as u32, words.0, words.1, parent as u32, next, line, column]);
     }
 
     fn open(&mut self, kind: u32, parent: usize) -> usize {
-        let from = self.at() as u32;
-        self.rows.push([kind, from, 0, 0, 0, parent as u32, 0]);
+        let Here { byte, line, column } = self.here();
+        self.rows.push([kind, byte as u32, 0, 0, 0, parent as u32, 0, line, column]);
         self.rows.len() - 1
     }
 
@@ -102,14 +122,14 @@ impl Grower<'_> {
 
     /// Writes a key and its row, and notes whether the object has it already.
     fn key(&mut self, object: usize, keys: &mut Keys) {
-        let from = self.at();
+        let from = self.here();
         let Spelled { written, meant, escapes } = self.new_key(keys);
         self.write(&written);
         self.escapes += escapes;
         let to = self.at();
         self.leaf(10, object, (from, to), &meant);
         if keys.contains(&meant) && self.repeat.is_none() {
-            self.repeat = Some(from);
+            self.repeat = Some(from.byte);
         }
         keys.push(meant);
     }

@@ -3,7 +3,7 @@
 /// A shape's name and how a document of about so many bytes is made.
 type Shape = (&'static str, fn(usize) -> Vec<u8>);
 
-pub const HOSTILE: [Shape; 44] = [
+pub const HOSTILE: [Shape; 47] = [
     ("32 KB of `- `", |size| filled("", "- ", "", size)),
     ("32 KB of `[`", |size| filled("", "[", "", size)),
     ("all spaces", |size| filled("", " ", "", size)),
@@ -22,6 +22,9 @@ pub const HOSTILE: [Shape; 44] = [
     ("one long integer of zeros", |size| filled("", "0", "\n", size)),
     ("one long float", |size| filled("1.", "7", "e1\n", size)),
     ("one long inline array", |size| filled("[1", ", 1", "]\n", size)),
+    ("values in one line behind a long string", |size| behind_text("s", size)),
+    ("values in one line behind non-ASCII text", |size| behind_text("é日😀", size)),
+    ("non-ASCII strings in one line", |size| filled("[1", ", \"é日😀\"", "]\n", size)),
     ("one long inline object", |size| numbered("{a: 1", ", k$: 1", "}\n", size)),
     ("one long line of bytes", |size| filled("<", "00 ", "00>\n", size)),
     ("one long comment", |size| filled("#", " c", "\n1\n", size)),
@@ -74,6 +77,12 @@ fn numbered(head: &str, piece: &str, tail: &str, size: usize) -> Vec<u8> {
     }
     doc.push_str(tail);
     doc.into_bytes()
+}
+
+/// A string of half the bytes, and small integers behind it in the same line.
+fn behind_text(piece: &str, size: usize) -> Vec<u8> {
+    let head = ["[\"", &piece.repeat(size / 2 / piece.len()), "\""].concat();
+    filled(&head, ", 1", "]\n", size)
 }
 
 /// One object inside 31 arrays of one element.

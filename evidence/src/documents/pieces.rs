@@ -3,8 +3,9 @@
 use super::Rng;
 
 /// Characters at the borders of what is allowed, and some that the grammar uses.
-const BORDERS: [char; 24] = [
+const BORDERS: [char; 25] = [
     '\u{A0}',
+    '\u{301}',
     '\u{7FF}',
     '\u{800}',
     '\u{FFF}',

@@ -14,10 +14,11 @@ macro_rules! alphabet {
 }
 
 /// `most` is set so that each walk has some hundred thousand documents.
-pub const ALPHABETS: [Alphabet; 18] = [
+pub const ALPHABETS: [Alphabet; 19] = [
     alphabet!("lines", 10, b"a" b":" b"-" b" " b"\n"),
     alphabet!("values", 7, b"1" b"-" b"." b"e" b" " b"\n" b":"),
     alphabet!("single quotes", 7, b"'" b"\\" b"k" b": " b"\xC3" b"\xA9" b"\xE2\x82" b"\xF0\x9F\x98" b"\xFF" b"\x7F" b"\x09" b"\n"),
+    alphabet!("places", 9, b"\"\xC3\xA9\"" b": " b":\n" b"  " b"- " b"#\xF0\x9F\x98\x80\n" b"[" b", " b"]" b"\n"),
     alphabet!("property numbers", 7, b"k: " b"1" b"-" b"." b"e+" b" " b"\n" b"#"),
     alphabet!("inline", 8, b"[" b"]" b"{" b"}" b"," b" " b"a" b":" b"1"),
     alphabet!("inline words", 7, b"[" b"]" b"{" b"}" b", " b"a: " b"1" b"-" b"\n"),

@@ -18,7 +18,7 @@ pub struct Lent<'a> {
 }
 
 impl<'a> Lent<'a> {
-    /// The seven words of a good row.
+    /// The words of a good row.
     fn row(&self, row: usize) -> Option<&'a [u32; WORDS]> {
         if row >= self.rows {
             return None;

@@ -19,14 +19,18 @@ pub const KEY: u32 = 10;
 const FEW: u32 = 8;
 
 /// Places in a row.
+pub const SPAN_FROM: usize = 1;
 const SPAN_TO: usize = 2;
 const TEXT_FROM: usize = 3;
 const TEXT_TO: usize = 4;
 const PARENT: usize = 5;
 const NEXT: usize = 6;
+pub const LINE: usize = 7;
+pub const COLUMN: usize = 8;
 
 #[derive(Default)]
 pub struct Tree {
+    /// Without their lines and columns, which are told at the end.
     pub rows: Vec<[u32; WORDS]>,
     pub text: Text,
     /// How many escapes were read; no quoted string is read twice.
@@ -50,7 +54,7 @@ impl Tree {
     #[inline(always)]
     pub fn word(&mut self, kind: u32, parent: u32, from: usize, to: usize) {
         let next = self.rows.len() as u32 + 1;
-        self.rows.push([kind, from as u32, to as u32, 0, 0, parent, next]);
+        self.rows.push([kind, from as u32, to as u32, 0, 0, parent, next, 0, 0]);
     }
 
     /// A row whose text is what was gathered from `text_from` on.
@@ -58,14 +62,14 @@ impl Tree {
     pub fn leaf(&mut self, kind: u32, parent: u32, from: usize, to: usize, text_from: usize) {
         let next = self.rows.len() as u32 + 1;
         let text = (text_from as u32, self.text.len() as u32);
-        self.rows.push([kind, from as u32, to as u32, text.0, text.1, parent, next]);
+        self.rows.push([kind, from as u32, to as u32, text.0, text.1, parent, next, 0, 0]);
     }
 
     /// The row of an array or object whose end is still to come.
     #[inline]
     pub fn open(&mut self, kind: u32, parent: u32, from: usize) -> u32 {
         let row = self.rows.len() as u32;
-        self.rows.push([kind, from as u32, 0, 0, 0, parent, 0]);
+        self.rows.push([kind, from as u32, 0, 0, 0, parent, 0, 0, 0]);
         row
     }
 

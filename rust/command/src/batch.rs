@@ -78,10 +78,10 @@ mod tests {
     #[test]
     fn a_line_for_each_document() {
         let input = [framed(b""), framed(b"null\n"), framed(b"[1, 22]\n"), framed(&[b'a'; 70_000])].concat();
-        let lines =
-            "no 5 0\nok 1 0 0 1,0,4,0,0,0,1 -\nok 3 3 0 8,0,7,0,2,0,3,4,1,2,0,1,0,2,4,4,6,1,3,0,3 313232\nno 1 0\n";
-        assert_eq!(answered(&input), (lines.into(), true));
-        assert_eq!(answered(&framed(b"\"a\\n\\u{41}\"\n")), ("ok 1 3 2 6,0,11,0,3,0,1 610a41\n".into(), true));
+        let rows = ["8,0,7,0,2,0,3,1,1", "4,1,2,0,1,0,2,1,2", "4,4,6,1,3,0,3,1,5"].join(",");
+        let lines = format!("no 5 0\nok 1 0 0 1,0,4,0,0,0,1,1,1 -\nok 3 3 0 {rows} 313232\nno 1 0\n");
+        assert_eq!(answered(&input), (lines, true));
+        assert_eq!(answered(&framed(b"\"a\\n\\u{41}\"\n")), ("ok 1 3 2 6,0,11,0,3,0,1,1,1 610a41\n".into(), true));
         assert_eq!(answered(b""), ("".into(), true));
     }
 

@@ -48,7 +48,7 @@ fn run_command(words: &Words, out: &mut dyn Write) -> Done {
     }
     match words.page.name {
         "check" => check::run(words, out),
-        "show" => outline::write(&accepted(words.one_file()?)?, out),
+        "show" => outline::run(words, out),
         "rows" => rows::write(&accepted(words.one_file()?)?.tree(), out),
         "get" => get::run(words, out),
         "json" => json::run(words, out),

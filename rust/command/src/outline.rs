@@ -1,6 +1,8 @@
 //! `yay show`: the tree as an indented outline, a line for each value.
 
+use crate::accepted::accepted;
 use crate::stop::{Done, Stop};
+use crate::words::Words;
 use std::io::Write;
 use yay::shown::quoted;
 use yay::{Document, Kind, Number, Row, Tree, ROOT};
@@ -10,10 +12,41 @@ pub fn broken(number: Number) -> Stop {
     Stop::File(format!("the table of rows is broken: {number}"))
 }
 
-pub fn write(document: &Document, out: &mut dyn Write) -> Done {
+pub fn run(words: &Words, out: &mut dyn Write) -> Done {
+    let document = accepted(words.one_file()?)?;
     let tree = document.tree();
-    writeln!(out, "{}{}", value(&tree, ROOT)?, escapes(document))?;
-    write_children(&tree, ROOT, 1, out)
+    let places = Places::asked(words, &tree)?;
+    writeln!(out, "{}{}{}", places.before(&tree, ROOT)?, value(&tree, ROOT)?, escapes(&document))?;
+    write_children(&tree, ROOT, 1, &places, out)
+}
+
+/// Line and column before each value, where they are asked for.
+struct Places {
+    /// The width of the widest; 0 where nobody asks.
+    width: usize,
+}
+
+impl Places {
+    fn asked(words: &Words, tree: &Tree) -> Result<Places, Stop> {
+        let mut width = 0;
+        if words.has("--places") {
+            for row in (0..tree.rows()).map(Row) {
+                width = width.max(place(tree, row)?.len());
+            }
+        }
+        Ok(Places { width })
+    }
+
+    fn before(&self, tree: &Tree, row: Row) -> Result<String, Stop> {
+        match self.width {
+            0 => Ok(String::new()),
+            width => Ok(format!("{:<width$}  ", place(tree, row)?)),
+        }
+    }
+}
+
+fn place(tree: &Tree, row: Row) -> Result<String, Stop> {
+    Ok(tree.position(row).map_err(broken)?.to_string())
 }
 
 /// A word of the document's escapes, behind what is said of it; nothing where there are none.
@@ -25,7 +58,7 @@ pub fn escapes(document: &Document) -> String {
     }
 }
 
-fn write_children(tree: &Tree, container: Row, depth: usize, out: &mut dyn Write) -> Done {
+fn write_children(tree: &Tree, container: Row, depth: usize, places: &Places, out: &mut dyn Write) -> Done {
     let mut name = String::new();
     for (index, row) in tree.children(container).enumerate() {
         if tree.kind(row) == Ok(Kind::Key) {
@@ -35,8 +68,9 @@ fn write_children(tree: &Tree, container: Row, depth: usize, out: &mut dyn Write
         if tree.kind(container) == Ok(Kind::Array) {
             name = index.to_string();
         }
-        writeln!(out, "{:indent$}{name}: {}", "", value(tree, row)?, indent = 2 * depth)?;
-        write_children(tree, row, depth + 1, out)?;
+        let before = places.before(tree, row)?;
+        writeln!(out, "{before}{:indent$}{name}: {}", "", value(tree, row)?, indent = 2 * depth)?;
+        write_children(tree, row, depth + 1, places, out)?;
     }
     Ok(())
 }

@@ -52,16 +52,19 @@ For more than one file the last line is 'N ok, M refused'.
         short: "the document as an indented outline",
         text: "
 The document as an indented outline. Long texts are cut. If the document has escapes, the first line
-says how many.
+says how many. Lines and columns count from 1, columns in characters.
 ",
-        options: &[],
+        options: &[Opt { short: "-p", long: "--places", value: "", what: "line and column of each value before it" }],
         integers: false,
     },
     Page {
         name: "rows",
         words: "FILE",
         short: "the table of rows: number, words, kind and text",
-        text: "\nThe table of rows, one to a line: the row's number and its words, the kind's name and the text.\n",
+        text: "
+The table of rows, one to a line: the row's number and its words, the kind's name and the text. The last
+two words are the line and the column of the row's first byte, from 1, columns in characters.
+",
         options: &[],
         integers: false,
     },

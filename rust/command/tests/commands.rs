@@ -67,7 +67,26 @@ fn rows_are_their_words() {
     let out = good(&["rows", "-"], b"[1, 22]\n");
     let lines: Vec<_> = out.lines().map(|line| line.split_whitespace().collect::<Vec<_>>().join(" ")).collect();
     assert_eq!(lines[0], format!("row {}", yay::NAMES.join(" ")));
-    assert_eq!(lines[1..], ["0 8 0 7 0 2 0 3 array", "1 4 1 2 0 1 0 2 integer 1", "2 4 4 6 1 3 0 3 integer 22"]);
+    let rows = ["0 8 0 7 0 2 0 3 1 1 array", "1 4 1 2 0 1 0 2 1 2 integer 1", "2 4 4 6 1 3 0 3 1 5 integer 22"];
+    assert_eq!(lines[1..], rows);
+}
+
+#[test]
+fn show_places_are_asked_for() {
+    let doc = "# é\n\"é\": [1, {a: \"\\n\"}]\nb:\n  - 2\n".as_bytes();
+    let wanted = [
+        "2:1   object of 2 pairs, 1 escape",
+        "2:6     \"é\": array of 2 elements",
+        "2:7       0: integer 1",
+        "2:10      1: object of 1 pair",
+        "2:14        a: string \"\\n\"",
+        "4:3     b: array of 1 element",
+        "4:5       0: integer 2",
+    ];
+    assert_eq!(good(&["show", "--places", "-"], doc).lines().collect::<Vec<_>>(), wanted);
+    assert_eq!(good(&["show", "-", "-p"], doc), good(&["show", "--places", "-"], doc));
+    assert_eq!(good(&["show", "-p", "-"], b"1\n"), "1:1  integer 1\n");
+    assert!(good(&["show", "-"], doc).starts_with("object of 2 pairs"));
 }
 
 #[test]
@@ -202,4 +221,5 @@ fn each_command_has_its_page() {
         assert!(page.contains(option), "{option}");
     }
     assert!(good(&["check", "-h"], b"").contains("-q, --quiet"));
+    assert!(good(&["show", "-h"], b"").contains("-p, --places"));
 }

@@ -1,8 +1,8 @@
 //! Reads YAY documents by the reader proved in Rattle (`libyay.a`, include/yay.h).
 //!
 //! [`read`] fills rooms that the caller lends and allocates nothing; [`Document`] is the same with rooms of its
-//! own. A [`Tree`] answers questions; both tell how many escapes a document has. Every answer is fixed by the
-//! project's definitions, for any bytes at all.
+//! own. A [`Tree`] answers questions, and knows each row's line and column; both tell how many escapes a document
+//! has. Every answer is fixed by the project's definitions, for any bytes at all.
 //! What stack a call needs is said in include/yay.h.
 //!
 //! ```

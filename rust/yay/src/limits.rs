@@ -19,6 +19,6 @@ pub const LONGEST: usize = longest!();
 /// The most containers one inside another.
 pub const NESTING: usize = nesting!();
 /// What the words of a row are called, in their order.
-pub const NAMES: [&str; 7] = ["kind", "from", "to", "start", "end", "parent", "next"];
+pub const NAMES: [&str; 9] = ["kind", "from", "to", "start", "end", "parent", "next", "line", "column"];
 /// Words of a row.
 pub const WORDS: usize = NAMES.len();

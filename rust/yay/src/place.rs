@@ -19,7 +19,8 @@ impl fmt::Display for Position {
     }
 }
 
-/// Where a place stands; of a place inside a character, where that begins. Past the end it is the end.
+/// Where a place stands; of a place inside a character, where that begins. Past the end it is the end. A row's own
+/// position is in the table already: [`Tree::position`](crate::Tree::position).
 ///
 /// ```
 /// let doc = "a: 1\n\"Größe\": [1,2]\n".as_bytes();

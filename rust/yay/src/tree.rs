@@ -1,7 +1,7 @@
 //! Tables of rows, whoever made them, and the questions that are asked of them.
 
 use crate::limits::WORDS;
-use crate::place::Place;
+use crate::place::{Place, Position};
 use crate::refusal::Number;
 use crate::sys;
 use std::ops::Range;
@@ -95,6 +95,30 @@ impl<'a> Tree<'a> {
     pub fn span(&self, row: Row) -> Result<Range<Place>, Number> {
         let words = self.words(row)?;
         Ok(Place(words[1] as usize)..Place(words[2] as usize))
+    }
+
+    /// The line in which the row begins, from 1.
+    ///
+    /// ```
+    /// let document = yay::Document::read("# Cold store\n\"Größe\": [1, 22]\n".as_bytes())?;
+    /// let tree = document.tree();
+    /// let last = tree.path(yay::ROOT, &["Größe", "1"])?;
+    /// assert_eq!((tree.line(last)?, tree.column(last)?), (2, 14));
+    /// assert_eq!(tree.position(last)?.to_string(), "2:14");
+    /// # Ok::<(), Box<dyn std::error::Error>>(())
+    /// ```
+    pub fn line(&self, row: Row) -> Result<usize, Number> {
+        Ok(self.words(row)?[7] as usize)
+    }
+
+    /// The column in which the row begins, from 1, in characters: one of several bytes is one.
+    pub fn column(&self, row: Row) -> Result<usize, Number> {
+        Ok(self.words(row)?[8] as usize)
+    }
+
+    /// Line and column of the row's first byte, as the table has them.
+    pub fn position(&self, row: Row) -> Result<Position, Number> {
+        Ok(Position { line: self.line(row)?, column: self.column(row)? })
     }
 
     /// The row's container; the root's is the root.

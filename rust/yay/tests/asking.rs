@@ -1,7 +1,7 @@
 //! Questions of good tables and of broken ones.
 
 use std::cmp::Ordering;
-use yay::{compare, Document, Number, Row, Tree, ROOT};
+use yay::{compare, Document, Number, Row, Tree, ROOT, WORDS};
 
 #[test]
 fn keys_are_found_decoded() {
@@ -27,14 +27,28 @@ fn rows_without_text_are_bad() {
 #[test]
 fn broken_tables_are_answered() {
     let text = b"ab";
-    assert_eq!(Tree::new(&[6, 0, 0, 2, 1, 0, 1], 1, text).text(ROOT), Err(Number::BadRow));
-    assert_eq!(Tree::new(&[6, 0, 0, 0, 3, 0, 1], 1, text).text(ROOT), Err(Number::BadRow));
-    assert_eq!(Tree::new(&[6, 0, 0, 0, 2, 0], 1, text).text(ROOT), Err(Number::BadRow));
-    assert_eq!(Tree::new(&[6, 0, 0, 0, 2, 0, 1], 1, text).text(ROOT), Ok(&text[..]));
-    assert_eq!(Tree::new(&[9, 0, 0, 0, 1, 0, 9], 1, text).find(ROOT, "a"), Err(Number::BadRow));
-    assert_eq!(Tree::new(&[9, 0, 0, 0, 1, 0, 1], 1, text).find(ROOT, "a"), Err(Number::None));
+    let one = |kind, start, end, next| [kind, 0, 0, start, end, 0, next, 1, 1];
+    assert_eq!(Tree::new(&one(6, 2, 1, 1), 1, text).text(ROOT), Err(Number::BadRow));
+    assert_eq!(Tree::new(&one(6, 0, 3, 1), 1, text).text(ROOT), Err(Number::BadRow));
+    assert_eq!(Tree::new(&one(6, 0, 2, 1)[..WORDS - 1], 1, text).text(ROOT), Err(Number::BadRow));
+    assert_eq!(Tree::new(&one(6, 0, 2, 1), 1, text).text(ROOT), Ok(&text[..]));
+    assert_eq!(Tree::new(&one(9, 0, 1, 9), 1, text).find(ROOT, "a"), Err(Number::BadRow));
+    assert_eq!(Tree::new(&one(9, 0, 1, 1), 1, text).find(ROOT, "a"), Err(Number::None));
     assert_eq!(Tree::new(&[], usize::MAX, text).find(Row(usize::MAX - 1), "a"), Err(Number::BadRow));
-    assert_eq!(Tree::new(&[8, 0, 0, 0, 1, 0, 9, 1, 0, 0, 0, 0, 0, 1], 2, text).children(ROOT).count(), 0);
+    let table = [one(8, 0, 1, 9), one(1, 0, 0, 1)];
+    assert_eq!(Tree::new(table.as_flattened(), 2, text).children(ROOT).count(), 0);
+}
+
+#[test]
+fn questions_pass_over_lines_and_columns() {
+    for word in [0, 1, u32::MAX] {
+        let table =
+            [[9, 0, 9, 0, 1, 0, 3, word, word], [10, 0, 1, 0, 1, 0, 2, word, word], [6, 3, 9, 1, 2, 0, 3, word, word]];
+        let tree = Tree::new(table.as_flattened(), 3, b"kv");
+        assert_eq!(tree.find(ROOT, "k"), Ok(Row(2)));
+        assert_eq!(tree.text(Row(2)), Ok(&b"v"[..]));
+        assert_eq!((tree.line(Row(2)), tree.column(Row(1))), (Ok(word as usize), Ok(word as usize)));
+    }
 }
 
 #[test]

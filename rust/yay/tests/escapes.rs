@@ -59,6 +59,6 @@ fn with_rooms_lent() {
     let (mut table, mut text) = ([0; 3 * WORDS], [0; 2]);
     let accepted = read(doc, &mut table, &mut text).unwrap();
     assert_eq!((accepted.tree.rows(), accepted.tree.count(ROOT), accepted.escapes), (3, Ok(2), 2));
-    assert_eq!(read(doc, &mut table[..20], &mut text).unwrap_err().number, Number::Rows);
+    assert_eq!(read(doc, &mut table[..3 * WORDS - 1], &mut text).unwrap_err().number, Number::Rows);
     assert_eq!(read(doc, &mut table, &mut text[..1]).unwrap_err().number, Number::Text);
 }

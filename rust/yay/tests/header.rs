@@ -1,6 +1,6 @@
 //! The two C headers and the crate say the same: limits, numbers, names, sentences, kinds and parameters.
 
-use yay::{Kind, Number, LONGEST, NESTING, WORDS};
+use yay::{Kind, Number, LONGEST, NAMES, NESTING, WORDS};
 
 fn header(name: &str) -> String {
     let path = format!("{}/../../include/{name}", env!("CARGO_MANIFEST_DIR"));
@@ -27,6 +27,19 @@ fn limits() {
     assert_eq!(defined(&header, "YAY_LONGEST"), LONGEST as u64);
     assert_eq!(defined(&header, "YAY_NESTING"), NESTING as u64);
     assert_eq!(defined(&header, "YAY_WORDS"), WORDS as u64);
+}
+
+#[test]
+fn words_of_a_row() {
+    let header = header("yay.h");
+    for (index, name) in NAMES.iter().enumerate() {
+        let name = match *name {
+            "start" => "TEXT_FROM".into(),
+            "end" => "TEXT_TO".into(),
+            name => name.to_uppercase(),
+        };
+        assert_eq!(defined(&header, &format!("YAY_{name}")), index as u64);
+    }
 }
 
 #[test]

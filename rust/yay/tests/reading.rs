@@ -10,11 +10,12 @@ fn refused(doc: &[u8]) -> (Number, usize) {
 
 #[test]
 fn rows_and_text_of_p3() {
-    let (mut table, mut text) = ([7; 30], [b'x'; 5]);
+    let (mut table, mut text) = ([7; 3 * WORDS + 9], [b'x'; 5]);
     let Accepted { tree, escapes } = read(b"[1, 22]\n", &mut table, &mut text).unwrap();
     assert_eq!((tree.rows(), tree.text_room(), escapes), (3, &b"122"[..], 0));
-    assert_eq!(table[..21], [8, 0, 7, 0, 2, 0, 3, 4, 1, 2, 0, 1, 0, 2, 4, 4, 6, 1, 3, 0, 3]);
-    assert_eq!((&table[21..], &text[3..]), (&[7; 9][..], &b"xx"[..]));
+    let rows = [[8, 0, 7, 0, 2, 0, 3, 1, 1], [4, 1, 2, 0, 1, 0, 2, 1, 2], [4, 4, 6, 1, 3, 0, 3, 1, 5]];
+    assert_eq!(table[..3 * WORDS], *rows.as_flattened());
+    assert_eq!((&table[3 * WORDS..], &text[3..]), (&[7; 9][..], &b"xx"[..]));
 }
 
 #[test]

@@ -1,7 +1,7 @@
 -- `answer` meets its contract.
 use native.Mathlib.Omega.{arith}
 use borrow.Author.Needs.{needs}
-use Rattle.answers.specs.Held.{held-table, answer-repeat, answer-rows, answer-bytes, answer-all, answer-total, no-total}
+use Rattle.answers.specs.Held.{held-table, answer-repeat, answer-rows, answer-bytes, answer-ranked, answer-all, answer-total, no-total}
 use Rattle.answers.proofs.answer.Statement.{statement}
 use Rattle.answers.proofs.answer.Tie as tie
 
@@ -35,6 +35,9 @@ copy-words-requires c κs = search needs
 copy-requires : tie.Need-copy-requires
 copy-requires c κs = search needs
 
+line-up-requires : tie.Need-line-up-requires
+line-up-requires c κs = answer-ranked _ _ _ _ _ _ (c .before .before .before .before .before .before .before .before .before .before .before .before .before .before .before .before .before .before .before .pre) ((c .before .before .before .before .before .before .before .before .before .before .before .before .before .first-repeat) .result) ((c .before .before .before .before .before .before .before .before .before .before .before .before .before .first-repeat) .ensures) ((c .before .before .before .before .before .before .before .before .before .before .before .before .before .before .before .before .before .before .before .args) .table .now) ((c .before .before .before .before .before .before .before .before .before .before .before .before .before .before .before .before .before .before .before .args) .text .now) ((c .before .before .before .before .before .before .before .before .before .before .if1) .left) _ ((c .before .before .before .before .before .before .before .copy-words) .ensures)
+
 same-length : tie.Need-same-length
 same-length c = search needs
 
@@ -42,7 +45,7 @@ same-length-2 : tie.Need-same-length-2
 same-length-2 c = search needs
 
 returns-4 : tie.Need-returns-4
-returns-4 c = search (answer-all, answer-total, needs)
+returns-4 c = (answer-all _ _ _ _ _ _ (c .before .before .before .before .before .before .before .before .before .before .before .before .before .before .before .before .before .before .before .before .before .before .pre) ((c .before .before .before .before .before .before .before .before .before .before .before .before .before .before .before .before .first-repeat) .result) ((c .before .before .before .before .before .before .before .before .before .before .before .before .before .before .before .before .first-repeat) .ensures) _ _ ((c .before .before .before .before .before .before .before .before .before .before .before .before .before .if1) .left) _ ((c .before .before .before .before .before .before .before .before .before .before .copy-words) .ensures) (search needs) ((c .before .before .before .before .before .before .before .before .before .before .before .before .if2) .left) _ _ ((c .before .before .line-up) .ensures) ((c .before .before .before .before .before .before .copy) .ensures), search (answer-total, needs))
 
 pub answer-spec : {M : Type 1} → statement M
 answer-spec =
@@ -58,6 +61,7 @@ answer-spec =
     mul-copy-words
     copy-words-requires
     copy-requires
+    line-up-requires
     same-length
     same-length-2
     returns-4)

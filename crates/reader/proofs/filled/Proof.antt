@@ -1,7 +1,7 @@
 -- `filled` answers as the log of the keys and the rooms lent allow, and reads the document into them.
 use borrow.Author.Needs.{needs}
 use Rattle.reader.specs.Judged.{no-total}
-use Rattle.reader.specs.Lent.{filled-repeat, filled-rows, filled-bytes, filled-all, filled-total}
+use Rattle.reader.specs.Lent.{filled-repeat, filled-rows, filled-bytes, filled-ranked, filled-all, filled-total}
 use Rattle.reader.proofs.filled.Statement.{statement}
 use Rattle.reader.proofs.filled.Tie as tie
 
@@ -44,6 +44,9 @@ slice-aggregate-pass c = search needs
 pass-requires : tie.Need-pass-requires
 pass-requires c κs = search needs
 
+line-up-requires : tie.Need-line-up-requires
+line-up-requires c κs = filled-ranked _ _ _ _ _ (c .before .before .before .before .before .before .before .before .before .before .before .before .before .before .before .before .before .before .before .before .before .pre) ((c .before .before .before .before .before .before .before .before .before .before .before .before .before .before .before .first-again) .result) ((c .before .before .before .before .before .before .before .before .before .before .before .before .before .before .before .first-again) .ensures) _ _ ((c .before .before .before .before .before .before .before .before .before .before .before .before .if1) .left) _ _ ((c .before .before .before .before .before .before .before .pass) .ensures .1 .0)
+
 same-length-4 : tie.Need-same-length-4
 same-length-4 c = search needs
 
@@ -73,6 +76,7 @@ filled-spec =
     slice-relend-prefix-pass
     slice-aggregate-pass
     pass-requires
+    line-up-requires
     same-length-4
     same-length-5
     same-length-6

@@ -1,9 +1,10 @@
 -- `put_row` stores the words of a row.
+use mathlib.Core.Path.{refl}
 use borrow.Author.Needs.{needs}
 use native.Mathlib.Omega.{arith}
 use Prim.Native.Nat.{_*_}
 use lib.ListN.{length-set}
-use Rattle.rooms.specs.Stores.{stored}
+use Rattle.rooms.specs.Stores.{sets-past, stored}
 use Rattle.rooms.proofs.put_row.Statement.{statement}
 use Rattle.rooms.proofs.put_row.Tie as tie
 use Rattle.rooms.proofs.put_row.Reads as reads
@@ -17,6 +18,9 @@ mul-i c = search needs
 add-if1 : tie.Need-add-if1
 add-if1 c = search needs
 
+slice-aggregate-put-part : tie.Need-slice-aggregate-put-part
+slice-aggregate-put-part c = search needs
+
 put-part-requires : tie.Need-put-part-requires
 put-part-requires c κs = search needs
 
@@ -25,6 +29,9 @@ same-length c = search needs
 
 returns : tie.Need-returns
 returns c = search needs
+
+returns-2 : tie.Need-returns-2
+returns-2 c = search (sets-past, needs)
 
 mul-rows : tie.Need-mul-rows
 mul-rows c = search needs
@@ -86,13 +93,31 @@ mul-rows-7 c = search needs
 slice-write-rows-7 : tie.Need-slice-write-rows-7
 slice-write-rows-7 c = simp length-set (omega arith)
 
-same-length-2 : tie.Need-same-length-2
-same-length-2 c = search needs
+add-rows-7 : tie.Need-add-rows-7
+add-rows-7 c = search needs
 
-returns-2 : tie.Need-returns-2
-returns-2 c =
+mul-rows-8 : tie.Need-mul-rows-8
+mul-rows-8 c = search needs
+
+slice-write-rows-8 : tie.Need-slice-write-rows-8
+slice-write-rows-8 c = simp length-set (omega arith)
+
+add-rows-8 : tie.Need-add-rows-8
+add-rows-8 c = search needs
+
+mul-rows-9 : tie.Need-mul-rows-9
+mul-rows-9 c = search needs
+
+slice-write-rows-9 : tie.Need-slice-write-rows-9
+slice-write-rows-9 c = simp length-set (omega arith)
+
+same-length-2 : tie.Need-same-length-2
+same-length-2 c = simp length-set refl
+
+returns-3 : tie.Need-returns-3
+returns-3 c =
     let s = c .before .before .args in
-    stored (s .rows .now) (width * s .row) (s .w .kind) (s .w .first) (s .w .after) (s .w .from) (s .w .to) (s .w .parent) (s .w .next)
+    stored (s .rows .now) (width * s .row) (s .w .kind) (s .w .first) (s .w .after) (s .w .from) (s .w .to) (s .w .parent) (s .w .next) 0 0
 
 pub put-row-spec : {M : Type 1} → statement M
 put-row-spec =
@@ -100,9 +125,11 @@ put-row-spec =
     (tie.spec
     mul-i
     add-if1
+    slice-aggregate-put-part
     put-part-requires
     same-length
     returns
+    returns-2
     mul-rows
     slice-write-rows
     add-rows
@@ -123,5 +150,11 @@ put-row-spec =
     add-rows-6
     mul-rows-7
     slice-write-rows-7
+    add-rows-7
+    mul-rows-8
+    slice-write-rows-8
+    add-rows-8
+    mul-rows-9
+    slice-write-rows-9
     same-length-2
-    returns-2)
+    returns-3)

@@ -1,7 +1,7 @@
 //! Block values, each with its row. Every function writes whole lines and gives the byte after the span.
 
 use super::super::pieces;
-use super::{Grower, Keys};
+use super::{Grower, Here, Keys};
 
 impl Grower<'_> {
     /// An object whose first key begins here.
@@ -52,7 +52,7 @@ impl Grower<'_> {
     }
 
     fn joined(&mut self, object: usize, column: usize) -> usize {
-        let from = self.at();
+        let from = self.here();
         let mut meant = Vec::new();
         let mut lines = 0;
         loop {
@@ -109,7 +109,7 @@ impl Grower<'_> {
     }
 
     pub(super) fn open_string(&mut self, parent: usize, column: usize) -> usize {
-        let from = self.at();
+        let from = self.here();
         let leader = if self.rng.once_in(2) { pieces::text(self.rng, 1) } else { String::new() };
         self.write("`");
         if !leader.is_empty() {
@@ -121,13 +121,13 @@ impl Grower<'_> {
 
     fn property_string(&mut self, parent: usize, column: usize) -> usize {
         self.write(" ");
-        let from = self.at();
+        let from = self.here();
         self.write("`");
         self.body(parent, column, from, String::new())
     }
 
     /// The leader's LF, blank lines and text lines deeper than `column`, and the row.
-    fn body(&mut self, parent: usize, column: usize, from: usize, mut meant: String) -> usize {
+    fn body(&mut self, parent: usize, column: usize, from: Here, mut meant: String) -> usize {
         let mut to = self.at();
         let mut lines = Vec::new();
         self.write("\n");
@@ -160,7 +160,7 @@ impl Grower<'_> {
     }
 
     pub(super) fn open_bytes(&mut self, parent: usize, column: usize) -> usize {
-        let from = self.at();
+        let from = self.here();
         let mut meant = Vec::new();
         self.write("> ");
         self.hex_content(&mut meant);
@@ -170,7 +170,7 @@ impl Grower<'_> {
     fn property_bytes(&mut self, parent: usize, column: usize) -> usize {
         let mut meant = Vec::new();
         self.write(" ");
-        let from = self.at();
+        let from = self.here();
         self.write(">");
         if self.rng.once_in(3) {
             self.write(" ");
@@ -198,7 +198,7 @@ impl Grower<'_> {
         self.hex_content(meant);
     }
 
-    fn hex_lines(&mut self, parent: usize, column: usize, from: usize, mut meant: Vec<u8>) -> usize {
+    fn hex_lines(&mut self, parent: usize, column: usize, from: Here, mut meant: Vec<u8>) -> usize {
         while self.rng.once_in(2) {
             self.hex_line(column, &mut meant);
         }

@@ -29,7 +29,7 @@ impl Grower<'_> {
 
     /// Writes a scalar and its row.
     fn number(&mut self, kind: u32, parent: usize, written: &str, meant: &[u8]) -> usize {
-        let from = self.at();
+        let from = self.here();
         self.write(written);
         let to = self.at();
         self.leaf(kind, parent, (from, to), meant);

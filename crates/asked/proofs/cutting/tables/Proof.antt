@@ -8,7 +8,7 @@ abbrev Inv-loop : tie.InvT-loop
 Inv-loop t n₀ n = Unit {0}
 
 abbrev μ-loop : tie.MeasureT-loop
-μ-loop t n₀ n = 78 - n
+μ-loop t n₀ n = 100 - n
 
 loop-holds : tie.Need-loop-holds Inv-loop μ-loop
 loop-holds c = search needs

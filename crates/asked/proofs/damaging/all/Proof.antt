@@ -8,7 +8,7 @@ abbrev Inv-loop : tie.InvT-loop
 Inv-loop t at₀ at = Unit {0}
 
 abbrev μ-loop : tie.MeasureT-loop
-μ-loop t at₀ at = 77 - at
+μ-loop t at₀ at = 99 - at
 
 loop-holds : tie.Need-loop-holds Inv-loop μ-loop
 loop-holds c = search needs

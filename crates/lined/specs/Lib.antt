@@ -1,0 +1,10 @@
+pub mod Counted
+pub mod Between
+pub mod Places
+pub mod Back
+pub mod Searching
+pub mod Walking
+pub mod Lined
+pub mod Going
+pub mod Rows
+pub mod Ranking

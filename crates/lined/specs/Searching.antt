@@ -1,0 +1,168 @@
+-- COUNTING AND SEARCHING bytes of a class, by blocks and one by one. Assumes nothing.
+use mathlib.Core.Path.{_≡_, sym, ap, subst, _∙_}
+use mathlib.Core.List.{List}
+use Prim.Native.Nat.{ℕ, _+_, _-_, _≤_, _<_, min}
+use native.Mathlib.Nat.{add-zero}
+use native.Mathlib.Omega.{arith}
+use native.Mathlib.Decide.{decLe}
+use lib.ListN.{length, getD}
+use borrow.Author.Needs.{needs}
+use Rattle.notation.specs.Class.{Class, only}
+use Rattle.lined.specs.Counted.{hit, hit-one, hit-below, hit-above, hit-within}
+use Rattle.lined.specs.Between.{between, between-none, between-cut, between-more, between-less, between-most}
+
+-- m bytes of the class stand from a up to e
+pub record Counting (c : Class) (doc : List ℕ) (a e m : ℕ) : Type 0 where
+  pub ahead : a ≤ e
+  pub inside : e ≤ length doc
+  pub is : m ≡ between c doc a e
+  pub most : m ≤ e - a
+
+-- no byte of the class from a up to r
+pub record Clear (c : Class) (doc : List ℕ) (a r : ℕ) : Type 0 where
+  pub ahead : a ≤ r
+  pub inside : r ≤ length doc
+  pub clear : between c doc a r ≡ 0
+
+-- and one at r, or the document's end
+pub record Next (c : Class) (doc : List ℕ) (a r : ℕ) : Type 0 where
+  pub none : Clear c doc a r
+  pub found : r < length doc → hit c (getD doc r 0) ≡ 1
+
+-- i for a byte of the class, and 64 for any other
+pub record Spot (c : Class) (b i r : ℕ) : Type 0 where
+  pub there : hit c b ≡ 1 → r ≡ i
+  pub other : hit c b ≡ 0 → r ≡ 64
+
+-- of the i bytes from a on the one at r is the first of the class, or none is, and r is 64
+pub record First (c : Class) (doc : List ℕ) (a i r : ℕ) : Type 0 where
+  pub most : r ≤ 64
+  pub all : 64 ≤ r → between c doc a (a + i) ≡ 0
+  pub some : r < 64 → (r < i) × (between c doc a (a + r) ≡ 0) × (hit c (getD doc (a + r) 0) ≡ 1)
+
+-- an LF just before r, and none from r up to e
+pub record Behind (doc : List ℕ) (a e r : ℕ) : Type 0 where
+  pub later : a < r
+  pub before : r ≤ e
+  pub feed : hit (only 10) (getD doc (r - 1) 0) ≡ 1
+  pub clear : between (only 10) doc r e ≡ 0
+
+module _ (c : Class) (doc : List ℕ) where
+  pub counting-first : (a : ℕ) → a ≤ length doc → Counting c doc a a 0
+  counting-first a l = record { ahead = omega arith; inside = l; is = sym (between-none c doc a); most = omega arith }
+
+  pub counting-none : (a : ℕ) → a ≤ length doc → Counting c doc a (a + 0) 0
+  counting-none a l = rw (add-zero a) (counting-first a l)
+
+  pub counting-byte : (a i m h : ℕ) → Counting c doc a (a + i) m → a + i < length doc → h ≡ hit c (getD doc (a + i) 0) → Counting c doc a (a + (i + 1)) (m + h)
+  counting-byte a i m h x l y =
+      let z : a + i + 1 ≡ a + (i + 1) = omega arith in
+      let u = between-more c doc a (a + i) (omega arith) l in
+      record { ahead = omega arith; inside = omega arith; is = omega (arith, x .is, ap (between c doc a) z); most = omega (arith, x .most, hit-one c (getD doc (a + i) 0)) }
+
+  pub counting-block : (a i n m h : ℕ) → Counting c doc a i m → i + n ≤ length doc → h ≡ between c doc i (i + n) → Counting c doc a (i + n) (m + h)
+  counting-block a i n m h x l y =
+      record {
+        ahead = omega (arith, x .ahead);
+        inside = l;
+        is = omega (arith, x .is, between-cut c doc a i (i + n) (x .ahead) (omega arith) l);
+        most = omega (arith, x .most, x .ahead, between-most c doc i (i + n) l);
+      }
+
+  pub counting-rest : (a i e m h : ℕ) → Counting c doc a i m → i ≤ e → e ≤ length doc → h ≡ between c doc i (i + (e - i)) → m + h ≡ between c doc a e
+  counting-rest a i e m h x k l y =
+      let z : i + (e - i) ≡ e = omega arith in
+      omega (arith, x .is, ap (between c doc i) z, between-cut c doc a i e (x .ahead) k l)
+
+  pub counting-all : (a i n m : ℕ) → Counting c doc a (a + i) m → i ≤ n → n ≤ i → m ≡ between c doc a (a + n)
+  counting-all a i n m x h k = x .is ∙ ap (λ (j : ℕ). between c doc a (a + j)) (let z : i ≡ n = omega arith in z)
+
+  pub clear-first : (a : ℕ) → a ≤ length doc → Clear c doc a a
+  clear-first a h = record { ahead = omega arith; inside = h; clear = between-none c doc a }
+
+  pub clear-byte : (a i h : ℕ) → Clear c doc a i → i < length doc → h ≡ hit c (getD doc i 0) → h ≤ 0 → Clear c doc a (i + 1)
+  clear-byte a i h x l y z =
+      record { ahead = omega (arith, x .ahead); inside = omega arith; clear = omega (arith, x .clear, between-more c doc a i (x .ahead) l) }
+
+  pub next-here : (a i h : ℕ) → Clear c doc a i → h ≡ hit c (getD doc i 0) → 0 < h → Next c doc a i
+  next-here a i h x y z = record { none = x; found = λ _. omega (arith, hit-one c (getD doc i 0)) }
+
+  pub next-end : (a i : ℕ) → Clear c doc a i → length doc ≤ i → Next c doc a i
+  next-end a i x z = record { none = x; found = λ h. absurd (omega arith) }
+
+  -- a byte more, and the whole block
+  pub first-none : (a : ℕ) → First c doc a 0 64
+  first-none a = record { most = omega arith; all = λ _. rw (add-zero a) (between-none c doc a); some = λ h. absurd (omega arith) }
+
+  pub first-byte : (a i m s r : ℕ) → First c doc a i m → i < 64 → a + i < length doc → Spot c (getD doc (a + i) 0) i s → r ≡ min s m → First c doc a (i + 1) r
+  first-byte a i m s r x h l y t = by (decLe 64 m) (decLe 1 (hit c (getD doc (a + i) 0)))
+    where
+      b : ℕ
+      b = getD doc (a + i) 0
+
+      is : (q : ℕ) → q ≡ min s m → First c doc a (i + 1) q → First c doc a (i + 1) r
+      is q e f = subst (First c doc a (i + 1)) (e ∙ sym t) f
+
+      early : m < 64 → First c doc a (i + 1) m
+      early n = let f = x .some n in record { most = x .most; all = λ g. absurd (omega arith); some = λ _. (omega (arith, f .0), f .1, f .2) }
+
+      by : Dec (64 ≤ m) → Dec (1 ≤ hit c b) → First c doc a (i + 1) r
+      by (no n) (yes q) = let e = y .there (omega (arith, hit-one c b)) in let f = x .some (omega arith) in is m (omega (arith, f .0)) (early (omega arith))
+      by (no n) (no q) = let e = y .other (omega arith) in is m (omega arith) (early (omega arith))
+      by (yes n) (yes q) =
+          let g : hit c b ≡ 1 = omega (arith, hit-one c b) in
+          let e = y .there g in
+          is i (omega arith) (record { most = omega arith; all = λ k. absurd (omega arith); some = λ _. (omega arith, x .all n, g) })
+      by (yes n) (no q) =
+          let e = y .other (omega arith) in
+          let z : a + i + 1 ≡ a + (i + 1) = omega arith in
+          let w : between c doc a (a + (i + 1)) ≡ 0 = omega (arith, between-more c doc a (a + i) (omega arith) l, ap (between c doc a) z, x .all n) in
+          is 64 (omega (arith, x .most)) (record { most = omega arith; all = λ _. w; some = λ k. absurd (omega arith) })
+
+  pub first-all : (a i m : ℕ) → First c doc a i m → i ≤ 64 → 64 ≤ i → First c doc a 64 m
+  first-all a i m x h k = subst (λ (j : ℕ). First c doc a j m) (let z : i ≡ 64 = omega arith in z) x
+
+  pub first-found : (a i k : ℕ) → Clear c doc a i → i + 64 ≤ length doc → First c doc i 64 k → k < 64 → Next c doc a (i + k)
+  first-found a i k x l f h =
+      let g = f .some h in
+      record {
+        none = record { ahead = omega (arith, x .ahead); inside = omega arith; clear = omega (arith, x .clear, g .1, between-cut c doc a i (i + k) (x .ahead) (omega arith) (omega arith)) };
+        found = λ _. g .2;
+      }
+
+  pub first-past : (a i k : ℕ) → Clear c doc a i → i + 64 ≤ length doc → First c doc i 64 k → 64 ≤ k → Clear c doc a (i + 64)
+  first-past a i k x l f h =
+      record { ahead = omega (arith, x .ahead); inside = l; clear = omega (arith, x .clear, f .all h, between-cut c doc a i (i + 64) (x .ahead) (omega arith) l) }
+
+  -- behind a clear part
+  pub next-behind : (a b r : ℕ) → Clear c doc a b → Next c doc b r → Next c doc a r
+  next-behind a b r x y =
+      let n = y .none in
+      record { none = record { ahead = omega (arith, x .ahead, n .ahead); inside = n .inside; clear = omega (arith, x .clear, n .clear, between-cut c doc a b r (x .ahead) (n .ahead) (n .inside)) }; found = y .found }
+
+  -- from a later place on
+  pub next-later : (a b r : ℕ) → Next c doc a r → a ≤ b → b ≤ r → Next c doc b r
+  next-later a b r x h k =
+      let n = x .none in
+      record { none = record { ahead = k; inside = n .inside; clear = omega (arith, n .clear, between-cut c doc a b r h k (n .inside)) }; found = x .found }
+
+module _ (doc : List ℕ) where
+  -- backwards to an LF; one stands at a
+  pub back-here : (a e i h : ℕ) → a < i → i ≤ e → between (only 10) doc i e ≡ 0 → h ≡ hit (only 10) (getD doc (i - 1) 0) → 0 < h → Behind doc a e i
+  back-here a e i h k l z y g = record { later = k; before = l; feed = omega (arith, hit-one (only 10) (getD doc (i - 1) 0)); clear = z }
+
+  pub back-more : (e i h : ℕ) → 1 ≤ i → i ≤ e → e ≤ length doc → between (only 10) doc i e ≡ 0 → h ≡ hit (only 10) (getD doc (i - 1) 0) → h ≤ 0 → between (only 10) doc (i - 1) e ≡ 0
+  back-more e i h k l m z y g =
+      let u : i - 1 + 1 ≡ i = omega arith in
+      omega (arith, between-less (only 10) doc (i - 1) e (omega arith) m, ap (λ (j : ℕ). between (only 10) doc j e) u)
+
+  -- one LF alone
+  pub lines-one : (a e r : ℕ) → a < e → e ≤ length doc → hit (only 10) (getD doc a 0) ≡ 1 → Behind doc a e r → r ≡ a + 1 → 1 ≡ between (only 10) doc a e
+  lines-one a e r h l g b z = omega (arith, between-less (only 10) doc a e h l, ap (λ (j : ℕ). between (only 10) doc j e) z, b .clear)
+
+  pub back-end : (a e i : ℕ) → a < i → i ≤ a + 1 → i ≤ e → between (only 10) doc i e ≡ 0 → hit (only 10) (getD doc a 0) ≡ 1 → Behind doc a e i
+  back-end a e i k l m z y =
+      let u : a ≡ i - 1 = omega arith in
+      record { later = k; before = m; feed = sym (ap (λ (j : ℕ). hit (only 10) (getD doc j 0)) u) ∙ y; clear = z }
+
+pub ruleset searching = (hit-below, hit-above, hit-within, counting-rest, clear-first, next-end, back-here, back-end, needs)
