@@ -1,6 +1,6 @@
 // The body of a block string: one pass finds its lines, where the last text ends and the least indentation, and a second writes its text.
 ghost use mathlib.Core.Path.{_≡_};
-ghost use Prim.Native.Nat.{_+_, _≤_, _<_, min};
+ghost use Prim.Native.Nat.{_+_, _≤_, _<_};
 ghost use lib.ListN.{length};
 ghost use Rattle.language.specs.Answered.{limit};
 ghost use Rattle.language.specs.BlockText.{bodyText};
@@ -12,6 +12,7 @@ use characters::Skip;
 use rooms::Ans;
 use rooms::Cursor;
 use rooms::copy;
+use rooms::lesser;
 use rooms::put_byte;
 
 // What stands at a line: nothing but an LF, and the place behind it; a text and the place of its LF; no line of the body, and how far one would begin; or a line that is refused.
@@ -48,15 +49,6 @@ fn body_line(doc: &[u8], a: usize, col: usize) -> Seen
             }
         }
     }
-}
-
-fn lesser(a: usize, b: usize) -> usize
-    ensures { λ r. ⌜ r ≡ min a b ⌝ }
-{
-    if b < a {
-        return b;
-    }
-    a
 }
 
 // The body below the LF at e.

@@ -114,14 +114,15 @@ pub fn value(
     ensures { λ r. ⌜ Answers (now (doc .entry)) c parent (valueR false allow (c .at) (drop (c .at) (now (doc .entry)))) r (now (rows .entry)) (now (rows .exit)) (now (text .entry)) (now (text .exit)) ⌝ }
     ensures { λ r. ⌜ Notes one (now (doc .entry)) (c .at) (c .row) parent (valueR false allow (c .at) (drop (c .at) (now (doc .entry)))) (now (keys .entry)) (now (keys .exit)) ⌝ }
 {
+    let here = c.anew();
     if allow == 0 {
-        return scalar(&*doc, rows, text, c, parent).anew();
+        return scalar(&*doc, rows, text, here, parent).anew();
     }
-    match c.look(&*doc) {
-        91 => array(&*doc, rows, text, keys, c, parent, allow - 1).anew(),
-        123 => object(&*doc, rows, text, keys, c, parent, allow - 1).anew(),
-        48..=57 => plain_inside(&*doc, rows, text, c, parent).anew(),
-        _ => scalar(&*doc, rows, text, c, parent).anew(),
+    match here.look(&*doc) {
+        91 => array(&*doc, rows, text, keys, here, parent, allow - 1).anew(),
+        123 => object(&*doc, rows, text, keys, here, parent, allow - 1).anew(),
+        48..=57 => plain_inside(&*doc, rows, text, here, parent).anew(),
+        _ => scalar(&*doc, rows, text, here, parent).anew(),
     }
 }
 
@@ -246,7 +247,7 @@ fn marked(b: u32) -> bool
 }
 
 // A value on a line, where digits may have single spaces between.
-pub fn line_value(
+fn value_here(
     doc: &[u8],
     rows: &mut [u32],
     text: &mut [u8],
@@ -267,4 +268,21 @@ pub fn line_value(
         };
     }
     plain(&*doc, rows, text, c, parent, true).anew()
+}
+
+// The same, with the cursor made anew.
+pub fn line_value(
+    doc: &[u8],
+    rows: &mut [u32],
+    text: &mut [u8],
+    keys: &mut [u32],
+    c: Cursor,
+    parent: u32,
+    allow: usize,
+) -> Far
+    requires { ⌜ Ready (now doc) c ⌝ }
+    ensures { λ r. ⌜ Reaches (now (doc .entry)) c parent (valueR true allow (c .at) (drop (c .at) (now (doc .entry)))) r (now (rows .entry)) (now (rows .exit)) (now (text .entry)) (now (text .exit)) ⌝ }
+    ensures { λ r. ⌜ Notes one (now (doc .entry)) (c .at) (c .row) parent (valueR true allow (c .at) (drop (c .at) (now (doc .entry)))) (now (keys .entry)) (now (keys .exit)) ⌝ }
+{
+    value_here(&*doc, rows, text, keys, c.anew(), parent, allow)
 }

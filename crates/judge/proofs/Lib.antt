@@ -1,6 +1,7 @@
 -- What several proofs use.
 pub mod Outs
 pub mod Spans
+pub mod Names
 pub mod Turns
 pub mod Blocks
 pub mod Looking

@@ -15,7 +15,7 @@ use Rattle.exact.specs.Lang.{retR, byteR}
 use Rattle.exact.specs.Comb.{seqR, altR}
 use Rattle.exact.specs.Place.{peek, alt-is, alt-not}
 use Rattle.exact.specs.Lines.{reached, raised, raised-ok, bind-reached}
-use Rattle.rooms.specs.Told.{spot, tally}
+use Rattle.rooms.specs.Told.{ESCAPE, spot, tally, spot-on, tally-on}
 use Rattle.rooms.specs.declared.Cursor.{Cursor}
 use Rattle.rooms.specs.declared.Words.{Words}
 use Rattle.rooms.specs.declared.Ans.{Ans}
@@ -32,7 +32,9 @@ use Rattle.characters.specs.declared.Skip.the-variants.{End}
 use Rattle.characters.specs.declared.Skip.the-variants
 use Rattle.characters.specs.Reads.{Ends, Skips}
 use Rattle.characters.specs.Comments.{optionalComment-ll}
-use Rattle.strings.specs.Keys.{keyR}
+use Rattle.strings.specs.Contract.{Texted, Texts}
+use Rattle.strings.specs.Joining.{itself}
+use Rattle.strings.specs.Keys.{nameR, keyR}
 use Rattle.inline.specs.Values.{valueR}
 use Rattle.blocktext.specs.Contract.{Asked}
 use Rattle.blocktext.specs.BlockStrings.{openStringR, propertyStringR}
@@ -44,8 +46,9 @@ use Rattle.blocks.specs.Property.{onR}
 use Rattle.blocks.specs.Openers.{openerR, nestedLineR}
 use Rattle.judge.specs.Members.{kindOf}
 use Rattle.judge.specs.Contract.{Stands, feedR, endsR, endR, later, Enclosed}
+use Rattle.judge.proofs.Names.{name-bad, name-got, name-is}
 use Rattle.judge.proofs.Outs.{raised-bad}
-use Rattle.judge.proofs.Spans.{value-ends, key-leaf}
+use Rattle.judge.proofs.Spans.{value-ends}
 
 -- ---- a cursor moved on over bytes that are no tree's
 
@@ -192,58 +195,63 @@ later-block doc c parent o (Bad q) p R R' T T' h = rw h refl
 pub key-ready : (doc : List ℕ) (c : Cursor) → Stands doc c → Ready doc (record { at = c .at; row = 0; text = c .text })
 key-ready doc c r = record { small = r .small; inside = r .inside; fewRows = omega arith; fewText = r .fewText; fewEscapes = r .fewEscapes }
 
-module _ (doc : List ℕ) (c : Cursor) (p : ℕ) (a : Ans) (W W' R R' T T' : List ℕ)
-    (w : Answers doc (record { at = c .at; row = 0; text = c .text }) p (keyR (c .at) (drop (c .at) doc)) a W W' T T') where
+-- a key's cursor, as far as its name is concerned
+abbrev rowless : Cursor → Cursor
+rowless c = record { at = c .at; row = 0; text = c .text }
+
+module _ (doc : List ℕ) (c : Cursor) (p : ℕ) (a : Ans) (R R' T T' : List ℕ) (w : Texts doc (rowless c) (nameR (c .at) (drop (c .at) doc)) a T T') where
   pub key-none : (q : ℕ) → a ≡ No q → Answers doc c p (keyR (c .at) (drop (c .at) doc)) (No q) R R' T T'
-  key-none q e = Laws.refused doc c p _ R R' T T' q (Laws.refusal doc _ p _ W W' T T' a q e w)
+  key-none q e = Laws.refused doc c p _ R R' T T' q (name-bad doc (rowless c) a T T' w q e)
 
-  module _ (n : Cursor) (e : a ≡ Ok n) where
-    key-got : Taken doc (record { at = c .at; row = 0; text = c .text }) p (keyR (c .at) (drop (c .at) doc)) n 0 W W' T T'
-    key-got = Laws.taken doc _ p _ W W' T T' a n e w
+  module _ (n : Cursor) (e : a ≡ Ok n) (r : Stands doc c) where
+    key-got : Texted itself doc (rowless c) (nameR (c .at) (drop (c .at) doc)) n 0 T T'
+    key-got = name-got doc (rowless c) a T T' w n e
 
-    pub key-small : (x y : ℕ) → x ≡ spot (c .text) → y ≡ spot (n .text) → Stands doc c → Small (c .at) (n .at) x y (c .row + 1)
-    key-small x y h k r =
-        let s = key-got .span in
+    key-low : spot (c .text) + length (key-got .value .bytes) < ESCAPE
+    key-low = omega (arith, r .small, r .fewText, key-got .spelt .inside, key-got .spelt .few)
+
+    key-text : spot (n .text) ≡ spot (c .text) + length (key-got .value .bytes)
+    key-text = ap spot (key-got .spelt .end) ∙ spot-on (c .text) (length (key-got .value .bytes)) (key-got .value .escapes) key-low
+
+    pub key-small : (x y : ℕ) → x ≡ spot (c .text) → y ≡ spot (n .text) → Small (c .at) (n .at) x y (c .row + 1)
+    key-small x y h k =
+        let s = key-got .spelt in
         record {
           first-fits = omega (arith, r .small, r .inside);
           after-fits = omega (arith, r .small, s .inside);
           from-fits = omega (arith, r .small, r .inside, r .fewText);
-          to-fits = omega (arith, r .small, r .fewText, s .inside, s .text, s .fewText);
+          to-fits = omega (arith, r .small, r .fewText, s .inside, key-text, s .few);
           next-fits = omega (arith, r .small, r .inside, r .fewRows);
         }
 
     pub key-placed : (y z : ℕ) (x : Words) → y ≡ spot (c .text) → z ≡ spot (n .text) → x ≡ record { kind = KEY; first = c .at; after = n .at; from = y; to = z; parent = p; next = c .row + 1 }
         → R' ≡ sets R (width * c .row) (rowList unlined (x .kind) (x .first) (x .after) (x .from) (x .to) (x .parent) (x .next))
         → Answers doc c p (keyR (c .at) (drop (c .at) doc)) (Ok (record { at = n .at; row = c .row + 1; text = n .text })) R R' T T'
-    unfolding size textOf escapesOf rowsOf
+    unfolding size textOf escapesOf rowsOf key-got
     key-placed y z x h k g s =
-        let u = key-leaf (c .at) (drop (c .at) doc) (key-got .tree) (n .at) (drop (n .at) doc) (key-got .is) in
-        let v = key-got .span in
-        let i : textOf (key-got .tree) ≡ u .0 .bytes = ap textOf (u .1) in
-        let j : escapesOf (key-got .tree) ≡ u .0 .escapes = ap escapesOf (u .1) in
-        let e : spot (n .text) ≡ spot (c .text) + length (u .0 .bytes) = v .text ∙ ap (λ (l : List ℕ). spot (c .text) + length l) i in
+        let v = key-got .spelt in
         Laws.took doc c p _ R R' T T' _
         (record {
-          tree = leaf KEY (c .at) (n .at) (u .0);
-          is = key-got .is ∙ ap (λ (l : Tree). ok l (n .at) (drop (n .at) doc)) (u .1);
+          tree = leaf KEY (c .at) (n .at) (key-got .value);
+          is = name-is doc (rowless c) a T T' w n e;
           span =
               record {
                 ahead = v .ahead;
                 inside = v .inside;
                 row = refl;
-                text = e;
-                escapes = v .escapes ∙ ap (λ (m : ℕ). tally (c .text) + m) j;
+                text = key-text;
+                escapes = ap tally (v .end) ∙ tally-on (c .text) (length (key-got .value .bytes)) (key-got .value .escapes) key-low;
                 fewRows = omega (arith, v .ahead);
-                fewText = rw i at (v .fewText);
-                fewEscapes = rw j at (v .fewEscapes);
+                fewText = v .few;
+                fewEscapes = v .scant;
               };
           filled =
               record {
                 table =
                     s
                     ∙ (ap (λ (m : Words). sets R (width * c .row) (rowList unlined (m .kind) (m .first) (m .after) (m .from) (m .to) (m .parent) (m .next))) g
-                    ∙ rw (h, k ∙ e) refl);
-                room = key-got .filled .room ∙ ap (sets T (spot (c .text))) i;
+                    ∙ rw (h, k ∙ key-text) refl);
+                room = v .room;
               };
         })
 

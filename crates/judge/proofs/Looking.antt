@@ -21,20 +21,22 @@ use Rattle.exact.specs.Lines.{spaces, ind-short, ind-full, ind-peek}
 use Rattle.rooms.specs.declared.Cursor.{Cursor}
 use Rattle.rooms.specs.declared.Ans.{Ans}
 use Rattle.rooms.specs.declared.Ans.the-variants.{Ok, No}
-use Rattle.rooms.specs.Contract.{Takes, Answers}
+use Rattle.rooms.specs.Contract.{Takes}
 use Rattle.rooms.specs.Indent.{spaces-lead}
 use Rattle.rooms.specs.Laws
 use Rattle.characters.specs.declared.Skip.{Skip}
 use Rattle.characters.specs.declared.Skip.the-variants.{End, Bad}
 use Rattle.characters.specs.Reads.{Ends, Skips}
 use Rattle.characters.specs.Comments.{optionalCommentR}
-use Rattle.strings.specs.Keys.{keyS, keyR}
+use Rattle.strings.specs.Contract.{Texts}
+use Rattle.strings.specs.Keys.{keyS, nameR, keyR}
 use Rattle.strings.specs.Quoted.{quotedS}
 use Rattle.blocks.specs.First.{refuted}
 use Rattle.blocks.specs.KeyLook.{colon, keyed, dashed}
 use Rattle.judge.specs.declared.Start.the-variants.{Dash, Key, Line}
 use Rattle.judge.specs.declared.Next.the-variants.{More, Over}
 use Rattle.judge.specs.Members.{firsts}
+use Rattle.judge.proofs.Names.{name-bad, name-is}
 use Rattle.judge.specs.Contract.{feedR, endsR, Gap, one-space, no-space, two-spaces, Looked, Follows}
 
 -- a test in code is a class
@@ -185,23 +187,21 @@ module _ (doc : List ℕ) (c : Cursor) (t : Ans) (h : Takes doc c 45 t) where
       go (byte-there z) = rw z (eqb-is 32 y ∙ ap (is (only 32)) (rw add-one at g))
       go (none-there z w) = rw z (eqb-is 32 y ∙ ap (is (only 32)) ((rw add-one at g) ∙ w))
 
-module _ (doc : List ℕ) (c : Cursor) (p : ℕ) (R R' T T' : List ℕ) (d : Bool) (hd : d ≡ dashed (drop (c .at) doc)) where
+module _ (doc : List ℕ) (c : Cursor) (T T' : List ℕ) (d : Bool) (hd : d ≡ dashed (drop (c .at) doc)) where
   pub look-dash : d ≡ true → Looked doc (c .at) Dash
   unfolding Looked
   look-dash e = sym hd ∙ e
 
-  module _ (a : Ans) (e : d ≡ false) (w : Answers doc c p (keyR (c .at) (drop (c .at) doc)) a R R' T T') where
+  module _ (a : Ans) (e : d ≡ false) (w : Texts doc c (nameR (c .at) (drop (c .at) doc)) a T T') where
     pub look-none : (q : ℕ) → a ≡ No q → Looked doc (c .at) (Line q)
     unfolding Looked
     look-none q z =
-        let k = Laws.refusal doc c p (keyR (c .at) (drop (c .at) doc)) R R' T T' a q z w in
+        let k = name-bad doc c a T T' w q z in
         record { no-dash = sym hd ∙ e; no-key = ap keyed k; stops = sym (ap reach k) }
 
     module _ (n : Cursor) (b : ℕ) (z : a ≡ Ok n) (g : b ≡ peek doc (n .at)) where
       key-there : keyed (keyR (c .at) (drop (c .at) doc)) ≡ is (only 58) b
-      key-there =
-          let k = Laws.taken doc c p (keyR (c .at) (drop (c .at) doc)) R R' T T' a n z w in
-          ap keyed (k .is) ∙ go (there doc (n .at))
+      key-there = ap keyed (name-is doc c a T T' w n z) ∙ go (there doc (n .at))
         where
           go : There doc (n .at) → colon (drop (n .at) doc) ≡ is (only 58) b
           go (byte-there y) = rw (y, ← g) refl
@@ -213,9 +213,7 @@ module _ (doc : List ℕ) (c : Cursor) (p : ℕ) (R R' T T' : List ℕ) (d : Boo
 
       pub look-other : (b ≡ 58 → ⊥) → Looked doc (c .at) (Line (n .at))
       unfolding Looked
-      look-other y =
-          let k = Laws.taken doc c p (keyR (c .at) (drop (c .at) doc)) R R' T T' a n z w in
-          record { no-dash = sym hd ∙ e; no-key = key-there ∙ only-no 58 b y; stops = sym (ap reach (k .is)) }
+      look-other y = record { no-dash = sym hd ∙ e; no-key = key-there ∙ only-no 58 b y; stops = sym (ap reach (name-is doc c a T T' w n z)) }
 
 pub ruleset spacing = (gap-none, gap-two, gap-one, needs)
 

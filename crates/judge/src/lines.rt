@@ -22,7 +22,6 @@ use blocktext::property_string;
 use characters::Skip;
 use inline::line_value;
 use language::Kind;
-use language::WIDTH;
 use rooms::Ans;
 use rooms::Block;
 use rooms::Cursor;
@@ -30,7 +29,7 @@ use rooms::Far;
 use rooms::greater;
 use rooms::put_row;
 use rooms::row_of;
-use strings::key;
+use strings::name;
 
 // A value on this line, and the line's end; at the root no comment.
 pub fn value_line(
@@ -135,7 +134,7 @@ pub fn kept(b: Block, p: usize) -> Block
     }
 }
 
-// A key, whose row may be one ahead of its place: it is read without its row, which is stored here.
+// A key, whose row may be one ahead of its place: its name is read, and its row stored here.
 pub fn key_row(doc: &[u8], rows: &mut [u32], text: &mut [u8], c: Cursor, parent: u32) -> Ans
     requires { ⌜ Stands (now doc) c ⌝ }
     ensures { λ r. ⌜ Answers (now (doc .entry)) c parent (keyR (c .at) (drop (c .at) (now (doc .entry)))) r (now (rows .entry)) (now (rows .exit)) (now (text .entry)) (now (text .exit)) ⌝ }
@@ -146,8 +145,7 @@ pub fn key_row(doc: &[u8], rows: &mut [u32], text: &mut [u8], c: Cursor, parent:
         row: 0,
         text: c.text,
     };
-    let mut words = [0u32; WIDTH];
-    match key(&*doc, &mut words, text, from, parent) {
+    match name(&*doc, text, from) {
         Ans::No(p) => Ans::No(p),
         Ans::Ok(n) => {
             let w = row_of(Kind::KEY, c.at, n.at, c.spot(), n.spot(), parent, row + 1);

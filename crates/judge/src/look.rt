@@ -17,7 +17,7 @@ use characters::is_key;
 use characters::optional_comment;
 use rooms::Ans;
 use rooms::Cursor;
-use strings::key;
+use strings::name;
 
 // The cursor at another place.
 pub fn moved(c: Cursor, at: usize) -> Cursor
@@ -106,7 +106,7 @@ pub fn further(doc: &[u8], c: Cursor, col: usize, object: bool) -> Next
     Next::Over(n.at)
 }
 
-// How a block begins at the cursor: a key is read into rooms of no use.
+// How a block begins at the cursor: a key's name is read into a room of no use.
 pub fn starts(doc: &[u8], c: Cursor) -> Start
     requires { ⌜ Ready (now doc) c ⌝ }
     ensures { λ r. ⌜ Looked (now (doc .entry)) (c .at) r ⌝ }
@@ -114,9 +114,8 @@ pub fn starts(doc: &[u8], c: Cursor) -> Start
     if dash(&*doc, c) {
         return Start::Dash;
     }
-    let mut rows = [0u32; 1];
     let mut text = [0u8; 1];
-    match key(&*doc, &mut rows, &mut text, c, 0) {
+    match name(&*doc, &mut text, c) {
         Ans::No(p) => Start::Line(p),
         Ans::Ok(n) => {
             if n.look(&*doc) == 58 {

@@ -248,7 +248,7 @@ pub fn plain(
         Took::Byte(b, n) => match b {
             45 => signed(&*doc, rows, text, c, parent, n, spaced).anew(),
             102..=116 => word(&*doc, rows, text, c, parent, b, n, spaced).anew(),
-            _ => number(&*doc, rows, text, c, parent, r, false, spaced).anew(),
+            _ => number(&*doc, rows, text, c.anew(), parent, r, false, spaced).anew(),
         },
     }
 }

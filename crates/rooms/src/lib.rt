@@ -1,7 +1,7 @@
 // The reading cursor, and the stores into the rooms lent. A store past a room's end changes nothing, so that the same readers check a document, with empty
 // rooms, and fill the rooms.
 ghost use mathlib.Core.Path.{_≡_};
-ghost use Prim.Native.Nat.{ℕ, _+_, _*_, _≤_, _<_, max};
+ghost use Prim.Native.Nat.{ℕ, _+_, _*_, _≤_, _<_, max, min};
 ghost use lib.ListN.{length, set, take, drop};
 ghost use lib.Seq.{sets, slice};
 ghost use Rattle.exact.specs.Place.{peek, common};
@@ -92,6 +92,19 @@ pub struct Words {
 }
 
 impl Cursor {
+    // The cursor made anew: one that its maker wrote field by field and that is handed on whole is copied in wide words, which wait for the narrow stores.
+    // Its row, at most its place, is taken as the lesser of the two, so that it is no copy.
+    pub fn anew(self) -> Cursor
+        requires { ⌜ self .row ≤ self .at ⌝ }
+        ensures { λ r. ⌜ r ≡ self ⌝ }
+    {
+        Cursor {
+            at: self.at,
+            row: lesser(self.row, self.at),
+            text: self.text,
+        }
+    }
+
     // The text byte that comes next.
     pub fn spot(self) -> usize
         ensures { λ r. ⌜ r ≡ told.spot (self .text) ⌝ }
@@ -191,6 +204,16 @@ pub fn greater(a: usize, b: usize) -> usize
     ensures { λ r. ⌜ r ≡ max a b ⌝ }
 {
     if a < b {
+        return b;
+    }
+    a
+}
+
+// The lesser of two numbers.
+pub fn lesser(a: usize, b: usize) -> usize
+    ensures { λ r. ⌜ r ≡ min a b ⌝ }
+{
+    if b < a {
         return b;
     }
     a

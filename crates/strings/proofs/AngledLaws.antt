@@ -26,11 +26,10 @@ use Rattle.rooms.specs.Contract.{Takes, Ready, Answers}
 use Rattle.rooms.specs.Laws.{take-next, take-byte, take-other}
 use Rattle.strings.specs.Bytes.{insideR, angledR, inlineBytesR, pairsR}
 use Rattle.strings.specs.Settled.{spaceNext, settled, inside-settled}
-use Rattle.strings.specs.Contract.{digitOf, DigitAt, Texts}
+use Rattle.strings.specs.Contract.{Texts}
 use Rattle.strings.specs.Inside.{Leafed}
 use Rattle.strings.specs.Hexes.{Paired, PairsAt, Closed}
 use Rattle.strings.proofs.TextLaws.{text-refused, front-not, front-ready, front-read}
-use Rattle.strings.proofs.DigitLaws.{low-at}
 use Rattle.strings.proofs.LeafLaws.{text-close, spanned-bad, spanned-read}
 use Rattle.strings.proofs.HexLaws.{low-is, low-none, lead-peek}
 
@@ -62,34 +61,31 @@ closeR bs = seqR (byteR (is (only 62))) λ _. retR (unescaped bs)
 abbrev innerR : Reader Decoded
 innerR = seqR (altR (is lowhex) insideR (retR [])) closeR
 
-module _ (doc : List ℕ) (n : Cursor) (b d : ℕ) (look : b ≡ peek doc (n .at)) (a : d ≡ digitOf lowhex b) where
+module _ (doc : List ℕ) (n : Cursor) (b : ℕ) (d : Bool) (look : b ≡ peek doc (n .at)) (a : d ≡ is lowhex b) where
   abbrev Inner : Ans → List ℕ → List ℕ → Type 0
   Inner r T T' = Texts doc n (innerR (n .at) (drop (n .at) doc)) r T T'
-
-  here : DigitAt lowhex doc (n .at) d
-  here = low-at doc (n .at) b d look a
 
   opened : innerR (n .at) (drop (n .at) doc)
       ≡ bind (pick (is lowhex (peek doc (n .at))) (insideR (n .at) (drop (n .at) doc)) (ok [] (n .at) (drop (n .at) doc))) closeR
   opened = rw (alt-peek doc (n .at) lowhex refl insideR (retR [])) refl
 
   -- none
-  pub inner-empty : (T : List ℕ) (r : Ans) → d ≡ 16 → Closed doc n (n .at) r → Inner r T T
+  pub inner-empty : (T : List ℕ) (r : Ans) → d ≡ false → Closed doc n (n .at) r → Inner r T T
   unfolding Closed Texts
   inner-empty T (Ok m) z h =
       let i = peek-in doc (n .at) 62 (h .1) (omega arith) in
       rw (h .0)
       (record {
         value = unescaped [];
-        is = opened ∙ rw (low-none doc (n .at) d here z, byte-is doc (n .at) 62 62 (omega arith) (h .1) refl) refl;
+        is = opened ∙ rw (low-none doc (n .at) b d look a z, byte-is doc (n .at) 62 62 (omega arith) (h .1) refl) refl;
         spelt = record { ahead = omega arith; inside = omega arith; row = refl; end = sym (add-zero (n .text)); few = omega arith; scant = omega arith; room = refl };
       })
-  inner-empty T (No p) z h = opened ∙ rw (low-none doc (n .at) d here z, byte-not doc (n .at) 62 (peek doc (n .at)) (omega arith) refl (h .1), h .0) refl
+  inner-empty T (No p) z h = opened ∙ rw (low-none doc (n .at) b d look a z, byte-not doc (n .at) 62 (peek doc (n .at)) (omega arith) refl (h .1), h .0) refl
 
   -- pairs
-  module _ (some : d ≡ 16 → ⊥) (f : Far) (T T' : List ℕ) (k : PairsAt doc n f T T') where
+  module _ (some : d ≡ true) (f : Far) (T T' : List ℕ) (k : PairsAt doc n f T T') where
     inner : innerR (n .at) (drop (n .at) doc) ≡ bind (settled (pairsR (n .at) (drop (n .at) doc))) closeR
-    inner = opened ∙ rw (low-is doc (n .at) d here some .0, inside-settled (n .at) (drop (n .at) doc)) refl
+    inner = opened ∙ rw (low-is doc (n .at) b d look a some, inside-settled (n .at) (drop (n .at) doc)) refl
 
     pub inner-bad : (p : ℕ) → f ≡ Not p → Inner (No p) T T'
     unfolding PairsAt

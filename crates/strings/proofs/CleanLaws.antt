@@ -30,8 +30,11 @@ use Rattle.strings.specs.Joining.{then-none, then-join}
 use Rattle.strings.specs.Plain.{char-plain, char-none}
 use Rattle.strings.specs.Quoted.{pieceS, escape-ll, singleEscape-ll}
 use Rattle.strings.specs.Rest.{rest-run, rest-at}
-use Rattle.strings.specs.Inside.{escapesR, leftR, specialR, Char, CharAt, CleanUpto, CleanTo}
+use Rattle.rooms.specs.declared.Cursor.{Cursor}
+use Rattle.rooms.specs.Contract.{Ready}
+use Rattle.strings.specs.Inside.{escapesR, leftR, specialR, Char, CharAt, CleanUpto, CleanTo, Copied}
 use Rattle.strings.proofs.DigitLaws.{class-in}
+use Rattle.strings.proofs.TextLaws.{copied, text-fits}
 
 -- ---- a character as it stands
 
@@ -179,5 +182,23 @@ module _ (q : ℕ) (doc : List ℕ) (quote : Quote q) where
 
       pub clean-less : length doc - m .at < length doc - e
       clean-less = let w = standing-here in omega (arith, w .ahead, w .inside)
+
+-- ---- where a backslash stands, nothing does as it stands
+
+back-dark : {q : ℕ} → Quote q → is (plainOf q) 92 ≡ false
+back-dark double = refl
+back-dark single = refl
+
+pub clean-back : (q : ℕ) (doc : List ℕ) (c : Cursor) (b : ℕ) (T : List ℕ) → Quote q → Ready doc c → b ≡ peek doc (c .at) → b ≡ 92 → Copied (CleanTo q) doc c c T T
+clean-back q doc c b T quote ready look e =
+    let x = clean-first q doc quote (c .at) (ready .inside) in
+    record {
+      run = record { reads = x .reads; from = x .from; inside = x .inside; dark = rw (← look, e) (back-dark quote) };
+      row = refl;
+      end = omega arith;
+      room = rw (slice-empty (c .at) doc) refl;
+    }
+
+pub ruleset cleaning = (clean-back, copied, text-fits, needs)
 
 pub ruleset cleans = (clean-first, clean-stop, clean-more, clean-less, needs)

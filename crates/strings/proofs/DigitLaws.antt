@@ -1,17 +1,17 @@
 -- Laws of hex digits, scalar values and letters behind a backslash, as the tests in code meet them.
-use mathlib.Core.Path.{_≡_, refl, ap, _∙_}
+use mathlib.Core.Path.{_≡_, refl, sym, ap, _∙_}
 use mathlib.Core.List.{List}
 use mathlib.Core.Bool.{Bool, true, false}
-use Prim.Native.Nat.{ℕ, suc, _-_, _≤_, _<_}
+use Prim.Native.Nat.{ℕ, suc, _+_, _-_, _*_, _/_, _%_, _≤_, _<_}
 use native.Mathlib.Omega.{arith}
 use native.Mathlib.Decide.{decLe}
-use lib.ListN.{length, List·getD-eq-default}
+use lib.ListN.{length, getD, List·getD-eq-default}
 use lib.Dec.{leb}
 use borrow.Author.Needs.{needs}
 use borrow.Author.Tests.{le-leb, lt-leb}
 use mathlib.Core.Logic.{_⊎_, inl, inr}
 use Rattle.exact.specs.Class.{pick, clash, Class, is, within, _to_, sub, inside, and, or, or-of, range-of}
-use Rattle.exact.specs.Place.{peek}
+use Rattle.exact.specs.Place.{peek, getD-any}
 use Rattle.language.specs.Strings.{hexval, hexdigit, lowhex, scalar, lettered}
 use Rattle.characters.specs.declared.Reading.{Reading}
 use Rattle.characters.specs.declared.Took.{Took}
@@ -20,7 +20,7 @@ use Rattle.characters.specs.Reads.{ByteRead, byte-there, byte-next, byte-over}
 use Rattle.characters.specs.Plains.{other}
 use Rattle.strings.specs.declared.digits.Digit.{Digit}
 use Rattle.strings.specs.declared.digits.Digit.the-variants.{Of, None}
-use Rattle.strings.specs.Contract.{digitOf, DigitAt, Digited, DigitRead, lettering, Letter}
+use Rattle.strings.specs.Contract.{digitOf, Digited, DigitRead, lettering, Letter}
 
 -- ---- a digit at a place
 
@@ -75,9 +75,6 @@ module _ (c : Class) (b : ℕ) where
       by (valued h k) = absurd (let l = hexval-low b (inside c hexdigit b s h) in omega arith)
       by (no-value h k) = h
 
-pub low-at : (doc : List ℕ) (at b r : ℕ) → b ≡ peek doc at → r ≡ digitOf lowhex b → DigitAt lowhex doc at r
-low-at doc at b r look h = record { is = rw (← look) h; most = rw h (digit-most lowhex b refl) }
-
 -- ---- a digit read
 
 module _ (c : Class) (doc : List ℕ) (at : ℕ) (within-hex : sub c hexdigit ≡ true) (t : Took) (h : ByteRead doc at t) where
@@ -103,6 +100,19 @@ module _ (c : Class) (doc : List ℕ) (at : ℕ) (within-hex : sub c hexdigit �
           small = let l = digit-most c b within-hex in omega (arith, z);
           next = byte-next doc at t h b n e;
         }
+
+  -- .. by the class and the value of its byte
+  module _ (b d : ℕ) (n : Reading) (e : t ≡ Byte b n) (x : Bool) (k : x ≡ is c b) where
+    there : b ≡ peek doc at
+    there = byte-there doc at t h b n e
+
+    pub class-other : x ≡ false → DigitRead c doc at None
+    unfolding DigitRead
+    class-other z = rw (← there) (sym k ∙ z)
+
+    pub class-read : x ≡ true → d ≡ hexval b → d < 16 → DigitRead c doc at (Of d n)
+    unfolding DigitRead
+    class-read z v l = record { digit = rw (← there) (sym k ∙ z); value = rw (← there) v; small = l; next = byte-next doc at t h b n e }
 
 -- .. and taken apart
 module _ (c : Class) (doc : List ℕ) (at : ℕ) (r : Digit) (h : DigitRead c doc at r) where
@@ -133,6 +143,17 @@ class-in k doc at n e = by (decLe (suc at) (length doc))
     by : Dec (suc at ≤ length doc) → at < length doc
     by (yes l) = l
     by (no l) = absurd (clash e (ap (is k) (List·getD-eq-default doc 256 (omega arith)) ∙ n))
+
+-- a digit that is known to stand at a place: its byte, and its value
+module _ (doc : List ℕ) (at : ℕ) (h : is lowhex (peek doc at) ≡ true) where
+  same-byte : peek doc at ≡ getD doc at 0
+  same-byte = getD-any doc at 256 0 (class-in lowhex doc at refl h)
+
+  pub low-byte : is lowhex (getD doc at 0) ≡ true
+  low-byte = rw same-byte at h
+
+  pub low-there : (r : ℕ) → r ≡ hexval (getD doc at 0) → r < 16 → Digited lowhex doc at r (at + 1)
+  low-there r v l = record { digit = h; value = rw same-byte v; small = l; next = refl }
 
 -- ---- digits of either case
 
@@ -165,27 +186,35 @@ module _ (b : ℕ) where
   unfolding digitOf
   hex-above h = rw (le-leb 48 b (omega arith), lt-leb b 57 (omega arith), le-leb 65 b (omega arith), lt-leb b 70 (omega arith), le-leb 97 b (omega arith), lt-leb b 102 h) refl
 
-  -- ---- lowercase digits
+-- ---- lowercase digits
 
-  pub low-below : b < 48 → 16 ≡ digitOf lowhex b
-  unfolding digitOf
+module _ (b : ℕ) where
+  pub low-below : b < 48 → false ≡ is lowhex b
   low-below h = rw (lt-leb 48 b h, lt-leb 97 b (omega arith)) refl
 
-  pub low-decimal : 48 ≤ b → b ≤ 57 → b - 48 ≡ digitOf lowhex b
-  unfolding digitOf
+  pub low-decimal : 48 ≤ b → b ≤ 57 → true ≡ is lowhex b
   low-decimal h k = rw (le-leb 48 b h, le-leb b 57 k) refl
 
-  pub low-middle : 57 < b → b < 97 → 16 ≡ digitOf lowhex b
-  unfolding digitOf
+  pub low-middle : 57 < b → b < 97 → false ≡ is lowhex b
   low-middle h k = rw (le-leb 48 b (omega arith), lt-leb b 57 h, lt-leb 97 b k) refl
 
-  pub low-lower : 97 ≤ b → b ≤ 102 → b - 87 ≡ digitOf lowhex b
-  unfolding digitOf
-  low-lower h k = rw (le-leb 48 b (omega arith), lt-leb b 57 (omega arith), le-leb 97 b h, le-leb b 102 k, lt-leb b 70 (omega arith)) refl
+  pub low-lower : 97 ≤ b → b ≤ 102 → true ≡ is lowhex b
+  low-lower h k = rw (le-leb 48 b (omega arith), lt-leb b 57 (omega arith), le-leb 97 b h, le-leb b 102 k) refl
 
-  pub low-above : 102 < b → 16 ≡ digitOf lowhex b
-  unfolding digitOf
+  pub low-above : 102 < b → false ≡ is lowhex b
   low-above h = rw (le-leb 48 b (omega arith), lt-leb b 57 (omega arith), le-leb 97 b (omega arith), lt-leb b 102 h) refl
+
+  -- the last four bits, and 9 more for a letter
+  pub low-sum : is lowhex b ≡ true → (b % 16 + 9 * (b / 64) ≡ hexval b) × (b % 16 + 9 * (b / 64) < 16)
+  low-sum e = by (or-of (within (48 to 57) b) (or (within (97 to 102) b) false) e)
+    where
+      lower : (within (97 to 102) b ≡ true) ⊎ (false ≡ true) → (b % 16 + 9 * (b / 64) ≡ hexval b) × (b % 16 + 9 * (b / 64) < 16)
+      lower (inl x) = let h = range-of 97 102 b x in rw (lt-leb b 57 (omega arith), lt-leb b 70 (omega arith)) (omega arith, omega arith)
+      lower (inr x) = absurd (clash x refl)
+
+      by : (within (48 to 57) b ≡ true) ⊎ (or (within (97 to 102) b) false ≡ true) → (b % 16 + 9 * (b / 64) ≡ hexval b) × (b % 16 + 9 * (b / 64) < 16)
+      by (inl x) = let h = range-of 48 57 b x in rw (le-leb b 57 (h .1)) (omega arith, omega arith)
+      by (inr x) = lower (or-of (within (97 to 102) b) false x)
 
 -- ---- scalar values
 
@@ -205,9 +234,15 @@ module _ (v : ℕ) where
 
 pub ruleset digits = (hex-below, hex-decimal, hex-middle, hex-upper, hex-between, hex-lower, hex-above, needs)
 
-pub ruleset lows = (low-below, low-decimal, low-middle, low-lower, low-above, needs)
+pub ruleset lows = (low-below, low-decimal, low-middle, low-lower, low-above, low-sum, needs)
 
-pub ruleset digit-reads = (digit-over, digit-other, digit-read, hex-sub, low-sub, hex-over, low-over, needs)
+pub ruleset lows-here = (class-in, low-byte, low-there, low-over, needs)
+
+-- by a test
+pub low-yes : (b : ℕ) (x : Bool) → x ≡ is lowhex b → x ≡ true → is lowhex b ≡ true
+low-yes b x k e = sym k ∙ e
+
+pub ruleset digit-reads = (low-yes, digit-over, digit-other, digit-read, class-other, class-read, hex-sub, low-sub, hex-over, low-over, needs)
 
 pub ruleset scalars = (scalar-low, scalar-gap, scalar-high, needs)
 

@@ -1,8 +1,8 @@
 -- Hex pairs: laws for each return, and for the loop over them.
 use mathlib.Core.Path.{_≡_, refl, sym, ap, _∙_}
 use mathlib.Core.List.{List, [], _∷_}
-use mathlib.Core.Bool.{true, false}
-use Prim.Native.Nat.{ℕ, suc, _+_, _*_, _^_, _≤_, _<_}
+use mathlib.Core.Bool.{Bool, true, false}
+use Prim.Native.Nat.{ℕ, suc, _+_, _*_, _^_, _<_}
 use native.Mathlib.Numerals.{add-one}
 use native.Mathlib.Omega.{arith}
 use lib.ListN.{drop, set}
@@ -26,47 +26,40 @@ use Rattle.strings.specs.declared.digits.Digit.{Digit}
 use Rattle.strings.specs.declared.digits.Digit.the-variants.{Of, None}
 use Rattle.strings.specs.declared.hex.Next.the-variants.{Begins, Stops}
 use Rattle.strings.specs.Bytes.{pairR, furtherR, digitNext, pairsOn}
-use Rattle.strings.specs.Contract.{digitOf, DigitAt, Digited, DigitRead, Texts}
+use Rattle.strings.specs.Contract.{Digited, DigitRead, Texts}
 use Rattle.strings.specs.Hexes.{pairTextR, Furthers}
-use Rattle.strings.proofs.DigitLaws.{digit-is, digit-none, low-at, digited, undigited, class-in}
+use Rattle.strings.proofs.DigitLaws.{digited, undigited, class-in}
 use Rattle.strings.proofs.TextLaws.{text-adds, text-refused, spelling}
 
--- ---- a digit at a place
+-- ---- a digit at a place, by a test of its byte
 
-module _ (doc : List ℕ) (at d : ℕ) (a : DigitAt lowhex doc at d) where
-  pub low-is : (d ≡ 16 → ⊥) → (is lowhex (peek doc at) ≡ true) × (d ≡ hexval (peek doc at))
-  low-is n = digit-is lowhex (peek doc at) d (a .is) n
+module _ (doc : List ℕ) (at b : ℕ) (x : Bool) (look : b ≡ peek doc at) (k : x ≡ is lowhex b) where
+  pub low-is : x ≡ true → is lowhex (peek doc at) ≡ true
+  low-is e = rw (← look) (sym k ∙ e)
 
-  pub low-none : d ≡ 16 → is lowhex (peek doc at) ≡ false
-  low-none e = digit-none lowhex (peek doc at) refl d (a .is) e
+  pub low-none : x ≡ false → is lowhex (peek doc at) ≡ false
+  low-none e = rw (← look) (sym k ∙ e)
 
 -- ---- a pair
 
-module _ (doc : List ℕ) (c : Cursor) (r : Digit) (high : DigitRead lowhex doc (c .at) r) where
+module _ (doc : List ℕ) (c : Cursor) (h : ℕ) (x : Digited lowhex doc (c .at) h (c .at + 1)) where
   abbrev Pair : Ans → List ℕ → List ℕ → Type 0
   Pair a T T' = Texts doc c (pairTextR (c .at) (drop (c .at) doc)) a T T'
 
-  pub pair-none : (T : List ℕ) → r ≡ None → Pair (No (c .at)) T T
-  unfolding pairR
-  pair-none T e = text-refused doc c _ T T (c .at) (rw (byte-peek doc (c .at) lowhex refl, undigited lowhex doc (c .at) r high e) refl)
+  pub pair-times : 16 * h < 2 ^ 32
+  pair-times = omega (arith, x .small)
 
-  pub pair-times : (h : ℕ) (m : Reading) → r ≡ Of h m → 16 * h < 2 ^ 32
-  pair-times h m e = omega (arith, digited lowhex doc (c .at) r high h m e .small)
-
-  module _ (h : ℕ) (m : Reading) (e : r ≡ Of h m) (s : Digit) (low : DigitRead lowhex doc (m .at) s) where
-    x : Digited lowhex doc (c .at) h (m .at)
-    x = digited lowhex doc (c .at) r high h m e
-
-    first : pairR (c .at) (drop (c .at) doc) ≡ bind (byteR (is lowhex) (m .at) (drop (m .at) doc)) (λ b. retR (16 * h + hexval b))
+  module _ (s : Digit) (low : DigitRead lowhex doc (c .at + 1) s) where
+    first : pairR (c .at) (drop (c .at) doc) ≡ bind (byteR (is lowhex) (c .at + 1) (drop (c .at + 1) doc)) (λ b. retR (16 * h + hexval b))
     unfolding pairR
-    first = rw (byte-peek doc (c .at) lowhex refl, x .digit, x .value, x .next, add-one) refl
+    first = rw (byte-peek doc (c .at) lowhex refl, x .digit, x .value, add-one) refl
 
-    pub pair-half : (T : List ℕ) → s ≡ None → Pair (No (m .at)) T T
-    pair-half T k = text-refused doc c _ T T (m .at) (ap (fmap (λ p. unescaped (p ∷ []))) first ∙ rw (byte-peek doc (m .at) lowhex refl, undigited lowhex doc (m .at) s low k) refl)
+    pub pair-half : (T : List ℕ) → s ≡ None → Pair (No (c .at + 1)) T T
+    pair-half T k = text-refused doc c _ T T (c .at + 1) (ap (fmap (λ p. unescaped (p ∷ []))) first ∙ rw (byte-peek doc (c .at + 1) lowhex refl, undigited lowhex doc (c .at + 1) s low k) refl)
 
     module _ (l : ℕ) (n : Reading) (k : s ≡ Of l n) where
-      y : Digited lowhex doc (m .at) l (n .at)
-      y = digited lowhex doc (m .at) s low l n k
+      y : Digited lowhex doc (c .at + 1) l (n .at)
+      y = digited lowhex doc (c .at + 1) s low l n k
 
       pub pair-byte : 16 * h + l < 256
       pair-byte = omega (arith, x .small, y .small)
@@ -76,13 +69,13 @@ module _ (doc : List ℕ) (c : Cursor) (r : Digit) (high : DigitRead lowhex doc 
 
       pub pair-read : (x : ℕ) (T T' : List ℕ) → x ≡ spot (c .text) → T' ≡ set T x (16 * h + l) → Pair (Ok (record { at = n .at; row = c .row; text = c .text + 1 })) T T'
       pair-read p T T' q t =
-          let i = class-in lowhex doc (m .at) refl (y .digit) in
-          let z : suc (m .at) ≡ n .at = omega (arith, y .next) in
+          let i = class-in lowhex doc (c .at + 1) refl (y .digit) in
+          let z : suc (c .at + 1) ≡ n .at = omega (arith, y .next) in
           spelling doc c _ T T' (unescaped ((16 * h + l) ∷ [])) (n .at) (c .text + 1)
-          (ap (fmap (λ p. unescaped (p ∷ []))) first ∙ rw (byte-peek doc (m .at) lowhex refl, y .digit, y .value, z) refl)
-          (omega (arith, x .next, y .next)) (omega (arith, y .next)) (omega arith) (omega (arith, x .next, y .next)) (omega (arith, x .next, y .next)) (rw q at t)
+          (ap (fmap (λ p. unescaped (p ∷ []))) first ∙ rw (byte-peek doc (c .at + 1) lowhex refl, y .digit, y .value, z) refl)
+          (omega (arith, y .next)) (omega (arith, y .next)) (omega arith) (omega (arith, y .next)) (omega (arith, y .next)) (rw q at t)
 
-pub ruleset pairing = (pair-none, pair-times, pair-half, pair-byte, pair-fits, pair-read, text-adds, needs)
+pub ruleset pairing = (pair-times, pair-half, pair-byte, pair-fits, pair-read, text-adds, needs)
 
 -- ---- what follows a pair
 
@@ -107,26 +100,24 @@ lead-peek doc at = by (there doc at)
     by (byte-there p) = ap (lead 1) p
     by (none-there p q) = ap (lead 1) p ∙ rw q refl
 
-module _ (doc : List ℕ) (c : Cursor) (b d : ℕ) (look : b ≡ peek doc (c .at)) (a : d ≡ digitOf lowhex b) where
-  here : DigitAt lowhex doc (c .at) d
-  here = low-at doc (c .at) b d look a
-
-  pub further-here : d < 16 → Furthers doc c (Begins c)
+module _ (doc : List ℕ) (c : Cursor) (b : ℕ) (v : Bool) (look : b ≡ peek doc (c .at)) (a : v ≡ is lowhex b) where
+  pub further-here : v ≡ true → Furthers doc c (Begins c)
   unfolding Furthers furtherR
   further-here l =
-      let x = low-is doc (c .at) d here (λ e. omega arith) in
+      let x = low-is doc (c .at) b v look a l in
       record {
-        on = on-peek doc (c .at) ∙ rw (x .0) refl;
-        is = alt-peek doc (c .at) lowhex refl pairR (seqR (byteR (is (only 32))) λ _. pairR) ∙ rw (x .0) refl;
+        on = on-peek doc (c .at) ∙ rw x refl;
+        is = alt-peek doc (c .at) lowhex refl pairR (seqR (byteR (is (only 32))) λ _. pairR) ∙ rw x refl;
         from = omega arith;
-        inside = class-in lowhex doc (c .at) refl (x .0);
+        inside = class-in lowhex doc (c .at) refl x;
+        digit = x;
         row = refl;
         text = refl;
       }
 
-  module _ (no : 16 ≤ d) (t : Ans) (h : Takes doc c 32 t) where
+  module _ (no : v ≡ false) (t : Ans) (h : Takes doc c 32 t) where
     dark : is lowhex (peek doc (c .at)) ≡ false
-    dark = low-none doc (c .at) d here (let m = here .most in omega arith)
+    dark = low-none doc (c .at) b v look a no
 
     pub stops-here : (p : ℕ) → t ≡ No p → Furthers doc c (Stops p)
     unfolding Furthers
@@ -134,7 +125,7 @@ module _ (doc : List ℕ) (c : Cursor) (b d : ℕ) (look : b ≡ peek doc (c .at
         let z : is (only 32) (peek doc (c .at)) ≡ false = only-no 32 (peek doc (c .at)) (take-other doc c 32 t h p e) in
         record { off = on-peek doc (c .at) ∙ rw (dark, z) refl; is = rw (lead-peek doc (c .at), z) (take-place doc c 32 t h p e ∙ omega arith) }
 
-    module _ (n : Cursor) (e : t ≡ Ok n) (g f : ℕ) (look-behind : g ≡ peek doc (n .at)) (k : f ≡ digitOf lowhex g) where
+    module _ (n : Cursor) (e : t ≡ Ok n) (g : ℕ) (f : Bool) (look-behind : g ≡ peek doc (n .at)) (k : f ≡ is lowhex g) where
       step : n ≡ onward c 1
       step = take-next doc c 32 t h n e
 
@@ -144,29 +135,27 @@ module _ (doc : List ℕ) (c : Cursor) (b d : ℕ) (look : b ≡ peek doc (c .at
       next-at : n .at ≡ c .at + 1
       next-at = ap (λ (z : Cursor). z .at) step
 
-      behind : DigitAt lowhex doc (n .at) f
-      behind = low-at doc (n .at) g f look-behind k
-
-      pub further-behind : f < 16 → Furthers doc c (Begins n)
+      pub further-behind : f ≡ true → Furthers doc c (Begins n)
       unfolding Furthers furtherR
       further-behind l =
-          let x = low-is doc (n .at) f behind (λ e. omega arith) in
-          let w : is lowhex (peek doc (c .at + 1)) ≡ true = rw (← next-at) (x .0) in
+          let x = low-is doc (n .at) g f look-behind k l in
+          let w : is lowhex (peek doc (c .at + 1)) ≡ true = rw (← next-at) x in
           record {
             on = on-peek doc (c .at) ∙ rw (dark, blank, w) refl;
             is =
                 alt-peek doc (c .at) lowhex refl pairR (seqR (byteR (is (only 32))) λ _. pairR)
                 ∙ rw (dark, byte-is doc (c .at) 32 32 (omega arith) (take-byte doc c 32 t h n e) refl, next-at) refl;
             from = omega (arith, next-at);
-            inside = class-in lowhex doc (n .at) refl (x .0);
+            inside = class-in lowhex doc (n .at) refl x;
+            digit = x;
             row = ap (λ (z : Cursor). z .row) step;
             text = ap (λ (z : Cursor). z .text) step;
           }
 
-      pub stops-behind : 16 ≤ f → Furthers doc c (Stops (n .at))
+      pub stops-behind : f ≡ false → Furthers doc c (Stops (n .at))
       unfolding Furthers
       stops-behind l =
-          let x = low-none doc (n .at) f behind (let m = behind .most in omega arith) in
+          let x = low-none doc (n .at) g f look-behind k l in
           let w : is lowhex (peek doc (c .at + 1)) ≡ false = rw (← next-at) x in
           record { off = on-peek doc (c .at) ∙ rw (dark, blank, w) refl; is = rw (lead-peek doc (c .at), blank) next-at }
 

@@ -1,4 +1,4 @@
--- Keys: laws of the returns of `key`.
+-- Keys: laws of the returns of `name` and `key`.
 use mathlib.Core.Path.{_≡_, refl, sym, ap, _∙_}
 use mathlib.Core.List.{List, _∷_}
 use mathlib.Core.Bool.{Bool, true, false}
@@ -30,7 +30,7 @@ use Rattle.strings.proofs.LeafLaws.{text-close, spanned-bad, spanned-re
 
 -- ---- a bare key
 
-module _ (doc : List ℕ) (c : Cursor) (ready : Ready doc c) (b : ℕ) (look : b ≡ peek doc (c .at)) (x : Bool) (k : x ≡ is keybyte b) where
+module _ (doc : List ℕ) (c : Cursor) (b : ℕ) (look : b ≡ peek doc (c .at)) (x : Bool) (k : x ≡ is keybyte b) where
   named : x ≡ true → nameR (c .at) (drop (c .at) doc) ≡ mapR unescaped bareR (c .at) (drop (c .at) doc)
   unfolding nameR
   named t = alt-peek doc (c .at) keybyte refl (mapR unescaped bareR) quotedR ∙ rw (← look, ← k, t) refl
@@ -50,7 +50,7 @@ module _ (doc : List ℕ) (c : Cursor) (ready : Ready doc c) (b : ℕ) (look : b
         let s : slice (c .at) (n .at) doc ≡ peek doc (c .at) ∷ slice (suc (c .at)) (n .at) doc = slice-cons (c .at) (n .at) doc 256 g (cop .run .inside) in
         (g, rw (byte-peek doc (c .at) keybyte refl, h, run-end keybyte doc (suc (c .at)), ← e) (ap (λ v. ok v (n .at) (drop (n .at) doc)) (sym s)))
 
-    bare-text : Texts doc c (nameR (c .at) (drop (c .at) doc)) (Ok n) T T'
+    pub bare-text : Texts doc c (nameR (c .at) (drop (c .at) doc)) (Ok n) T T'
     unfolding Texts
     bare-text =
         let l : length (slice (c .at) (n .at) doc) ≡ n .at - c .at = length-slice (c .at) (n .at) doc (cop .run .inside) in
@@ -69,25 +69,31 @@ module _ (doc : List ℕ) (c : Cursor) (ready : Ready doc c) (b : ℕ) (look : b
               };
         }
 
-    pub bare-close : Close c n
-    bare-close = text-close doc c n _ (Ok n) T T' ready refl bare-text
-
-    pub bare-read : (p : ℕ) (R R' : List ℕ) (m : Cursor) → Leafed c n p KEY m R R' → Answers doc c p (keyR (c .at) (drop (c .at) doc)) (Ok m) R R' T T'
-    unfolding keyR
-    bare-read p R R' m f = spanned-read KEY nameR doc c p (Ok n) T T' bare-text R R' n m ready (omega arith) refl f
-
   -- ---- a quoted key
 
-  module _ (p : ℕ) (a : Ans) (T T' : List ℕ) (t : x ≡ false) (h : Texts doc c (quotedR (c .at) (drop (c .at) doc)) a T T') where
-    name-text : Texts doc c (nameR (c .at) (drop (c .at) doc)) a T T'
-    name-text = rw (unnamed t) h
+  pub quoted-text : (a : Ans) (T T' : List ℕ) → x ≡ false → Texts doc c (quotedR (c .at) (drop (c .at) doc)) a T T' → Texts doc c (nameR (c .at) (drop (c .at) doc)) a T T'
+  quoted-text a T T' t h = rw (unnamed t) h
 
-    pub key-not : (R R' : List ℕ) (q : ℕ) → a ≡ No q → Answers doc c p (keyR (c .at) (drop (c .at) doc)) (No q) R R' T T'
-    unfolding keyR
-    key-not R R' q e = spanned-bad KEY nameR doc c p a T T' name-text R R' q e
+pub ruleset names = (bare-text, quoted-text, needs)
 
-    pub key-read : (R R' : List ℕ) (n m : Cursor) → a ≡ Ok n → Leafed c n p KEY m R R' → Answers doc c p (keyR (c .at) (drop (c .at) doc)) (Ok m) R R' T T'
-    unfolding keyR
-    key-read R R' n m e f = spanned-read KEY nameR doc c p a T T' name-text R R' n m ready (omega arith) e f
+-- ---- a key and its row, read at the same cursor made anew
 
-pub ruleset keys = (bare-close, bare-read, text-close, key-not, key-read, needs)
+pub anew-ready : (doc : List ℕ) (c m : Cursor) → m ≡ c → Ready doc c → Ready doc m
+anew-ready doc c m e ready = rw e ready
+
+module _ (doc : List ℕ) (c m : Cursor) (same : m ≡ c) (a : Ans) (T T' : List ℕ) (h : Texts doc m (nameR (m .at) (drop (m .at) doc)) a T T') where
+  name-text : Texts doc c (nameR (c .at) (drop (c .at) doc)) a T T'
+  name-text = rw same at h
+
+  pub key-close : (n : Cursor) → Ready doc c → a ≡ Ok n → Close c n
+  key-close n ready e = text-close doc c n _ a T T' ready e name-text
+
+  pub key-not : (p : ℕ) (R R' : List ℕ) (q : ℕ) → a ≡ No q → Answers doc c p (keyR (c .at) (drop (c .at) doc)) (No q) R R' T T'
+  unfolding keyR
+  key-not p R R' q e = spanned-bad KEY nameR doc c p a T T' name-text R R' q e
+
+  pub key-read : (p : ℕ) (R R' : List ℕ) (n i : Cursor) → Ready doc c → a ≡ Ok n → Leafed c n p KEY i R R' → Answers doc c p (keyR (c .at) (drop (c .at) doc)) (Ok i) R R' T T'
+  unfolding keyR
+  key-read p R R' n i ready e f = spanned-read KEY nameR doc c p a T T' name-text R R' n i ready (omega arith) e f
+
+pub ruleset keys = (anew-ready, key-close, key-not, key-read, needs)

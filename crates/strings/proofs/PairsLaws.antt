@@ -1,6 +1,7 @@
 -- The loop over hex pairs, and `<..>` around them: laws for each turn and each return.
 use mathlib.Core.Path.{_≡_, refl, sym, ap, _∙_}
 use mathlib.Core.List.{List, [], _∷_, _++_}
+use mathlib.Core.Bool.{Bool, true, false}
 use Prim.Native.Nat.{ℕ, _+_, _-_, _<_}
 use native.Mathlib.Omega.{arith}
 use lib.ListN.{length, drop, length-append}
@@ -10,6 +11,8 @@ use Rattle.exact.specs.Out.{Out, ok, soft, bad, bind, fmap, Reader}
 use Rattle.exact.specs.Answers.{map-fmap, bind-same, fmap-none}
 use Rattle.exact.specs.Block.{manyG, lead}
 use Rattle.exact.specs.Lines.{soft-reached}
+use Rattle.exact.specs.Place.{peek, byte-peek}
+use Rattle.language.specs.Strings.{lowhex}
 use Rattle.language.specs.Tree.{Decoded, unescaped}
 use Rattle.strings.specs.Joining.{itself, lists}
 use Rattle.rooms.specs.Told.{spot}
@@ -26,6 +29,7 @@ use Rattle.strings.specs.Contract.{Texted, Texts, Spelt}
 use Rattle.strings.specs.Inside.{Within}
 use Rattle.strings.specs.Hexes.{pairTextR, Further, Stopped, Furthers, PairsAt}
 use Rattle.strings.proofs.TextLaws.{room-join, text-taken, text-refusal}
+use Rattle.strings.proofs.HexLaws.{low-is, low-none}
 use Rattle.strings.proofs.StringLaws.{within-none, extend, within-spot}
 
 -- ---- answers of one byte
@@ -91,6 +95,9 @@ module _ (doc : List ℕ) (s n : Cursor) (T₀ T : List ℕ) (w : Pairing doc s 
             extend unescaped _++_ lists pairsR doc s n T₀ T w i (got .0 ∷ []) T₁ (pairs-by ∙ ap (fmap (got .0 ∷_)) many-on) (omega arith) (further .row ∙ text .spelt .row)
             (further .text ∙ rw (got .1) at (text .spelt .end)) (omega (arith, rw (got .1) at (text .spelt .few))) (omega arith) (rw (got .1) at (text .spelt .room))
 
+        pub pairs-digit : is lowhex (peek doc (i .at)) ≡ true
+        pairs-digit = further .digit
+
         pub pairs-less : length doc - i .at < length doc - n .at
         pairs-less = let x = text .spelt .ahead in let y = further .from in let z = further .inside in omega arith
 
@@ -122,4 +129,12 @@ module _ (doc : List ℕ) (s n : Cursor) (T₀ T : List ℕ) (w : Pairing doc s 
             far-is = g .is;
           }
 
-pub ruleset pairing-on = (pairs-first, pairs-not, pairs-turn, pairs-less, pairs-upto, needs)
+-- no digit
+pub pairs-none : (doc : List ℕ) (c : Cursor) (T : List ℕ) (b : ℕ) (x : Bool) → b ≡ peek doc (c .at) → x ≡ is lowhex b → x ≡ false → PairsAt doc c (Not (c .at)) T T
+unfolding PairsAt pairR
+pairs-none doc c T b x look k e =
+    pairs-as (c .at) (drop (c .at) doc) ∙ rw (byte-peek doc (c .at) lowhex refl, low-none doc (c .at) b x look k e) refl
+
+pub ruleset pairing-on = (pairs-first, pairs-not, pairs-turn, pairs-digit, pairs-less, pairs-upto, needs)
+
+pub ruleset pairing-all = (low-is, pairs-none, needs)

@@ -49,11 +49,6 @@ Texts doc c o (No p) text text' = o ≡ bad p
 unfoldable pub digitOf : Class → ℕ → ℕ
 digitOf c b = pick (is c b) (hexval b) 16
 
--- r is the digit at a place
-pub record DigitAt (c : Class) (doc : List ℕ) (at r : ℕ) : Type 0 where
-  pub is : r ≡ digitOf c (peek doc at)
-  pub most : r ≤ 16
-
 -- the digit d of the class stands at a place, and n behind it; or none does
 pub record Digited (c : Class) (doc : List ℕ) (at d n : ℕ) : Type 0 where
   pub digit : is c (peek doc at) ≡ true

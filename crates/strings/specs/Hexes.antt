@@ -4,9 +4,11 @@ use mathlib.Core.List.{List, [], _∷_}
 use mathlib.Core.Bool.{true, false}
 use Prim.Native.Nat.{ℕ, _+_, _≤_, _<_}
 use lib.ListN.{length, drop}
+use Rattle.exact.specs.Class.{is}
 use Rattle.exact.specs.Out.{Reader, bad, fmap}
 use Rattle.exact.specs.Block.{lead}
 use Rattle.exact.specs.Place.{peek}
+use Rattle.language.specs.Strings.{lowhex}
 use Rattle.language.specs.Tree.{Decoded, unescaped}
 use Rattle.rooms.specs.declared.Cursor.{Cursor}
 use Rattle.rooms.specs.declared.Ans.{Ans}
@@ -26,6 +28,7 @@ pairTextR at s = fmap (λ p. unescaped (p ∷ [])) (pairR at s)
 -- behind a pair that ends at c a further one begins at n
 pub record Further (doc : List ℕ) (c n : Cursor) : Type 0 where
   pub on : pairsOn (drop (c .at) doc) ≡ true
+  pub digit : is lowhex (peek doc (n .at)) ≡ true
   pub is : furtherR (c .at) (drop (c .at) doc) ≡ pairR (n .at) (drop (n .at) doc)
   pub from : c .at ≤ n .at
   pub inside : n .at < length doc

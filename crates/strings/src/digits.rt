@@ -1,7 +1,11 @@
 // Hex digits, one at a time.
 ghost use mathlib.Core.Path.{_≡_};
-ghost use Rattle.language.specs.Strings.{hexdigit, lowhex};
-ghost use Rattle.strings.specs.Contract.{digitOf, DigitRead};
+ghost use mathlib.Core.Bool.{true};
+ghost use Prim.Native.Nat.{_+_, _<_};
+ghost use Rattle.exact.specs.Class.{is};
+ghost use Rattle.exact.specs.Place.{peek};
+ghost use Rattle.language.specs.Strings.{hexdigit, lowhex, hexval};
+ghost use Rattle.strings.specs.Contract.{digitOf, Digited, DigitRead};
 use characters::Reading;
 use characters::Took;
 
@@ -36,23 +40,31 @@ fn hex_digit(b: u32) -> u32
     16
 }
 
-// The value of a lowercase hex digit, 16 for another byte.
-pub fn low_digit(b: u32) -> u32
-    ensures { λ r. ⌜ r ≡ digitOf lowhex b ⌝ }
+// Whether a byte is a lowercase hex digit.
+pub fn is_low(b: u32) -> bool
+    ensures { λ r. ⌜ r ≡ is lowhex b ⌝ }
 {
-    if b < 48 {
-        return 16;
+    match b {
+        48..=57 | 97..=102 => true,
+        _ => false,
     }
-    if b <= 57 {
-        return b - 48;
-    }
-    if b < 97 {
-        return 16;
-    }
-    if b <= 102 {
-        return b - 87;
-    }
-    16
+}
+
+// The value of a lowercase hex digit. Digits and letters come in no order that a processor could guess: so they are told apart by a sum, and not by a branch.
+fn low_value(b: u32) -> u32
+    requires { ⌜ is lowhex b ≡ true ⌝ }
+    ensures { λ r. ⌜ (r ≡ hexval b) × (r < 16) ⌝ }
+{
+    b % 16 + 9 * (b / 64)
+}
+
+// The value of the lowercase hex digit that stands here.
+pub fn low_here(doc: &[u8], n: Reading) -> u32
+    requires { ⌜ is lowhex (peek (now doc) (n .at)) ≡ true ⌝ }
+    ensures { λ r. ⌜ Digited lowhex (now (doc .entry)) (n .at) r (n .at + 1) ⌝ }
+{
+    let at = n.at;
+    low_value(doc[at] as u32)
 }
 
 // The hex digit of either case that stands here.
@@ -78,11 +90,11 @@ pub fn low(doc: &[u8], n: Reading) -> Digit
     match n.byte(&*doc) {
         Took::Over => Digit::None,
         Took::Byte(b, m) => {
-            let d = low_digit(b as u32);
-            if d == 16 {
-                return Digit::None;
+            let v = b as u32;
+            if is_low(v) {
+                return Digit::Of(low_value(v), m);
             }
-            Digit::Of(d, m)
+            Digit::None
         }
     }
 }

@@ -1,12 +1,18 @@
 // Hex pairs: those of inline bytes, and those of a hex line, behind which a line comment may begin.
+ghost use mathlib.Core.Path.{_≡_};
+ghost use mathlib.Core.Bool.{true};
 ghost use lib.ListN.{drop};
+ghost use Rattle.exact.specs.Class.{is};
+ghost use Rattle.exact.specs.Place.{peek};
+ghost use Rattle.language.specs.Strings.{lowhex};
 ghost use Rattle.rooms.specs.Contract.{Ready, Answers};
 ghost use Rattle.strings.specs.Contract.{Texts};
 ghost use Rattle.strings.specs.Bytes.{angledR, inlineBytesR};
 ghost use Rattle.strings.specs.Hexes.{pairTextR, Furthers, PairsAt, Closed};
 use super::digits::Digit;
+use super::digits::is_low;
 use super::digits::low;
-use super::digits::low_digit;
+use super::digits::low_here;
 use super::quotes::put_leaf;
 use characters::Reading;
 use language::Kind;
@@ -15,24 +21,24 @@ use rooms::Cursor;
 use rooms::Far;
 use rooms::put_byte;
 
-// A pair at the cursor, stored.
+// A pair at the cursor, where a digit stands, stored.
 fn pair(doc: &[u8], text: &mut [u8], c: Cursor) -> Ans
     requires { ⌜ Ready (now doc) c ⌝ }
+    requires { ⌜ is lowhex (peek (now doc) (c .at)) ≡ true ⌝ }
     ensures { λ r. ⌜ Texts (now (doc .entry)) c (pairTextR (c .at) (drop (c .at) (now (doc .entry)))) r (now (text .entry)) (now (text .exit)) ⌝ }
 {
-    match low(&*doc, Reading { at: c.at }) {
-        Digit::None => Ans::No(c.at),
-        Digit::Of(h, m) => match low(&*doc, m) {
-            Digit::None => Ans::No(m.at),
-            Digit::Of(l, n) => {
-                put_byte(text, c.spot(), (16 * h + l) as u8);
-                Ans::Ok(Cursor {
-                    at: n.at,
-                    row: c.row,
-                    text: c.text + 1,
-                })
-            }
-        },
+    let h = low_here(&*doc, Reading { at: c.at });
+    let m = Reading { at: c.at + 1 };
+    match low(&*doc, m) {
+        Digit::None => Ans::No(m.at),
+        Digit::Of(l, n) => {
+            put_byte(text, c.spot(), (16 * h + l) as u8);
+            Ans::Ok(Cursor {
+                at: n.at,
+                row: c.row,
+                text: c.text + 1,
+            })
+        }
     }
 }
 
@@ -45,13 +51,13 @@ pub enum Next {
 fn further(doc: &[u8], c: Cursor) -> Next
     ensures { λ r. ⌜ Furthers (now (doc .entry)) c r ⌝ }
 {
-    if low_digit(c.look(&*doc)) < 16 {
+    if is_low(c.look(&*doc)) {
         return Next::Begins(c);
     }
     match c.take(&*doc, 32) {
         Ans::No(p) => Next::Stops(p),
         Ans::Ok(n) => {
-            if low_digit(n.look(&*doc)) < 16 {
+            if is_low(n.look(&*doc)) {
                 return Next::Begins(n);
             }
             Next::Stops(n.at)
@@ -59,9 +65,10 @@ fn further(doc: &[u8], c: Cursor) -> Next
     }
 }
 
-// The pairs at the cursor, with at most one space between.
-pub fn pairs(doc: &[u8], text: &mut [u8], c: Cursor) -> Far
+// The pairs at the cursor, where a digit stands, with at most one space between.
+fn some_pairs(doc: &[u8], text: &mut [u8], c: Cursor) -> Far
     requires { ⌜ Ready (now doc) c ⌝ }
+    requires { ⌜ is lowhex (peek (now doc) (c .at)) ≡ true ⌝ }
     ensures { λ r. ⌜ PairsAt (now (doc .entry)) c r (now (text .entry)) (now (text .exit)) ⌝ }
 {
     let mut n = c;
@@ -86,6 +93,17 @@ pub fn pairs(doc: &[u8], text: &mut [u8], c: Cursor) -> Far
     }
 }
 
+// The pairs at the cursor.
+pub fn pairs(doc: &[u8], text: &mut [u8], c: Cursor) -> Far
+    requires { ⌜ Ready (now doc) c ⌝ }
+    ensures { λ r. ⌜ PairsAt (now (doc .entry)) c r (now (text .entry)) (now (text .exit)) ⌝ }
+{
+    if is_low(c.look(&*doc)) {
+        return some_pairs(&*doc, text, c);
+    }
+    Far::Not(c.at)
+}
+
 // `>` at the cursor; where it is refused otherwise.
 fn close(doc: &[u8], n: Cursor, far: usize) -> Ans
     ensures { λ r. ⌜ Closed (now (doc .entry)) n far r ⌝ }
@@ -104,13 +122,13 @@ fn angled(doc: &[u8], text: &mut [u8], c: Cursor) -> Ans
     match c.take(&*doc, 60) {
         Ans::No(p) => Ans::No(p),
         Ans::Ok(n) => {
-            if low_digit(n.look(&*doc)) == 16 {
-                return close(&*doc, n, n.at);
+            if is_low(n.look(&*doc)) {
+                return match pairs(&*doc, text, n) {
+                    Far::Not(p) => Ans::No(p),
+                    Far::Upto(m, far) => close(&*doc, m, far),
+                };
             }
-            match pairs(&*doc, text, n) {
-                Far::Not(p) => Ans::No(p),
-                Far::Upto(m, far) => close(&*doc, m, far),
-            }
+            close(&*doc, n, n.at)
         }
     }
 }

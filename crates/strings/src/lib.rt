@@ -10,6 +10,7 @@ mod quotes;
 pub use hex::inline_bytes;
 pub use hex::pairs;
 pub use keys::key;
+pub use keys::name;
 pub use quotes::put_leaf;
 pub use quotes::quoted;
 pub use quotes::string;

@@ -19,11 +19,14 @@ use rooms::copy;
 use rooms::put_row;
 use rooms::row_of;
 
-// The plain bytes and the characters of several bytes at the cursor, copied.
+// The plain bytes and the characters of several bytes at the cursor, copied. Escapes often stand one behind another: at a backslash there is nothing to copy.
 fn clean(doc: &[u8], text: &mut [u8], c: Cursor, quote: u8) -> Cursor
     requires { ⌜ Ready (now doc) c × Quote quote ⌝ }
     ensures { λ r. ⌜ Copied (CleanTo quote) (now (doc .entry)) c r (now (text .entry)) (now (text .exit)) ⌝ }
 {
+    if c.look(&*doc) == 92 {
+        return c;
+    }
     let at = c.at;
     let n = clean_end(&*doc, Reading { at }, quote);
     let e = n.at;

@@ -35,6 +35,7 @@ use Rattle.inline.proofs.scalar.Reads as scalar-reads
 use Rattle.notes.proofs.note.Reads as note-reads
 use Rattle.numbers.proofs.plain_inside.Reads as plain-inside-reads
 use Rattle.rooms.proofs.Ans.anew.Reads as anew-reads
+use Rattle.rooms.proofs.Cursor.anew.Reads as cursor-anew-reads
 use Rattle.rooms.proofs.Cursor.look.Reads as look-reads
 use Rattle.rooms.proofs.Cursor.take.Reads as take-reads
 use Rattle.inline.proofs.+array+element+object+pair+value.{statement}
@@ -98,7 +99,7 @@ abbrev pair-claims : ℕ → pair-lts.Claims
 pair-claims t = (label-reads.Asked, label-reads.Learnt, note-reads.Asked, note-reads.Learnt, element-below t, element.Post)
 
 abbrev value-claims : ℕ → value-lts.Claims
-value-claims t = (scalar-reads.Asked, scalar-reads.Learnt, anew-reads.Asked, anew-reads.Learnt, look-reads.Asked, look-reads.Learnt, array-below t, array.Post, object-below t, object.Post, plain-inside-reads.Asked, plain-inside-reads.Learnt)
+value-claims t = (cursor-anew-reads.Asked, cursor-anew-reads.Learnt, scalar-reads.Asked, scalar-reads.Learnt, anew-reads.Asked, anew-reads.Learnt, look-reads.Asked, look-reads.Learnt, array-below t, array.Post, object-below t, object.Post, plain-inside-reads.Asked, plain-inside-reads.Learnt)
 
 abbrev array-Inv-loop : array-lts.InvT-loop
 array-Inv-loop doc rows₀ text₀ keys₀ c parent allow row count₀ cur₀ rows text keys count cur = Loop false (valueR false allow) doc c rows₀ text₀ keys₀ rows text keys cur count × (length rows ≡ length rows₀) × (length text ≡ length text₀) × (length keys ≡ length keys₀)
@@ -358,11 +359,14 @@ pair-same-length-5 t c = search needs
 pair-returns-2 : (t : ℕ) → pair-lts.Need-returns-2 (pair-claims t) (pair-at t) pair.Post
 pair-returns-2 t c = (search turning, search noting)
 
-value-scalar-requires : (t : ℕ) → value-lts.Need-scalar-requires (value-claims t) (value-at t) value.Post
-value-scalar-requires t c κs = search choices
-
 value-anew-requires : (t : ℕ) → value-lts.Need-anew-requires (value-claims t) (value-at t) value.Post
 value-anew-requires t c κs = search choices
+
+value-scalar-requires : (t : ℕ) → value-lts.Need-scalar-requires (value-claims t) (value-at t) value.Post
+value-scalar-requires t c κs = rw (c .before .before .before .anew .ensures) (search choices)
+
+value-anew-requires-2 : (t : ℕ) → value-lts.Need-anew-requires-2 (value-claims t) (value-at t) value.Post
+value-anew-requires-2 t c κs = search choices
 
 value-same-length : (t : ℕ) → value-lts.Need-same-length (value-claims t) (value-at t) value.Post
 value-same-length t c = search needs
@@ -371,7 +375,7 @@ value-same-length-2 : (t : ℕ) → value-lts.Need-same-length-2 (value-claims t
 value-same-length-2 t c = search needs
 
 value-returns : (t : ℕ) → value-lts.Need-returns (value-claims t) (value-at t) value.Post
-value-returns t c = (rw (c .anew .ensures) (search choices), search noting)
+value-returns t c = rw (← c .before .before .before .before .before .before .before .before .before .anew .ensures) (rw (c .anew2 .ensures) (search choices), search noting)
 
 value-look-requires : (t : ℕ) → value-lts.Need-look-requires (value-claims t) (value-at t) value.Post
 value-look-requires t c κs = search choices
@@ -380,31 +384,31 @@ value-sub-array : (t : ℕ) → value-lts.Need-sub-array (value-claims t) (value
 value-sub-array t c = search choices
 
 value-array-requires : (t : ℕ) → value-lts.Need-array-requires (value-claims t) (value-at t) value.Post
-value-array-requires t c κs = search choices
+value-array-requires t c κs = rw (c .before .before .before .before .before .before .anew .ensures) (search choices)
 
-value-anew-requires-2 : (t : ℕ) → value-lts.Need-anew-requires-2 (value-claims t) (value-at t) value.Post
-value-anew-requires-2 t c κs = search choices
+value-anew-requires-3 : (t : ℕ) → value-lts.Need-anew-requires-3 (value-claims t) (value-at t) value.Post
+value-anew-requires-3 t c κs = search choices
 
 value-sub-object : (t : ℕ) → value-lts.Need-sub-object (value-claims t) (value-at t) value.Post
 value-sub-object t c = search choices
 
 value-object-requires : (t : ℕ) → value-lts.Need-object-requires (value-claims t) (value-at t) value.Post
-value-object-requires t c κs = search choices
-
-value-anew-requires-3 : (t : ℕ) → value-lts.Need-anew-requires-3 (value-claims t) (value-at t) value.Post
-value-anew-requires-3 t c κs = search choices
-
-value-plain-inside-requires : (t : ℕ) → value-lts.Need-plain-inside-requires (value-claims t) (value-at t) value.Post
-value-plain-inside-requires t c κs = search choices
+value-object-requires t c κs = rw (c .before .before .before .before .before .before .anew .ensures) (search choices)
 
 value-anew-requires-4 : (t : ℕ) → value-lts.Need-anew-requires-4 (value-claims t) (value-at t) value.Post
 value-anew-requires-4 t c κs = search choices
 
-value-scalar-requires-2 : (t : ℕ) → value-lts.Need-scalar-requires-2 (value-claims t) (value-at t) value.Post
-value-scalar-requires-2 t c κs = search choices
+value-plain-inside-requires : (t : ℕ) → value-lts.Need-plain-inside-requires (value-claims t) (value-at t) value.Post
+value-plain-inside-requires t c κs = rw (c .before .before .before .before .before .before .before .anew .ensures) (search choices)
 
 value-anew-requires-5 : (t : ℕ) → value-lts.Need-anew-requires-5 (value-claims t) (value-at t) value.Post
 value-anew-requires-5 t c κs = search choices
+
+value-scalar-requires-2 : (t : ℕ) → value-lts.Need-scalar-requires-2 (value-claims t) (value-at t) value.Post
+value-scalar-requires-2 t c κs = rw (c .before .before .before .before .before .before .anew .ensures) (search choices)
+
+value-anew-requires-6 : (t : ℕ) → value-lts.Need-anew-requires-6 (value-claims t) (value-at t) value.Post
+value-anew-requires-6 t c κs = search choices
 
 value-same-length-3 : (t : ℕ) → value-lts.Need-same-length-3 (value-claims t) (value-at t) value.Post
 value-same-length-3 t c = search needs
@@ -416,7 +420,7 @@ value-same-length-5 : (t : ℕ) → value-lts.Need-same-length-5 (value-claims t
 value-same-length-5 t c = search needs
 
 value-returns-2 : (t : ℕ) → value-lts.Need-returns-2 (value-claims t) (value-at t) value.Post
-value-returns-2 t c = (rw (c .anew2 .ensures) (search choices), search noting)
+value-returns-2 t c = rw (← c .before .before .before .before .before .before .before .before .before .before .before .before .before .before .anew .ensures) (rw (c .anew3 .ensures) (search choices), search noting)
 
 value-same-length-6 : (t : ℕ) → value-lts.Need-same-length-6 (value-claims t) (value-at t) value.Post
 value-same-length-6 t c = search needs
@@ -428,7 +432,7 @@ value-same-length-8 : (t : ℕ) → value-lts.Need-same-length-8 (value-claims t
 value-same-length-8 t c = search needs
 
 value-returns-3 : (t : ℕ) → value-lts.Need-returns-3 (value-claims t) (value-at t) value.Post
-value-returns-3 t c = (rw (c .anew3 .ensures) (search choices), search noting)
+value-returns-3 t c = rw (← c .before .before .before .before .before .before .before .before .before .before .before .before .before .before .anew .ensures) (rw (c .anew4 .ensures) (search choices), search noting)
 
 value-same-length-9 : (t : ℕ) → value-lts.Need-same-length-9 (value-claims t) (value-at t) value.Post
 value-same-length-9 t c = search needs
@@ -437,7 +441,7 @@ value-same-length-10 : (t : ℕ) → value-lts.Need-same-length-10 (value-claims
 value-same-length-10 t c = search needs
 
 value-returns-4 : (t : ℕ) → value-lts.Need-returns-4 (value-claims t) (value-at t) value.Post
-value-returns-4 t c = (rw (c .anew4 .ensures) (search choices), search noting)
+value-returns-4 t c = rw (← c .before .before .before .before .before .before .before .before .before .before .before .before .before .anew .ensures) (rw (c .anew5 .ensures) (search choices), search noting)
 
 value-same-length-11 : (t : ℕ) → value-lts.Need-same-length-11 (value-claims t) (value-at t) value.Post
 value-same-length-11 t c = search needs
@@ -446,7 +450,7 @@ value-same-length-12 : (t : ℕ) → value-lts.Need-same-length-12 (value-claims
 value-same-length-12 t c = search needs
 
 value-returns-5 : (t : ℕ) → value-lts.Need-returns-5 (value-claims t) (value-at t) value.Post
-value-returns-5 t c = (rw (c .anew5 .ensures) (search choices), search noting)
+value-returns-5 t c = rw (← c .before .before .before .before .before .before .before .before .before .before .before .before .anew .ensures) (rw (c .anew6 .ensures) (search choices), search noting)
 
 pub +array+element+object+pair+value-spec : {M : Type 1} → statement M
 +array+element+object+pair+value-spec =
@@ -551,22 +555,23 @@ pub +array+element+object+pair+value-spec : {M : Type 1} → statement M
     λ t. value-lts.spec (value-claims t)
     (value-at t)
     value.Post
-    (value-scalar-requires t)
     (value-anew-requires t)
+    (value-scalar-requires t)
+    (value-anew-requires-2 t)
     (value-same-length t)
     (value-same-length-2 t)
     (value-returns t)
     (value-look-requires t)
     (value-sub-array t)
     (value-array-requires t)
-    (value-anew-requires-2 t)
+    (value-anew-requires-3 t)
     (value-sub-object t)
     (value-object-requires t)
-    (value-anew-requires-3 t)
-    (value-plain-inside-requires t)
     (value-anew-requires-4 t)
-    (value-scalar-requires-2 t)
+    (value-plain-inside-requires t)
     (value-anew-requires-5 t)
+    (value-scalar-requires-2 t)
+    (value-anew-requires-6 t)
     (value-same-length-3 t)
     (value-same-length-4 t)
     (value-same-length-5 t)

@@ -26,11 +26,14 @@ word-requires c κs = search plain-laws
 anew-requires-2 : tie.Need-anew-requires-2
 anew-requires-2 c κs = search plain-laws
 
-number-requires : tie.Need-number-requires
-number-requires c κs = ⊎-elim (λ w. search plain-laws) (λ w. search plain-laws) (c .before .before .if1 .came)
-
 anew-requires-3 : tie.Need-anew-requires-3
 anew-requires-3 c κs = search plain-laws
+
+number-requires : tie.Need-number-requires
+number-requires c κs = rw (c .anew3 .ensures) (⊎-elim (λ w. search plain-laws) (λ w. search plain-laws) (c .before .before .before .if1 .came))
+
+anew-requires-4 : tie.Need-anew-requires-4
+anew-requires-4 c κs = search plain-laws
 
 returns : tie.Need-returns
 returns c = search plain-laws
@@ -60,7 +63,7 @@ same-length-6 : tie.Need-same-length-6
 same-length-6 c = search plain-laws
 
 returns-4 : tie.Need-returns-4
-returns-4 c = rw (c .anew3 .ensures) (search needs)
+returns-4 c = rw (c .anew4 .ensures, ← c .before .before .before .before .before .before .anew3 .ensures) (search needs)
 
 pub plain-spec : {M : Type 1} → statement M
 plain-spec =
@@ -73,8 +76,9 @@ plain-spec =
     anew-requires
     word-requires
     anew-requires-2
-    number-requires
     anew-requires-3
+    number-requires
+    anew-requires-4
     returns
     same-length
     same-length-2

@@ -4,11 +4,8 @@ use borrow.Author.Needs.{needs}
 use Rattle.judge.proofs.lines.key_row.Statement.{statement}
 use Rattle.judge.proofs.lines.key_row.Tie as tie
 
-slice-aggregate-key : tie.Need-slice-aggregate-key
-slice-aggregate-key c = search needs
-
-key-requires : tie.Need-key-requires
-key-requires c κs = search needs
+name-requires : tie.Need-name-requires
+name-requires c κs = search needs
 
 enum-known-p : tie.Need-enum-known-p
 enum-known-p c = search needs
@@ -31,8 +28,8 @@ row-of-requires c κs = search keying
 put-row-requires : tie.Need-put-row-requires
 put-row-requires c κs = search needs
 
-add-t21 : tie.Need-add-t21
-add-t21 c = search needs
+add-t18 : tie.Need-add-t18
+add-t18 c = search needs
 
 same-length : tie.Need-same-length
 same-length c = search needs
@@ -53,8 +50,7 @@ pub key-row-spec : {M : Type 1} → statement M
 key-row-spec =
     tie.close
     (tie.spec
-    slice-aggregate-key
-    key-requires
+    name-requires
     enum-known-p
     enum-known-n
     spot-requires
@@ -62,7 +58,7 @@ key-row-spec =
     add-row-of
     row-of-requires
     put-row-requires
-    add-t21
+    add-t18
     same-length
     returns
     same-length-2

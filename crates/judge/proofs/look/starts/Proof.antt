@@ -10,14 +10,11 @@ dash-requires c κs = search needs
 returns : tie.Need-returns
 returns c = search looking
 
-slice-aggregate-key : tie.Need-slice-aggregate-key
-slice-aggregate-key c = search needs
+slice-aggregate-name : tie.Need-slice-aggregate-name
+slice-aggregate-name c = search needs
 
-slice-aggregate-key-2 : tie.Need-slice-aggregate-key-2
-slice-aggregate-key-2 c = search needs
-
-key-requires : tie.Need-key-requires
-key-requires c κs = search needs
+name-requires : tie.Need-name-requires
+name-requires c κs = search needs
 
 enum-known-p : tie.Need-enum-known-p
 enum-known-p c = search needs
@@ -43,9 +40,8 @@ starts-spec =
     (tie.spec
     dash-requires
     returns
-    slice-aggregate-key
-    slice-aggregate-key-2
-    key-requires
+    slice-aggregate-name
+    name-requires
     enum-known-p
     enum-known-n
     look-requires

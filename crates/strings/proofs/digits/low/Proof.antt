@@ -12,11 +12,14 @@ enum-told c = search digit-reads
 enum-known-b : tie.Need-enum-known-b
 enum-known-b c = search digit-reads
 
-cast-low-digit : tie.Need-cast-low-digit
-cast-low-digit c = search digit-reads
+cast-v : tie.Need-cast-v
+cast-v c = search digit-reads
 
-low-digit-requires : tie.Need-low-digit-requires
-low-digit-requires c κs = search digit-reads
+is-low-requires : tie.Need-is-low-requires
+is-low-requires c κs = search digit-reads
+
+low-value-requires : tie.Need-low-value-requires
+low-value-requires c κs = search digit-reads
 
 returns : tie.Need-returns
 returns c = search digit-reads
@@ -34,8 +37,9 @@ low-spec =
     byte-requires
     enum-told
     enum-known-b
-    cast-low-digit
-    low-digit-requires
+    cast-v
+    is-low-requires
+    low-value-requires
     returns
     returns-2
     returns-3)

@@ -15,14 +15,8 @@ enum-known-n c = search angles
 look-requires : tie.Need-look-requires
 look-requires c κs = search angles
 
-low-digit-requires : tie.Need-low-digit-requires
-low-digit-requires c κs = search angles
-
-close-requires : tie.Need-close-requires
-close-requires c κs = search angles
-
-returns : tie.Need-returns
-returns c = search angles
+is-low-requires : tie.Need-is-low-requires
+is-low-requires c κs = search angles
 
 pairs-requires : tie.Need-pairs-requires
 pairs-requires c κs = search angles
@@ -33,20 +27,26 @@ enum-known-p-2 c = search angles
 enum-known-m : tie.Need-enum-known-m
 enum-known-m c = search angles
 
-close-requires-2 : tie.Need-close-requires-2
-close-requires-2 c κs = search angles
-
-returns-2 : tie.Need-returns-2
-returns-2 c = search angles
+close-requires : tie.Need-close-requires
+close-requires c κs = search angles
 
 same-length : tie.Need-same-length
 same-length c = search angles
 
-returns-3 : tie.Need-returns-3
-returns-3 c = search angles
+returns : tie.Need-returns
+returns c = search angles
 
 same-length-2 : tie.Need-same-length-2
 same-length-2 c = search angles
+
+returns-2 : tie.Need-returns-2
+returns-2 c = search angles
+
+close-requires-2 : tie.Need-close-requires-2
+close-requires-2 c κs = search angles
+
+returns-3 : tie.Need-returns-3
+returns-3 c = search angles
 
 returns-4 : tie.Need-returns-4
 returns-4 c = search angles
@@ -59,15 +59,15 @@ angled-spec =
     enum-known-p
     enum-known-n
     look-requires
-    low-digit-requires
-    close-requires
-    returns
+    is-low-requires
     pairs-requires
     enum-known-p-2
     enum-known-m
-    close-requires-2
-    returns-2
+    close-requires
     same-length
-    returns-3
+    returns
     same-length-2
+    returns-2
+    close-requires-2
+    returns-3
     returns-4)

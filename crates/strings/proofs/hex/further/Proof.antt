@@ -6,8 +6,8 @@ use Rattle.strings.proofs.hex.further.Tie as tie
 look-requires : tie.Need-look-requires
 look-requires c κs = search furthering
 
-low-digit-requires : tie.Need-low-digit-requires
-low-digit-requires c κs = search furthering
+is-low-requires : tie.Need-is-low-requires
+is-low-requires c κs = search furthering
 
 returns : tie.Need-returns
 returns c = search furthering
@@ -24,8 +24,8 @@ enum-known-n c = search furthering
 look-requires-2 : tie.Need-look-requires-2
 look-requires-2 c κs = search furthering
 
-low-digit-requires-2 : tie.Need-low-digit-requires-2
-low-digit-requires-2 c κs = search furthering
+is-low-requires-2 : tie.Need-is-low-requires-2
+is-low-requires-2 c κs = search furthering
 
 returns-2 : tie.Need-returns-2
 returns-2 c = search furthering
@@ -41,13 +41,13 @@ further-spec =
     tie.close
     (tie.spec
     look-requires
-    low-digit-requires
+    is-low-requires
     returns
     take-requires
     enum-known-p
     enum-known-n
     look-requires-2
-    low-digit-requires-2
+    is-low-requires-2
     returns-2
     returns-3
     returns-4)

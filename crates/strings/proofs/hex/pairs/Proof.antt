@@ -1,73 +1,27 @@
--- `pairs` meets its contract.
-use Prim.Native.Nat.{_-_}
-use mathlib.Core.Path.{_≡_}
-use lib.ListN.{length}
-use borrow.Author.Needs.{needs}
-use Rattle.strings.proofs.PairsLaws.{Pairing, pairing-on, pairs-turn}
+-- `pairs` meets its contract: where no digit stands, there are none.
+use Rattle.strings.proofs.PairsLaws.{pairing-all}
 use Rattle.strings.proofs.hex.pairs.Statement.{statement}
 use Rattle.strings.proofs.hex.pairs.Tie as tie
 
-abbrev Inv-loop : tie.InvT-loop
-Inv-loop doc text₀ n₀ text n = Pairing doc n₀ n text₀ text × (length text ≡ length text₀)
+look-requires : tie.Need-look-requires
+look-requires c κs = search pairing-all
 
-abbrev μ-loop : tie.MeasureT-loop
-μ-loop doc text₀ n₀ text n = length doc - n .at
+is-low-requires : tie.Need-is-low-requires
+is-low-requires c κs = search pairing-all
 
-loop-holds : tie.Need-loop-holds Inv-loop μ-loop
-loop-holds c = search pairing-on
+some-pairs-requires : tie.Need-some-pairs-requires
+some-pairs-requires c κs = search pairing-all
 
-pair-requires : tie.Need-pair-requires Inv-loop μ-loop
-pair-requires c κs = search pairing-on
+same-length : tie.Need-same-length
+same-length c = search pairing-all
 
-enum-known-got : tie.Need-enum-known-got Inv-loop μ-loop
-enum-known-got c = search pairing-on
+returns : tie.Need-returns
+returns c = search pairing-all
 
-same-length : tie.Need-same-length Inv-loop μ-loop
-same-length c = search pairing-on
-
-returns : tie.Need-returns Inv-loop μ-loop
-returns c = search pairing-on
-
-enum-known-got-2 : tie.Need-enum-known-got-2 Inv-loop μ-loop
-enum-known-got-2 c = search pairing-on
-
-further-requires : tie.Need-further-requires Inv-loop μ-loop
-further-requires c κs = search pairing-on
-
-enum-known-next : tie.Need-enum-known-next Inv-loop μ-loop
-enum-known-next c = search pairing-on
-
-same-length-2 : tie.Need-same-length-2 Inv-loop μ-loop
-same-length-2 c = search pairing-on
-
-returns-2 : tie.Need-returns-2 Inv-loop μ-loop
-returns-2 c = search pairing-on
-
-enum-known-next-2 : tie.Need-enum-known-next-2 Inv-loop μ-loop
-enum-known-next-2 c = search pairing-on
-
-loop-less : tie.Need-loop-less Inv-loop μ-loop
-loop-less c = search pairing-on
-
-loop-again : tie.Need-loop-again Inv-loop μ-loop
-loop-again c = (search pairs-turn, search needs)
+returns-2 : tie.Need-returns-2
+returns-2 c = search pairing-all
 
 pub pairs-spec : {M : Type 1} → statement M
 pairs-spec =
     tie.close
-    (tie.spec
-    Inv-loop
-    μ-loop
-    loop-holds
-    pair-requires
-    enum-known-got
-    same-length
-    returns
-    enum-known-got-2
-    further-requires
-    enum-known-next
-    same-length-2
-    returns-2
-    enum-known-next-2
-    loop-less
-    loop-again)
+    (tie.spec look-requires is-low-requires some-pairs-requires same-length returns returns-2)
