@@ -1,5 +1,5 @@
 -- HOW THE ANSWER FOLLOWS, where the rows and the text of the document's tree stand in rooms of our own. Assumes nothing.
-use mathlib.Core.Path.{_≡_, refl, sym, ap, subst, _∙_}
+use mathlib.Core.Path.{_≡_, refl, sym, ap, _∙_}
 use mathlib.Core.List.{List}
 use Prim.Native.Nat.{ℕ, _+_, _*_, _≤_, _<_}
 use native.Mathlib.Numerals.{add-one}
@@ -7,16 +7,12 @@ use native.Mathlib.Omega.{arith}
 use lib.ListN.{length, take, getD, set}
 use lib.Seq.{sets, slice, slice-cons, slice-empty, take-at}
 use Rattle.rooms.specs.Forest.{length-rows}
-use Rattle.language.specs.Tree.{unlined, Tree, width, size, textOf, escapesOf, rowsOf}
-use Rattle.language.specs.Document.{Document}
-use Rattle.language.specs.Answered.{limit, deepest, REPEAT, ROWS, TEXT, Answered, Totals, untold}
-use Rattle.spans.specs.Document.{few-rows, document-sound}
+use Rattle.language.specs.Tree.{unlined, width, size, textOf, escapesOf, rowsOf}
+use Rattle.language.specs.Answered.{limit, REPEAT, ROWS, TEXT, Answered, Totals, untold}
 use Rattle.repeats.specs.declared.Repeat.{Repeat}
 use Rattle.repeats.specs.declared.Repeat.the-variants.{At, Nowhere}
-use Rattle.repeats.specs.Listed.{Stands}
-use Rattle.repeats.specs.Chains.{Table, most-rows}
-use Rattle.repeats.specs.Twice.{FirstRepeat}
-use Rattle.repeats.specs.Told.{tree-table, told}
+use Rattle.repeats.specs.Stands.{Stands}
+use Rattle.places.specs.Log.{Log, Told}
 use Rattle.language.specs.Lines.{linesOf}
 use Rattle.lined.specs.Lined.{Ranked, lined}
 use Rattle.answers.specs.Counted.{Counted, counted-repeat, counted-rows, counted-bytes, counted-ranked, counted-all, counted-total}
@@ -29,50 +25,40 @@ module _ (goal l w : List ℕ) (i n : ℕ) (inv : goal ≡ sets l i (slice i n w
   pub words-done : i ≡ n → l ≡ goal
   words-done h = sym (inv ∙ ap (sets l i) (ap (λ (k : ℕ). slice k n w) h ∙ slice-empty n w))
 
--- ROOMS OF OUR OWN hold the n rows and the m text bytes of the document's tree, which has z escapes
-pub record Held (doc R T : List ℕ) (n m z : ℕ) : Type 0 where
-  pub tree : Tree
-  pub short : length doc ≤ limit
-  pub word : Document deepest doc tree
-  pub row : n ≡ size tree
-  pub text-count : m ≡ length (textOf tree)
-  pub escape-count : z ≡ escapesOf tree
+-- ROOMS OF OUR OWN hold the n rows and the m text bytes of the document's tree, which has z escapes and whose keys are noted
+pub record Held (doc keys R T : List ℕ) (n m z : ℕ) : Type 0 where
+  pub log : Log doc keys
+  pub row : n ≡ size (log .tree)
+  pub text-count : m ≡ length (textOf (log .tree))
+  pub escape-count : z ≡ escapesOf (log .tree)
   pub few : width * n ≤ length R
-  pub linked : n ≤ most-rows
   pub fits : m ≤ length T
   pub small : n + m ≤ 2 * limit
-  pub table-is : Stands R 0 (rowsOf unlined 0 0 0 tree)
-  pub text-is : Stands T 0 (textOf tree)
+  pub table-is : Stands R 0 (rowsOf unlined 0 0 0 (log .tree))
+  pub text-is : Stands T 0 (textOf (log .tree))
 
-module _ {doc R T : List ℕ} {n m z : ℕ} (f : Held doc R T n m z) where
-  pub table-held : slice 0 (width * n) R ≡ rowsOf unlined 0 0 0 (f .tree)
+module _ {doc keys R T : List ℕ} {n m z : ℕ} (f : Held doc keys R T n m z) where
+  pub table-held : slice 0 (width * n) R ≡ rowsOf unlined 0 0 0 (f .log .tree)
   table-held =
-      let j = length-rows unlined 0 0 0 (f .tree) in
-      ap (take (width * n)) (f .table-is .is) ∙ take-at (rowsOf unlined 0 0 0 (f .tree)) (f .table-is .rest) (width * n) (omega (arith, f .row))
+      let j = length-rows unlined 0 0 0 (f .log .tree) in
+      ap (take (width * n)) (f .table-is .is) ∙ take-at (rowsOf unlined 0 0 0 (f .log .tree)) (f .table-is .rest) (width * n) (omega (arith, f .row))
 
-  pub text-held : slice 0 m T ≡ textOf (f .tree)
-  text-held = ap (take m) (f .text-is .is) ∙ take-at (textOf (f .tree)) (f .text-is .rest) m (omega (arith, f .text-count))
-
-  few-held : size (f .tree) ≤ limit
-  few-held = let h = few-rows deepest doc (f .tree) (f .word) in omega (arith, f .short)
+  pub text-held : slice 0 m T ≡ textOf (f .log .tree)
+  text-held = ap (take m) (f .text-is .is) ∙ take-at (textOf (f .log .tree)) (f .text-is .rest) m (omega (arith, f .text-count))
 
 -- ---- what `answer` shows
 
-pub held-table : (doc R T : List ℕ) (n m z : ℕ) → Held doc R T n m z → Table R T n
-held-table doc R T n m z f =
-    subst (Table R T) (sym (f .row)) (tree-table R T (f .tree) (document-sound deepest doc (f .tree) (f .word)) (f .table-is) (f .text-is) (few-held f))
-
-module _ (doc R T : List ℕ) (n m z : ℕ) (f : Held doc R T n m z) (a : Repeat) (h : FirstRepeat R T n a) where
+module _ (doc keys R T : List ℕ) (n m z : ℕ) (f : Held doc keys R T n m z) (a : Repeat) (h : Told doc keys a) where
   counted : Counted doc n m z a
   counted =
       record {
-        tree = f .tree;
-        short = f .short;
-        word = f .word;
+        tree = f .log .tree;
+        short = f .log .short;
+        word = f .log .word;
         row = f .row;
         text-count = f .text-count;
         escape-count = f .escape-count;
-        names = told R T (f .tree) (document-sound deepest doc (f .tree) (f .word)) (f .table-is) (f .text-is) a (subst (λ (i : ℕ). FirstRepeat R T i a) (f .row) h);
+        names = h (f .log);
       }
 
   pub answer-total : a ≡ Nowhere → Totals doc 0 z

@@ -10,8 +10,8 @@ use language::Place;
 use language::Row;
 use language::WIDTH;
 use lined::line_up;
+use places::first_again;
 use repeats::Repeat;
-use repeats::first_repeat;
 use rooms::copy;
 
 // The first n words of a table, stored in another.
@@ -29,6 +29,7 @@ fn copy_words(words: &[u32], n: usize, table: &mut [u32])
 // The answer for a document whose rows and text stand in rooms of our own, and whose escapes are counted.
 pub fn answer(
     doc: &[u8],
+    keys: &[u32],
     rows: &[u32],
     bytes: &[u8],
     n: usize,
@@ -37,11 +38,11 @@ pub fn answer(
     table: &mut [u32],
     text: &mut [u8],
 ) -> Answer
-    requires { ⌜ Held (now doc) (now rows) (now bytes) n m escapes ⌝ }
+    requires { ⌜ Held (now doc) (now keys) (now rows) (now bytes) n m escapes ⌝ }
     ensures { λ r. ⌜ Answered (now (doc .entry)) (now (table .entry)) (now (text .entry)) (number r) (value r) (second r) (now (table .exit)) (now (text .exit)) ⌝ }
     ensures { λ r. ⌜ Totals (now (doc .entry)) (number r) (third r) ⌝ }
 {
-    match first_repeat(&*rows, &*bytes, n) {
+    match first_again(&*doc, &*keys) {
         Repeat::At(p) => {
             return Answer::Repeat(Place(p));
         }

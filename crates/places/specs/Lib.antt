@@ -1,7 +1,10 @@
 pub mod Places
-pub mod Spell
-pub mod Bare
-pub mod Walks
+pub mod Pieces
 pub mod Words
 pub mod Spots
 pub mod Log
+pub mod Left
+pub mod Spelling
+pub mod Names
+pub mod Walks
+pub mod Joins

@@ -1,91 +1,260 @@
--- THE CHAINS OF THE KEYS NOTED: what is asked of the keys, the chains and the room for texts, and the answer for the keys passed. Assumes nothing.
-use mathlib.Core.Path.{_≡_, sym, subst}
+-- KEYS NOTED, PASSED IN TURN: what is asked of the keys, their marks and the chains, and the answer for the keys passed. Assumes nothing.
+use mathlib.Core.Path.{_≡_, refl, sym, ap, subst, _∙_}
 use mathlib.Core.List.{List}
 use mathlib.Core.Bool.{Bool, true, false}
 use Prim.Native.Nat.{ℕ, _+_, _-_, _≤_, _<_}
 use native.Mathlib.Omega.{arith}
-use lib.ListN.{length, getD, replicate, length-replicate}
-use Rattle.language.specs.Answered.{limit}
+use native.Mathlib.Decide.{ℕ-discrete}
+use lib.ListN.{length, getD, set, replicate, length-replicate}
+use lib.Seq.{getD-set-same, getD-set-other}
+use borrow.Author.Needs.{needs}
 use Rattle.repeats.specs.declared.Repeat.the-variants.{At, Nowhere}
-use Rattle.repeats.specs.Tells.{tells-yes, tells-no}
-use Rattle.repeats.specs.Numbering.{markOf}
-use Rattle.repeats.specs.Links.{Chains, Noted, Walked, walk-key, note-walkable}
+use Rattle.repeats.specs.Tells.{Tells, tells-yes, tells-no}
+use Rattle.repeats.specs.Numbering.{Numbering, Same, markOf, stir, spread, chainOf, chainAt}
+use Rattle.repeats.specs.Links.{Earlier, Chains, Walked, walk-first, walk-none, walk-key, walk-room, walk-less, walk-same, walk-more, note-walkable, note-low, note-small, note-met, note-past, note-chains}
 use Rattle.repeats.specs.Links
 use Rattle.repeats.specs.Later.{Names, Later, names-few, names-same, names-first, chains-start}
-use Rattle.places.specs.Places.{placeAt, placeKeys, Placed, placed-first}
+use Rattle.places.specs.declared.Walk.{Walk}
+use Rattle.places.specs.declared.Walk.the-variants.{Met, Past, Long}
+use Rattle.places.specs.declared.names.Marks.{Marks}
+use Rattle.places.specs.Places.{objectAt, placeAt, placeKeys, Placed}
+use Rattle.places.specs.Names.{Keyed, MarksOf, Compared}
 
--- a walk along the chain from head
-pub record Walkable (doc keys links text : List ℕ) (head i : ℕ) : Type 0 where
-  pub placed : Placed doc keys (i + 1)
-  pub long : length doc ≤ length text
+-- the marks of the first i of n keys are stored
+pub record Held (doc keys marks : List ℕ) (n i : ℕ) : Type 0 where
+  pub placed : Placed doc keys n
+  pub room : n ≤ length marks
+  pub stored : (k : ℕ) → k < i → getD marks k 0 ≡ markOf (placeKeys doc keys) k
+
+pub held-none : (doc keys marks : List ℕ) (n : ℕ) → Placed doc keys n → n ≤ length marks → Held doc keys marks n 0
+held-none doc keys marks n p l = record { placed = p; room = l; stored = λ k h. absurd (omega arith) }
+
+module _ (doc keys marks : List ℕ) (n i : ℕ) (l : i < n) where
+  pub held-key : (h : ℕ) → Held doc keys marks n h → (a : ℕ) → a ≡ placeAt keys i → Keyed doc a
+  held-key h w a e = rw e (record { short = w .placed .short; key = w .placed .key i l })
+
+  -- one more is
+  pub held-more : Held doc keys marks n i → (a o : ℕ) (m : Marks) → a ≡ placeAt keys i → MarksOf doc a o m → Held doc keys (set marks i (m .mark)) n (i + 1)
+  held-more w a o m e x =
+      record {
+        placed = w .placed;
+        room = simp lib.ListN.length-set (w .room);
+        stored = λ k h. by k h (ℕ-discrete k i);
+      }
+    where
+      by : (k : ℕ) → k < i + 1 → Dec (k ≡ i) → getD (set marks i (m .mark)) k 0 ≡ markOf (placeKeys doc keys) k
+      by k h (yes f) = rw f (getD-set-same marks i (m .mark) 0 (omega (arith, w .room)) ∙ (x .mark-is ∙ rw e refl))
+      by k h (no f) = getD-set-other marks i k (m .mark) 0 f ∙ w .stored k (omega arith)
+
+  pub held-compared : Held doc keys marks n (i + 1) → (k : ℕ) → k < i → Compared doc keys marks i k
+  held-compared w k h =
+      record {
+        one = held-key (i + 1) w (placeAt keys i) refl;
+        two = record { short = w .placed .short; key = w .placed .key k (omega arith) };
+        room = omega (arith, w .placed .room);
+        room₂ = omega (arith, w .placed .room);
+        low = omega (arith, w .room);
+        low₂ = omega (arith, w .room);
+        mark-is = w .stored i (omega arith);
+        mark-is₂ = w .stored k (omega arith);
+      }
+
+-- ---- a walk along a chain, which may be broken off
+
+-- what it tells of A
+unfoldable pub Walks : Type 0 → Walk → Type 0
+Walks A Met = A
+Walks A Past = A → ⊥
+Walks A Long = Unit {0}
+
+pub record Walkable (doc keys marks links : List ℕ) (head i : ℕ) : Type 0 where
+  pub n : ℕ
+  pub low : i < n
+  pub held : Held doc keys marks n (i + 1)
   pub walk : Links.Walkable (placeKeys doc keys) links head i
 
-pub walk-before : (doc keys links text : List ℕ) (head i : ℕ) (w : Walkable doc keys links text head i) (h : ℕ) → Walked (placeKeys doc keys) links head i h → 0 < h → h - 1 < i
-walk-before doc keys links text head i w h x l = walk-key (placeKeys doc keys) links head i (w .walk) h x l .before
+-- the walk has come to h, and taken no more steps than it may
+pub record Walking (doc keys links : List ℕ) (head i h steps : ℕ) : Type 0 where
+  pub walked : Walked (placeKeys doc keys) links head i h
+  pub few : steps ≤ 16
 
--- the i-th key takes its place in its chain
-pub record Chaining (doc keys heads links text : List ℕ) (i : ℕ) : Type 0 where
-  pub placed : Placed doc keys (i + 1)
-  pub long : length doc ≤ length text
+module _ (doc keys marks links : List ℕ) (head i : ℕ) (w : Walkable doc keys marks links head i) where
+  abbrev N : Numbering
+  N = placeKeys doc keys
+
+  pub chain-first : Walking doc keys links head i head 0
+  chain-first = record { walked = walk-first N links head i (w .walk); few = omega arith }
+
+  pub chain-long : Walks (Links.Met N links head i) Long
+  unfolding Walks
+  chain-long = tt
+
+  module _ (h steps : ℕ) (x : Walking doc keys links head i h steps) where
+    pub chain-none : h ≤ 0 → Walks (Links.Met N links head i) Past
+    unfolding Walks
+    chain-none l = walk-none N links head i (w .walk) h (x .walked) l
+
+    module _ (l : 0 < h) where
+      pub chain-compared : (k : ℕ) → k ≡ h - 1 → Compared doc keys marks i k
+      chain-compared k e = held-compared doc keys marks (w .n) i (w .low) (w .held) k (omega (arith, walk-key N links head i (w .walk) h (x .walked) l .before))
+
+      pub chain-met : (k : ℕ) (r : Bool) → k ≡ h - 1 → r ≡ true → Tells (Same N i k) r → Walks (Links.Met N links head i) Met
+      unfolding Walks
+      chain-met k r e f t = walk-same N links head i (w .walk) h (x .walked) l (rw e at (tells-yes r f t))
+
+      pub chain-room : (k : ℕ) → k ≡ h - 1 → k < length links
+      chain-room k e = omega (arith, walk-room N links head i (w .walk) h (x .walked) l)
+
+      pub chain-less : (k g : ℕ) → k ≡ h - 1 → g ≡ getD links k 0 → g < h
+      chain-less k g e f = rw (f, e) (walk-less N links head i (w .walk) h l)
+
+      pub chain-more : (k g : ℕ) (r : Bool) → k ≡ h - 1 → g ≡ getD links k 0 → r ≡ false → Tells (Same N i k) r → (steps ≡ 16 → ⊥) → Walking doc keys links head i g (steps + 1)
+      chain-more k g r e z f t o =
+          record { walked = rw (z, e) (walk-more N links head i (w .walk) h (x .walked) l (rw e at (tells-no r f t))); few = omega (arith, x .few, o) }
+
+pub ruleset walking = (chain-first, chain-long, chain-none, chain-compared, chain-met, chain-room, chain-less, chain-more, needs)
+
+-- ---- a key takes its place in its chain
+
+pub record Chaining (doc keys heads links marks : List ℕ) (i : ℕ) : Type 0 where
+  pub n : ℕ
+  pub low : i < n
+  pub held : Held doc keys marks n i
   pub noting : Links.Noting (placeKeys doc keys) heads links i
 
-pub chain-walkable : (doc keys heads links text text' : List ℕ) (i : ℕ) (w : Chaining doc keys heads links text i) → length text' ≡ length text
-    → (m : ℕ) → m ≡ markOf (placeKeys doc keys) i → Walkable doc keys links text' (getD heads m 0) i
-chain-walkable doc keys heads links text text' i w l m e =
-    record { placed = w .placed; long = omega (arith, w .long); walk = note-walkable (placeKeys doc keys) heads links i (w .noting) m e }
+-- the keys up to it stand in the chains, and it is told whether an earlier one is the same
+pub record Chained (doc keys heads links marks : List ℕ) (i : ℕ) (r : Walk) : Type 0 where
+  pub chains : Chains (placeKeys doc keys) heads links (i + 1)
+  pub stored : (k : ℕ) → k < i + 1 → getD marks k 0 ≡ markOf (placeKeys doc keys) k
+  pub tells : Walks (Earlier (placeKeys doc keys) i) r
 
--- the keys to go over, with none seen yet
-pub record Starting (doc keys heads links text : List ℕ) (n : ℕ) : Type 0 where
+module _ (doc keys heads links marks : List ℕ) (i : ℕ) (w : Chaining doc keys heads links marks i) where
+  pub chained-room : i + 1 < length keys
+  chained-room = omega (arith, w .held .placed .room, w .low)
+
+  pub chained-low : i < length marks
+  chained-low = omega (arith, w .held .room, w .low)
+
+  pub chained-few : i < 8192
+  chained-few = omega (arith, w .held .placed .few, w .low)
+
+  pub chained-links : i < length links
+  chained-links = w .noting .room
+
+  pub chained-key : (a : ℕ) → a ≡ placeAt keys i → Keyed doc a
+  chained-key = held-key doc keys marks (w .n) i (w .low) i (w .held)
+
+  module _ (a o : ℕ) (m : Marks) (e : a ≡ placeAt keys i) (f : o ≡ objectAt keys i) (x : MarksOf doc a o m) (c : ℕ) (g : c ≡ spread (m .stir)) where
+    chain-is : c ≡ chainAt (placeKeys doc keys) i
+    unfolding chainOf
+    chain-is = g ∙ (ap spread (x .stir-is) ∙ rw (e, f) refl)
+
+    pub chained-small : c < 4096
+    chained-small = note-small (placeKeys doc keys) heads links i (w .noting) c chain-is
+
+    pub chained-head : c < length heads
+    chained-head = note-low (placeKeys doc keys) heads links i (w .noting) c chain-is
+
+    pub chained-walk : (head : ℕ) → head ≡ getD heads c 0 → Walkable doc keys (set marks i (m .mark)) links head i
+    chained-walk head z =
+        rw z
+        (record {
+          n = w .n;
+          low = w .low;
+          held = held-more doc keys marks (w .n) i (w .low) (w .held) a o m e x;
+          walk = note-walkable (placeKeys doc keys) heads links i (w .noting) c chain-is;
+        })
+
+    pub chained-all : (head : ℕ) → head ≡ getD heads c 0 → (r : Walk) → Walks (Links.Met (placeKeys doc keys) links head i) r
+        → Chained doc keys (set heads c (i + 1)) (set links i (getD heads c 0)) (set marks i (m .mark)) i r
+    unfolding Walks
+    chained-all head z r t =
+        record {
+          chains = note-chains (placeKeys doc keys) heads links i (w .noting) c chain-is;
+          stored = held-more doc keys marks (w .n) i (w .low) (w .held) a o m e x .stored;
+          tells = go r (rw z at t);
+        }
+      where
+        go : (r : Walk) → Walks (Links.Met (placeKeys doc keys) links (getD heads c 0) i) r → Walks (Earlier (placeKeys doc keys) i) r
+        go Met t = note-met (placeKeys doc keys) heads links i (w .noting) c chain-is t
+        go Past t = note-past (placeKeys doc keys) heads links i (w .noting) c chain-is t
+        go Long t = tt
+
+pub ruleset chaining = (chained-room, chained-low, chained-few, chained-links, chained-key, chained-small, chained-head, chained-walk, chained-all, needs)
+
+-- ---- the keys one after another
+
+-- none of the first i has an earlier one
+module _ (doc keys : List ℕ) (n i : ℕ) (p : Placed doc keys n) (x : Names (Later (placeKeys doc keys) i) Nowhere) where
+  pub pass-none : (Earlier (placeKeys doc keys) i → ⊥) → Names (Later (placeKeys doc keys) (i + 1)) Nowhere
+  pass-none f = names-same (placeKeys doc keys) i Nowhere x (λ k z. f z)
+
+  pub pass-again : (q : ℕ) → i < n → q ≡ placeAt keys i → Earlier (placeKeys doc keys) i → Names (Later (placeKeys doc keys) n) (At q)
+  pass-again q l h e =
+      subst (λ (j : ℕ). Names (Later (placeKeys doc keys) n) (At j)) (sym h) (names-first (placeKeys doc keys) n i x (λ k a b. before k a b) l tt e)
+    where
+      before : (k : ℕ) → i < k → k < n → placeAt keys i < placeAt keys k
+      before k a b = omega (arith, p .key i l .ahead, p .order i k a b)
+
+  pub pass-done : i ≤ n → n ≤ i → Names (Later (placeKeys doc keys) n) Nowhere
+  pass-done m l = let e : i ≡ n = omega arith in rw e at x
+
+-- the keys to go over, with none in the chains
+pub record Starting (doc keys heads links marks : List ℕ) (n : ℕ) : Type 0 where
   pub placed : Placed doc keys n
-  pub long : length doc ≤ length text
   pub room : n ≤ length links
+  pub marks-room : n ≤ length marks
   pub chains : Chains (placeKeys doc keys) heads links 0
 
-pub starting : (doc keys : List ℕ) (marks links text n : ℕ) → marks ≡ 4096 → n ≤ links → text ≡ limit → Placed doc keys n
-    → Starting doc keys (replicate marks 0) (replicate links 0) (replicate text 0) n
-starting doc keys marks links text n e l k p =
+pub starting : (doc keys : List ℕ) (heads links marks n : ℕ) → heads ≡ 4096 → n ≤ links → links ≡ marks → Placed doc keys n → Starting doc keys (replicate heads 0) (replicate links 0) (replicate marks 0) n
+starting doc keys heads links marks n e l k p =
     record {
       placed = p;
-      long = omega (arith, p .short, length-replicate {A = ℕ} text 0);
       room = omega (arith, length-replicate {A = ℕ} links 0);
-      chains = chains-start (placeKeys doc keys) marks links e;
+      marks-room = omega (arith, length-replicate {A = ℕ} marks 0);
+      chains = chains-start (placeKeys doc keys) heads links e;
     }
 
--- .. and those passed, none of which has an earlier one
-pub record Passed (doc keys heads links text : List ℕ) (n i : ℕ) : Type 0 where
-  pub few : i ≤ n
-  pub long : length doc ≤ length text
+-- .. and those passed
+pub record Passed (doc keys heads links marks : List ℕ) (n i : ℕ) : Type 0 where
+  pub within : i ≤ n
+  pub held : Held doc keys marks n i
   pub room : n ≤ length links
   pub chains : Chains (placeKeys doc keys) heads links i
   pub names : Names (Later (placeKeys doc keys) i) Nowhere
 
 module _ (doc keys : List ℕ) (n : ℕ) where
-  pub pass-first : (heads links text : List ℕ) → Starting doc keys heads links text n → Passed doc keys heads links text n 0
-  pass-first heads links text w = record { few = omega arith; long = w .long; room = w .room; chains = w .chains; names = names-few (placeKeys doc keys) 0 (omega arith) }
+  pub passed-first : (heads links marks : List ℕ) → Starting doc keys heads links marks n → Passed doc keys heads links marks n 0
+  passed-first heads links marks w =
+      record { within = omega arith; held = held-none doc keys marks n (w .placed) (w .marks-room); room = w .room; chains = w .chains; names = names-few (placeKeys doc keys) 0 (omega arith) }
 
-  module _ (p : Placed doc keys n) (heads links text : List ℕ) (i : ℕ) (x : Passed doc keys heads links text n i) where
-    pub pass-chaining : i < n → Chaining doc keys heads links text i
-    pass-chaining l =
-        record { placed = placed-first n i p l; long = x .long; noting = record { room = omega (arith, x .room); chains = x .chains; key = tt } }
+  module _ (heads links marks : List ℕ) (i : ℕ) (x : Passed doc keys heads links marks n i) where
+    pub passed-chaining : i < n → Chaining doc keys heads links marks i
+    passed-chaining l = record { n = n; low = l; held = x .held; noting = record { room = omega (arith, x .room); chains = x .chains; key = tt } }
 
-    module _ (heads′ links′ text′ : List ℕ) (r : Bool) (y : Noted (placeKeys doc keys) heads′ links′ i r) (l : i < n) where
-      pub pass-more : r ≡ false → length links′ ≡ length links → length text′ ≡ length text → Passed doc keys heads′ links′ text′ n (i + 1)
-      pass-more e g h =
+    pub passed-room : i < n → i + 1 < length keys
+    passed-room l = omega (arith, x .held .placed .room)
+
+    pub passed-few : i < n → i < 8192
+    passed-few l = omega (arith, x .held .placed .few)
+
+    pub passed-done : n ≤ i → Names (Later (placeKeys doc keys) n) Nowhere
+    passed-done l = pass-done doc keys n i (x .held .placed) (x .names) (x .within) l
+
+    module _ (heads′ links′ marks′ : List ℕ) (r : Walk) (y : Chained doc keys heads′ links′ marks′ i r) (l : i < n) where
+      pub passed-met : (q : ℕ) → r ≡ Met → q ≡ placeAt keys i → Names (Later (placeKeys doc keys) n) (At q)
+      unfolding Walks
+      passed-met q e h = pass-again doc keys n i (x .held .placed) (x .names) q l h (rw e at (y .tells))
+
+      pub passed-more : r ≡ Past → length links′ ≡ length links → length marks′ ≡ length marks → Passed doc keys heads′ links′ marks′ n (i + 1)
+      unfolding Walks
+      passed-more e g h =
           record {
-            few = omega arith;
-            long = omega (arith, x .long);
+            within = omega arith;
+            held = record { placed = x .held .placed; room = omega (arith, x .held .room); stored = y .stored };
             room = omega (arith, x .room);
             chains = y .chains;
-            names = names-same (placeKeys doc keys) i Nowhere (x .names) (λ k z. tells-no r e (y .tells) z);
+            names = pass-none doc keys n i (x .held .placed) (x .names) (rw e at (y .tells));
           }
 
-      pub pass-again : (q : ℕ) → r ≡ true → q ≡ placeAt keys i → Names (Later (placeKeys doc keys) n) (At q)
-      pass-again q e h =
-          subst (λ (j : ℕ). Names (Later (placeKeys doc keys) n) (At j)) (sym h)
-          (names-first (placeKeys doc keys) n i (x .names) (λ k a b. before k a b) l tt (tells-yes r e (y .tells)))
-        where
-          before : (k : ℕ) → i < k → k < n → placeAt keys i < placeAt keys k
-          before k a b = omega (arith, p .key i l .ahead, p .order i k a b)
-
-    pub pass-done : n ≤ i → Names (Later (placeKeys doc keys) n) Nowhere
-    pass-done l = let e : i ≡ n = omega (arith, x .few) in rw e at (x .names)
+pub ruleset passing = (passed-first, passed-chaining, passed-room, passed-few, passed-done, passed-met, passed-more, needs)

@@ -1,9 +1,9 @@
 -- HOW THE ANSWER FOLLOWS where a document was read into rooms of our own, whose rows may be too few. Assumes nothing.
 use mathlib.Core.Path.{_≡_, refl, sym, subst, _∙_}
 use mathlib.Core.List.{List}
-use Prim.Native.Nat.{ℕ, _+_, _*_, _≤_, _<_}
+use Prim.Native.Nat.{ℕ, suc, _*_, _≤_}
 use native.Mathlib.Omega.{arith}
-use lib.ListN.{length}
+use lib.ListN.{length, replicate, length-replicate}
 use Rattle.rooms.specs.declared.Cursor.{Cursor}
 use Rattle.rooms.specs.declared.Ans.{Ans}
 use Rattle.rooms.specs.declared.Ans.the-variants.{Ok}
@@ -15,12 +15,14 @@ use Rattle.language.specs.declared.Answer.{Answer}
 use Rattle.language.specs.Tree.{unlined, width, textOf, rowsOf}
 use Rattle.language.specs.Answered.{limit, deepest, number, value, second, third, Answered, Totals}
 use Rattle.spans.specs.Document.{few-rows, few-text}
-use Rattle.repeats.specs.Chains.{most-rows}
-use Rattle.repeats.specs.Listed.{Stands}
-use Rattle.repeats.specs.Told.{stands-sets}
+use Rattle.notes.specs.Flat.{flat}
+use Rattle.notes.specs.Notes.{Kept}
+use Rattle.repeats.specs.Stands.{Stands, stands-sets}
+use Rattle.places.specs.Places.{most-keys}
 use Rattle.answers.specs.Held.{Held}
 use Rattle.judge.specs.Blamed.{Blamed}
-use Rattle.judge.specs.Contract.{Known, Checked, Filled}
+use Rattle.judge.specs.Contract.{Known, Checked, Filled, Logged}
+use Rattle.reader.specs.Count.{count-rows, few-noted}
 use Rattle.reader.specs.Judged.{accepts, answer-stop, stop-total}
 
 -- few bytes, and some
@@ -30,26 +32,41 @@ few-bytes = 1024
 abbrev pub some-bytes : ℕ
 some-bytes = 16384
 
--- the document is within the limit; the text room of our own is large enough for any of so many bytes, and the table has no more rows than are asked for repeated keys
-pub record Texted (doc R T : List ℕ) : Type 0 where
+-- the document is within the limit; no key is noted in the log; the text room of our own is large enough for any of so many bytes, and the table has no more rows than the log has words for keys
+pub record Texted (doc K R T : List ℕ) : Type 0 where
+  pub words : ℕ
   pub short : length doc ≤ limit
-  pub rows-few : length R ≤ width * most-rows
+  pub empty : K ≡ replicate (suc words) 0
+  pub small : words ≤ most-keys
+  pub rows-few : length R ≤ width * words
   pub text-fits : length doc ≤ length T
 
+pub texted : (doc : List ℕ) (words rows bytes : ℕ) → length doc ≤ limit → words ≤ most-keys → rows ≡ width * words → length doc ≤ bytes
+    → Texted doc (replicate (suc words) 0) (replicate rows 0) (replicate bytes 0)
+texted doc words rows bytes l k e h =
+    record {
+      words = words;
+      short = l;
+      empty = refl;
+      small = k;
+      rows-few = omega (arith, length-replicate {A = ℕ} rows 0);
+      text-fits = omega (arith, length-replicate {A = ℕ} bytes 0);
+    }
+
 -- n rows, m text bytes and z escapes were read into rooms of our own, which hold them if there are rows enough
-pub record Read (doc R T : List ℕ) (n m z : ℕ) : Type 0 where
+pub record Read (doc K R T : List ℕ) (n m z : ℕ) : Type 0 where
   pub few : n ≤ limit
-  pub held : width * n ≤ length R → Held doc R T n m z
+  pub held : width * n ≤ length R → Held doc K R T n m z
 
 -- AN ATTEMPT: the answer; or the rows of our own are too few, and nothing lent is changed
 unfoldable pub Attempted : List ℕ → List ℕ → List ℕ → Tried → List ℕ → List ℕ → Type 0
 Attempted doc table text (Settled a) table′ text′ = Answered doc table text (number a) (value a) (second a) table′ text′ × Totals doc (number a) (third a)
 Attempted doc table text TooFew table′ text′ = (table′ ≡ table) × (text′ ≡ text)
 
-pub reads : (doc R R' T T' : List ℕ) (a : Ans) (c : Cursor) (m z : ℕ) → m ≡ spot (c .text) → z ≡ tally (c .text) → Texted doc R T → Checked deepest doc a → a ≡ Ok c → Filled deepest doc R R' T T'
-    → length R' ≡ length R → length T' ≡ length T → Read doc R' T' (c .row) m z
+pub reads : (doc K K' R R' T T' : List ℕ) (a : Ans) (c : Cursor) (m z : ℕ) → m ≡ spot (c .text) → z ≡ tally (c .text) → Texted doc K R T → Checked deepest doc a → a ≡ Ok c → Filled deepest doc R R' T T'
+    → Logged deepest doc K K' → length R' ≡ length R → length T' ≡ length T → Read doc K' R' T' (c .row) m z
 unfolding Checked
-reads doc R R' T T' a c m z p q f x e w u v =
+reads doc K K' R R' T T' a c m z p q f x e w o u v =
     let g : Known deepest doc c = rw e at x in
     let t = g .tree in
     let d = accepts deepest doc t (g .is) in
@@ -59,19 +76,26 @@ reads doc R R' T T' a c m z p q f x e w u v =
     let k = few-text deepest doc t d in
     let l = f .short in
     let j = f .text-fits in
-    let o = f .rows-few in
+    let b = f .rows-few in
     record {
       few = omega (arith, g .row);
       held = λ i.
           record {
-            tree = t;
-            short = l;
-            word = d;
+            log =
+                record {
+                  tree = t;
+                  words = f .words;
+                  short = l;
+                  word = d;
+                  kept = subst (λ (S : List ℕ). Kept doc 0 (flat 0 0 t) (length doc) S K') (f .empty) (o .logged t (g .is));
+                  small = f .small;
+                  fits = omega (arith, g .row, count-rows 0 0 t);
+                  few = few-noted deepest doc t d;
+                };
             row = g .row;
             text-count = p ∙ g .text;
             escape-count = q ∙ g .escapes;
             few = i;
-            linked = omega arith;
             fits = omega (arith, g .text);
             small = omega (arith, g .row, g .text);
             table-is = subst (λ (s : List ℕ). Stands s 0 (rowsOf unlined 0 0 0 t)) (sym (y .0)) (stands-sets R 0 (rowsOf unlined 0 0 0 t) (omega (arith, g .row)));
@@ -79,8 +103,8 @@ reads doc R R' T T' a c m z p q f x e w u v =
           };
     }
 
-pub read-holds : (doc R T : List ℕ) (n m z : ℕ) → Read doc R T n m z → width * n ≤ length R → Held doc R T n m z
-read-holds doc R T n m z f i = f .held i
+pub read-holds : (doc K R T : List ℕ) (n m z : ℕ) → Read doc K R T n m z → width * n ≤ length R → Held doc K R T n m z
+read-holds doc K R T n m z f i = f .held i
 
 module _ (doc table text : List ℕ) where
   pub attempt-stop : (a : Answer) → length doc ≤ limit → Blamed doc a → Attempted doc table text (Settled a) table text

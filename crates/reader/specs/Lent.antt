@@ -1,5 +1,5 @@
 -- HOW THE ANSWER FOLLOWS where a document was passed over and its keys were noted, and it is read again into the rooms lent. Assumes nothing.
-use mathlib.Core.Path.{_≡_, subst, _∙_}
+use mathlib.Core.Path.{_≡_, _∙_}
 use mathlib.Core.List.{List}
 use Prim.Native.Nat.{ℕ, suc, _*_, _≤_, _<_}
 use native.Mathlib.Omega.{arith}
@@ -9,13 +9,11 @@ use Rattle.rooms.specs.Told.{spot, tally}
 use Rattle.rooms.specs.declared.Cursor.{Cursor}
 use Rattle.rooms.specs.declared.Ans.{Ans}
 use Rattle.rooms.specs.declared.Ans.the-variants.{Ok}
-use Rattle.language.specs.Tree.{unlined, rowsOf, Tree, width, size, textOf, escapesOf, Repeats}
+use Rattle.language.specs.Tree.{unlined, rowsOf, width, size, textOf, escapesOf}
 use Rattle.language.specs.Answered.{limit, deepest, REPEAT, ROWS, TEXT, Answered, Totals}
-use Rattle.blocks.specs.Document.{one-tree}
 use Rattle.spans.specs.Document.{few-rows}
 use Rattle.repeats.specs.declared.Repeat.{Repeat}
 use Rattle.repeats.specs.declared.Repeat.the-variants.{At, Nowhere}
-use Rattle.repeats.specs.Later.{Names}
 use Rattle.places.specs.Places.{most-keys}
 use Rattle.places.specs.Log.{Log, Told}
 use Rattle.language.specs.Lines.{linesOf}
@@ -42,7 +40,17 @@ passes doc keys a c m z p q l x e w =
     let d = accepts deepest doc (g .tree) (g .is) in
     let h = few-rows deepest doc (g .tree) d in
     record {
-      log = record { tree = g .tree; short = l; word = d; kept = w .logged (g .tree) (g .is); few = few-noted deepest doc (g .tree) d };
+      log =
+          record {
+            tree = g .tree;
+            words = most-keys;
+            short = l;
+            word = d;
+            kept = w .logged (g .tree) (g .is);
+            small = omega arith;
+            fits = omega (arith, few-noted deepest doc (g .tree) d);
+            few = few-noted deepest doc (g .tree) d;
+          };
       row = g .row;
       text-count = p ∙ g .text;
       escape-count = q ∙ g .escapes;
@@ -51,19 +59,17 @@ passes doc keys a c m z p q l x e w =
 
 -- ---- what `filled` shows, once the log has told the first repeated key
 
-module _ (doc keys : List ℕ) (n m z : ℕ) (f : Passed doc keys n m z) (a : Repeat) (h : Told doc a) (table text : List ℕ) where
+module _ (doc keys : List ℕ) (n m z : ℕ) (f : Passed doc keys n m z) (a : Repeat) (h : Told doc keys a) (table text : List ℕ) where
   counted : Counted doc n m z a
   counted =
-      let t = f .log .tree in
-      let e : h .tree ≡ t = one-tree deepest doc (h .tree) t (h .word) (f .log .word) in
       record {
-        tree = t;
+        tree = f .log .tree;
         short = f .log .short;
         word = f .log .word;
         row = f .row;
         text-count = f .text-count;
         escape-count = f .escape-count;
-        names = subst (λ (u : Tree). Names (λ p. Repeats p u) a) e (h .names);
+        names = h (f .log);
       }
 
   pub filled-repeat : (p : ℕ) → a ≡ At p → Answered doc table text REPEAT p 0 table text

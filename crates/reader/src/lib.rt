@@ -37,19 +37,20 @@ pub enum Tried {
 // The answer by rooms of our own whose rows may be too few.
 fn attempt(
     doc: &[u8],
+    keys: &mut [u32],
     rows: &mut [u32],
     bytes: &mut [u8],
     table: &mut [u32],
     text: &mut [u8],
 ) -> Tried
-    requires { ⌜ Texted (now doc) (now rows) (now bytes) ⌝ }
+    requires { ⌜ Texted (now doc) (now keys) (now rows) (now bytes) ⌝ }
     ensures { λ r. ⌜ Attempted (now (doc .entry)) (now (table .entry)) (now (text .entry)) r (now (table .exit)) (now (text .exit)) ⌝ }
 {
-    let mut none = [0u32; 1];
-    match pass(&*doc, rows, bytes, &mut none, DEEPEST) {
+    match pass(&*doc, rows, bytes, keys, DEEPEST) {
         Ans::No(p) => Tried::Settled(blame(&*doc, rows, bytes, p)),
         Ans::Ok(c) => settled(
             &*doc,
+            &*keys,
             &*rows,
             &*bytes,
             c.row,
@@ -64,6 +65,7 @@ fn attempt(
 // The answer for a document whose rows and text stand in rooms of our own, if the rows have room there.
 fn settled(
     doc: &[u8],
+    keys: &[u32],
     rows: &[u32],
     bytes: &[u8],
     n: usize,
@@ -72,13 +74,13 @@ fn settled(
     table: &mut [u32],
     text: &mut [u8],
 ) -> Tried
-    requires { ⌜ Read (now doc) (now rows) (now bytes) n m escapes ⌝ }
+    requires { ⌜ Read (now doc) (now keys) (now rows) (now bytes) n m escapes ⌝ }
     ensures { λ r. ⌜ Attempted (now (doc .entry)) (now (table .entry)) (now (text .entry)) r (now (table .exit)) (now (text .exit)) ⌝ }
 {
     if rows.len() < WIDTH * n {
         return Tried::TooFew;
     }
-    Tried::Settled(answer(&*doc, &*rows, &*bytes, n, m, escapes, table, text))
+    Tried::Settled(answer(&*doc, &*keys, &*rows, &*bytes, n, m, escapes, table, text))
 }
 
 // The answer by rooms of our own for documents of few bytes, and of some.
@@ -86,18 +88,20 @@ fn of_few_bytes(doc: &[u8], table: &mut [u32], text: &mut [u8]) -> Tried
     requires { ⌜ length (now doc) ≤ few-bytes ⌝ }
     ensures { λ r. ⌜ Attempted (now (doc .entry)) (now (table .entry)) (now (text .entry)) r (now (table .exit)) (now (text .exit)) ⌝ }
 {
+    let mut keys = [0u32; FEW / 2 + 1];
     let mut rows = [0u32; WIDTH * (FEW / 2)];
     let mut bytes = [0u8; FEW];
-    attempt(&*doc, &mut rows, &mut bytes, table, text)
+    attempt(&*doc, &mut keys, &mut rows, &mut bytes, table, text)
 }
 
 fn of_some_bytes(doc: &[u8], table: &mut [u32], text: &mut [u8]) -> Tried
     requires { ⌜ length (now doc) ≤ some-bytes ⌝ }
     ensures { λ r. ⌜ Attempted (now (doc .entry)) (now (table .entry)) (now (text .entry)) r (now (table .exit)) (now (text .exit)) ⌝ }
 {
+    let mut keys = [0u32; ROWS + 1];
     let mut rows = [0u32; WIDTH * ROWS];
     let mut bytes = [0u8; SOME];
-    attempt(&*doc, &mut rows, &mut bytes, table, text)
+    attempt(&*doc, &mut keys, &mut rows, &mut bytes, table, text)
 }
 
 // The answer for a document of n rows, m text bytes and so many escapes whose keys are noted: it is read again, into the rooms lent.

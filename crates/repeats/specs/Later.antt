@@ -1,6 +1,6 @@
 -- KEYS THAT ARE THE SAME AS AN EARLIER ONE, and the least place at which one starts, found key by key. Assumes nothing.
 use mathlib.Core.Path.{_≡_, refl, sym, ap, subst, _∙_}
-use Prim.Native.Nat.{ℕ, zero, suc, _+_, _≤_, _<_, min}
+use Prim.Native.Nat.{ℕ, zero, suc, _+_, _≤_, _<_}
 use native.Mathlib.Omega.{arith}
 use native.Mathlib.Decide.{ℕ-discrete, decLt}
 use lib.ListN.{getD, replicate, length-replicate}
@@ -22,17 +22,6 @@ Names A Nowhere = (q : ℕ) → A q → ⊥
 pub names-map : {A B : ℕ → Type 0} → ((q : ℕ) → A q → B q) → ((q : ℕ) → B q → A q) → (r : Repeat) → Names A r → Names B r
 names-map f g (At p) x = record { is = f p (x .is); least = λ q y. x .least q (g q y) }
 names-map f g Nowhere x = λ q y. x q (g q y)
-
--- the lesser of an answer and p
-abbrev pub lesser : Repeat → ℕ → ℕ
-lesser (At q) p = min q p
-lesser Nowhere p = p
-
-pub lesser-found : (r : Repeat) (q p : ℕ) → r ≡ At q → q < p → q ≡ lesser r p
-lesser-found r q p e l = rw e (omega arith)
-
-pub lesser-new : (r : Repeat) (q p : ℕ) → r ≡ At q → p ≤ q → p ≡ lesser r p
-lesser-new r q p e l = rw e (omega arith)
 
 -- ---- keys
 
@@ -57,33 +46,6 @@ module _ (N : Numbering) (i : ℕ) where
   -- the number i is no key, or that of one without an earlier
   pub names-same : (r : Repeat) → Names (Later N i) r → (N .Key i → Earlier N i → ⊥) → Names (Later N (i + 1)) r
   names-same r x n = names-map wider (λ q y. narrow q y (λ e. n (subst (N .Key) e (y .key .key)) (subst (Earlier N) e (y .earlier)))) r x
-
-  -- key i has an earlier one
-  pub names-more : (r : Repeat) (p : ℕ) → Names (Later N i) r → N .Key i → Earlier N i → p ≡ lesser r (N .start i) → Names (Later N (i + 1)) (At p)
-  names-more r p x k e z = by r x z
-    where
-      this : (q : ℕ) → N .start i ≡ q → Later N (i + 1) q
-      this q h = record { number = i; key = record { before = omega arith; key = k }; starts = h; earlier = e }
-
-      split : (p q : ℕ) → p ≤ N .start i → (Later N i q → p ≤ q) → (y : Later N (i + 1) q) → Dec (y .number ≡ i) → p ≤ q
-      split p q l f y (yes h) = let g : N .start i ≡ q = ap (N .start) (sym h) ∙ y .starts in omega arith
-      split p q l f y (no h) = f (narrow q y h)
-
-      first : (b : ℕ) (w : LeastOf (Later N i) b) (p : ℕ) → p ≡ min b (N .start i) → Dec (p ≡ b) → Later N (i + 1) p
-      first b w p h (yes g) = subst (Later N (i + 1)) (sym g) (wider b (w .is))
-      first b w p h (no g) = this p (omega arith)
-
-      by : (r : Repeat) → Names (Later N i) r → p ≡ lesser r (N .start i) → LeastOf (Later N (i + 1)) p
-      by (At b) w h =
-          record {
-            is = first b w p h (ℕ-discrete p b);
-            least = λ q y. split p q (omega arith) (λ v. let g = w .least q v in omega arith) y (ℕ-discrete (y .number) i);
-          }
-      by Nowhere w h =
-          record {
-            is = this p (sym h);
-            least = λ q y. split p q (omega arith) (λ v. absurd (w q v)) y (ℕ-discrete (y .number) i);
-          }
 
 -- keys that start one behind another: the first that has an earlier one is the least
 pub names-first : (N : Numbering) (n i : ℕ) → Names (Later N i) Nowhere → ((k : ℕ) → i < k → k < n → N .start i < N .start k) → i < n → N .Key i → Earlier N i

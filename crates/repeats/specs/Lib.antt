@@ -1,12 +1,11 @@
 pub mod Flat
 pub mod Repeating
-pub mod Listed
+pub mod Stands
 pub mod Tells
+pub mod Mark
 pub mod Numbering
-pub mod Keys
 pub mod Links
-pub mod Chains
+pub mod Order
+pub mod Sorted
 pub mod Later
-pub mod Turns
 pub mod Twice
-pub mod Told

@@ -1,15 +1,15 @@
--- CHAINS OF KEYS BY NUMBER, one for each mark: a head, and links that each lead to an earlier key. Assumes nothing.
+-- CHAINS OF KEYS BY NUMBER, each with a head, and links that each lead to an earlier key. Assumes nothing.
 use mathlib.Core.Path.{_≡_, sym, subst, _∙_}
 use mathlib.Core.List.{List}
-use mathlib.Core.Bool.{Bool, true, false}
+use mathlib.Core.Bool.{true, false}
 use Prim.Native.Nat.{ℕ, zero, suc, _+_, _-_, _≤_, _<_}
 use native.Mathlib.Omega.{arith}
 use native.Mathlib.Decide.{ℕ-discrete}
 use native.Mathlib.Numerals.{add-one}
 use lib.ListN.{length, getD, set, length-set}
 use lib.Seq.{getD-set-same, getD-set-other}
-use Rattle.repeats.specs.Tells.{Tells, tells-map}
-use Rattle.repeats.specs.Numbering.{Numbering, Same, markOf, mark-low, same-mark}
+use Rattle.repeats.specs.Tells.{Tells}
+use Rattle.repeats.specs.Numbering.{Numbering, Same, chainAt, chain-low, same-chain}
 
 -- the key k is before n
 pub record Before (N : Numbering) (n k : ℕ) : Type 0 where
@@ -125,10 +125,10 @@ module _ (N : Numbering) (links : List ℕ) (head i : ℕ) (w : Walkable N links
 -- ---- the chains of the keys before n
 
 pub record Chains (N : Numbering) (heads links : List ℕ) (n : ℕ) : Type 0 where
-  pub marks : length heads ≡ 4096
+  pub many : length heads ≡ 4096
   pub heads-point : (m : ℕ) → Points N n (getD heads m 0)
   pub linked : Linked N links
-  pub all : (k : ℕ) → Before N n k → Chained links k (getD heads (markOf N k) 0)
+  pub all : (k : ℕ) → Before N n k → Chained links k (getD heads (chainAt N k) 0)
 
 -- key i is the same as one before it
 pub record Earlier (N : Numbering) (i : ℕ) : Type 0 where
@@ -142,103 +142,87 @@ pub record Noting (N : Numbering) (heads links : List ℕ) (i : ℕ) : Type 0 wh
   pub chains : Chains N heads links i
   pub key : N .Key i
 
-pub record Noted (N : Numbering) (heads links : List ℕ) (i : ℕ) (r : Bool) : Type 0 where
-  pub tells : Tells (Earlier N i) r
-  pub chains : Chains N heads links (i + 1)
-
 -- no key is seen yet
 pub chains-none : (N : Numbering) (heads links : List ℕ) → length heads ≡ 4096 → ((m : ℕ) → getD heads m 0 ≡ 0) → ((j : ℕ) → getD links j 0 ≡ 0) → Chains N heads links 0
 chains-none N heads links l h k =
     record {
-      marks = l;
+      many = l;
       heads-point = λ m. rw (h m) to-none;
       linked = λ j. rw (k j) to-none;
       all = λ j x. absurd (omega (arith, x .before));
     }
-
-module _ (N : Numbering) (heads links : List ℕ) (i : ℕ) (x : Chains N heads links i) where
-  -- the number i is no key
-  pub chains-other : (N .Key i → ⊥) → Chains N heads links (i + 1)
-  chains-other n =
-      record {
-        marks = x .marks;
-        heads-point = λ m. points-more (i + 1) (omega arith) (x .heads-point m);
-        linked = x .linked;
-        all = λ k y. x .all k (record { before = before k y (ℕ-discrete k i); key = y .key });
-      }
-    where
-      before : (k : ℕ) → Before N (i + 1) k → Dec (k ≡ i) → k < i
-      before k y (yes e) = absurd (n (subst (N .Key) e (y .key)))
-      before k y (no e) = omega (arith, y .before)
 
 module _ (N : Numbering) (heads links : List ℕ) (i : ℕ) (w : Noting N heads links i) where
   abbrev x : Chains N heads links i
   x = w .chains
 
   abbrev head : ℕ
-  head = getD heads (markOf N i) 0
+  head = getD heads (chainAt N i) 0
 
   walkable : Walkable N links head i
   walkable =
       record {
-        points = x .heads-point (markOf N i);
+        points = x .heads-point (chainAt N i);
         linked = x .linked;
         there = omega (arith, w .room);
       }
 
-  chains-met : (r : Bool) → Tells (Met N links head i) r → Tells (Earlier N i) r
-  chains-met = tells-map to from
-    where
-      to : Met N links head i → Earlier N i
-      to m = record { other = m .other; key = chained-key (x .linked) (m .chained) (x .heads-point (markOf N i)); same = m .same }
+  met-earlier : Met N links head i → Earlier N i
+  met-earlier m = record { other = m .other; key = chained-key (x .linked) (m .chained) (x .heads-point (chainAt N i)); same = m .same }
 
-      from : Earlier N i → Met N links head i
-      from e = record { other = e .other; chained = rw (same-mark N i (e .other) (e .same)) (x .all (e .other) (e .key)); same = e .same }
+  earlier-met : Earlier N i → Met N links head i
+  earlier-met e = record { other = e .other; chained = rw (same-chain N i (e .other) (e .same)) (x .all (e .other) (e .key)); same = e .same }
 
-  chains-key : Chains N (set heads (markOf N i) (i + 1)) (set links i head) (i + 1)
+  chains-key : Chains N (set heads (chainAt N i) (i + 1)) (set links i head) (i + 1)
   chains-key =
       record {
-        marks = length-set heads (markOf N i) (i + 1) ∙ x .marks;
-        heads-point = λ m. points m (ℕ-discrete m (markOf N i));
+        many = length-set heads (chainAt N i) (i + 1) ∙ x .many;
+        heads-point = λ m. points m (ℕ-discrete m (chainAt N i));
         linked = λ j. links-point j (ℕ-discrete j i);
-        all = λ k y. chained k y (ℕ-discrete k i) (ℕ-discrete (markOf N k) (markOf N i));
+        all = λ k y. chained k y (ℕ-discrete k i) (ℕ-discrete (chainAt N k) (chainAt N i));
       }
     where
-      here : getD (set heads (markOf N i) (i + 1)) (markOf N i) 0 ≡ suc i
-      here = getD-set-same heads (markOf N i) (i + 1) 0 (omega (arith, mark-low N i, x .marks)) ∙ add-one i
+      here : getD (set heads (chainAt N i) (i + 1)) (chainAt N i) 0 ≡ suc i
+      here = getD-set-same heads (chainAt N i) (i + 1) 0 (omega (arith, chain-low N i, x .many)) ∙ add-one i
 
       linked-here : getD (set links i head) i 0 ≡ head
       linked-here = getD-set-same links i head 0 (w .room)
 
-      points : (m : ℕ) → Dec (m ≡ markOf N i) → Points N (i + 1) (getD (set heads (markOf N i) (i + 1)) m 0)
+      points : (m : ℕ) → Dec (m ≡ chainAt N i) → Points N (i + 1) (getD (set heads (chainAt N i) (i + 1)) m 0)
       points m (yes e) = rw (e, here) (to-key {k = i} (record { before = omega arith; key = w .key }))
-      points m (no e) = rw (getD-set-other heads (markOf N i) m (i + 1) 0 e) (points-more (i + 1) (omega arith) (x .heads-point m))
+      points m (no e) = rw (getD-set-other heads (chainAt N i) m (i + 1) 0 e) (points-more (i + 1) (omega arith) (x .heads-point m))
 
       links-point : (j : ℕ) → Dec (j ≡ i) → Points N j (getD (set links i head) j 0)
-      links-point j (yes e) = rw (e, linked-here) (x .heads-point (markOf N i))
+      links-point j (yes e) = rw (e, linked-here) (x .heads-point (chainAt N i))
       links-point j (no e) = rw (getD-set-other links i j head 0 e) (x .linked j)
 
-      chained : (k : ℕ) → Before N (i + 1) k → Dec (k ≡ i) → Dec (markOf N k ≡ markOf N i)
-          → Chained (set links i head) k (getD (set heads (markOf N i) (i + 1)) (markOf N k) 0)
+      chained : (k : ℕ) → Before N (i + 1) k → Dec (k ≡ i) → Dec (chainAt N k ≡ chainAt N i)
+          → Chained (set links i head) k (getD (set heads (chainAt N i) (i + 1)) (chainAt N k) 0)
       chained k y (yes e) d = rw (e, here) chained-here
       chained k y (no e) (yes f) =
           let z : Chained links k head = rw f at (x .all k (record { before = omega (arith, y .before); key = y .key })) in
-          rw (f, here) (chained-later {h = i} (rw linked-here (chained-kept i head (x .linked) z (x .heads-point (markOf N i)))))
+          rw (f, here) (chained-later {h = i} (rw linked-here (chained-kept i head (x .linked) z (x .heads-point (chainAt N i)))))
       chained k y (no e) (no f) =
           rw
-          (getD-set-other heads (markOf N i) (markOf N k) (i + 1) 0 f)
-          (chained-kept i head (x .linked) (x .all k (record { before = omega (arith, y .before); key = y .key })) (x .heads-point (markOf N k)))
+          (getD-set-other heads (chainAt N i) (chainAt N k) (i + 1) 0 f)
+          (chained-kept i head (x .linked) (x .all k (record { before = omega (arith, y .before); key = y .key })) (x .heads-point (chainAt N k)))
 
-  -- .. where the mark is m
-  module _ (m : ℕ) (e : m ≡ markOf N i) where
+  -- .. where the chain is m
+  module _ (m : ℕ) (e : m ≡ chainAt N i) where
     pub note-walkable : Walkable N links (getD heads m 0) i
     note-walkable = rw e walkable
 
     pub note-low : m < length heads
-    note-low = omega (arith, mark-low N i, x .marks)
+    note-low = omega (arith, chain-low N i, x .many)
 
     pub note-small : m < 4096
-    note-small = omega (arith, mark-low N i)
+    note-small = omega (arith, chain-low N i)
 
-    pub noted : (r : Bool) → Tells (Met N links (getD heads m 0) i) r → Noted N (set heads m (i + 1)) (set links i (getD heads m 0)) i r
-    noted r t = rw e (record { tells = chains-met r (rw e at t); chains = chains-key })
+    pub note-met : Met N links (getD heads m 0) i → Earlier N i
+    note-met y = met-earlier (rw e at y)
+
+    pub note-past : (Met N links (getD heads m 0) i → ⊥) → Earlier N i → ⊥
+    note-past n y = n (rw e (earlier-met y))
+
+    pub note-chains : Chains N (set heads m (i + 1)) (set links i (getD heads m 0)) (i + 1)
+    note-chains = rw e chains-key

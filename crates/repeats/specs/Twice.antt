@@ -1,20 +1,12 @@
--- THE KEYS IN A LIST (`Lists`): a key that is the same as an earlier one is one that the list names twice, and back. With it the answer for rows (`FirstRepeat`). Assumes nothing.
+-- THE KEYS IN A LIST (`Lists`): a key that is the same as an earlier one is one that the list names twice, and back. Assumes nothing.
 use mathlib.Core.Path.{_≡_, refl, sym, ap, subst, _∙_}
-use mathlib.Core.List.{List, [], _∷_, _++_}
-use mathlib.Core.Bool.{Bool, true, false}
-use Prim.Native.Nat.{ℕ, zero, suc, _+_, _≤_, _<_}
-use native.Mathlib.Nat.{add-zero}
+use mathlib.Core.List.{List, [], _∷_}
+use Prim.Native.Nat.{ℕ, suc, _≤_, _<_}
 use native.Mathlib.Omega.{arith}
 use native.Mathlib.Decide.{ℕ-discrete}
-use lib.Dec.{eqb}
-use borrow.Author.Tests.{eqb-true, eqb-false}
-use Rattle.language.specs.Kind.{KEY}
-use Rattle.repeats.specs.declared.Repeat.{Repeat}
 use Rattle.repeats.specs.Flat.{Named, named, In, in-here, in-later, Twice, twice-here, twice-later}
-use Rattle.repeats.specs.Listed.{keyRow, listed}
 use Rattle.repeats.specs.Numbering.{Numbering, Same}
-use Rattle.repeats.specs.Keys.{kindOf, rowKeys}
-use Rattle.repeats.specs.Later.{Names, names-map, Later}
+use Rattle.repeats.specs.Later.{Later}
 
 -- the list of the keys from i up to e
 pub data Lists (N : Numbering) (e : ℕ) : ℕ → List Named → Type 0 where
@@ -154,28 +146,3 @@ module _ (N : Numbering) (n : ℕ) (ns : List Named) (l : Lists N n 0 ns) (p : �
         starts = h .starts;
         earlier = record { other = h .one; key = record { before = h .between; key = h .one-key }; same = h .same };
       }
-
--- THE ROWS list their keys
-module _ (rows text : List ℕ) where
-  pub row-lists : (n i e : ℕ) → e ≡ i + n → Lists (rowKeys rows text) e i (listed n i rows text)
-  unfolding listed keyRow
-  row-lists zero i e h = rw h (rw (add-zero i) lists-none)
-  row-lists (suc n) i e h = by (eqb (kindOf rows i) KEY) refl (row-lists n (suc i) e (omega arith))
-    where
-      by : (c : Bool) → eqb (kindOf rows i) KEY ≡ c → Lists (rowKeys rows text) e (suc i) (listed n (suc i) rows text)
-          → Lists (rowKeys rows text) e i (keyRow rows text i ++ listed n (suc i) rows text)
-      by true z x = rw z (lists-key (eqb-true (kindOf rows i) KEY z) x)
-      by false z x = rw z (lists-other (eqb-false (kindOf rows i) KEY z) x)
-
--- THE ANSWER for n rows: the least start of a key that the list of keys names twice, or that there is none
-abbrev pub FirstRepeat : List ℕ → List ℕ → ℕ → Repeat → Type 0
-FirstRepeat rows text n r = Names (λ p. Twice p (listed n 0 rows text)) r
-
-pub first-repeat : (rows text : List ℕ) (n : ℕ) (r : Repeat) → Names (Later (rowKeys rows text) n) r → FirstRepeat rows text n r
-first-repeat rows text n r x =
-    let l = row-lists rows text n 0 n (omega arith) in
-    names-map
-    (λ p y. later-twice (rowKeys rows text) n (listed n 0 rows text) l p y)
-    (λ p y. twice-later-key (rowKeys rows text) n (listed n 0 rows text) l p y)
-    r
-    x

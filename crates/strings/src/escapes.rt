@@ -135,7 +135,7 @@ fn put_scalar(text: &mut [u8], x: usize, v: u32) -> usize
 }
 
 // What a letter behind a backslash stands for in double quotes, 256 for nothing.
-fn stands_for(b: u32) -> u32
+pub fn stands_for(b: u32) -> u32
     ensures { λ r. ⌜ Letter b r ⌝ }
 {
     if b == 34 {
@@ -188,7 +188,7 @@ fn braced(doc: &[u8], text: &mut [u8], c: Cursor) -> Ans
 }
 
 // `u{..}` behind a backslash.
-fn scalar_escape(doc: &[u8], text: &mut [u8], c: Cursor) -> Ans
+pub fn scalar_escape(doc: &[u8], text: &mut [u8], c: Cursor) -> Ans
     requires { ⌜ Ready (now doc) c ⌝ }
     ensures { λ r. ⌜ Texts (now (doc .entry)) c (codedR (c .at) (drop (c .at) (now (doc .entry)))) r (now (text .entry)) (now (text .exit)) ⌝ }
 {

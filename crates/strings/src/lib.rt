@@ -7,6 +7,8 @@ mod hex;
 mod keys;
 mod quotes;
 
+pub use escapes::scalar_escape;
+pub use escapes::stands_for;
 pub use hex::inline_bytes;
 pub use hex::pairs;
 pub use keys::key;

@@ -21,20 +21,37 @@ pub fn short() -> String {
     object((0..2_900).map(|i| format!("key{i}")))
 }
 
-/// Keys of four letters whose marks all lead to one chain, as crates/repeats makes marks and chains for the keys of the
-/// first row.
-pub fn of_one_chain() -> String {
-    let mark = |key: &[u8]| key.iter().fold(0u64, |mark, &byte| (31 * mark + u64::from(byte)) % (1 << 32));
-    let chain = |mark: u64| (mark + (mark >> 20)) % 4096;
-    let keys = (0..1usize << 24).map(|i| [18, 12, 6, 0].map(|shift| LETTERS[i >> shift & 63]));
-    object(keys.filter(|key| chain(mark(key)) == 0).map(|key| String::from_utf8_lossy(&key).into_owned()))
+/// Whether a key of the first row's object belongs to the chain 0, as crates/places picks chains.
+fn in_first_chain(key: &str) -> bool {
+    let stir = key.bytes().fold(0u64, |stir, byte| (31 * stir + u64::from(byte)) % (1 << 32));
+    (stir + (stir >> 20)) % 4096 == 0
 }
 
-/// Keys that have one mark, whatever the chains: 31 · first + second is the same for each pair of letters.
+/// Keys of four letters that all belong to one chain.
+pub fn of_one_chain() -> String {
+    let keys = (0..1usize << 24).map(|i| [18, 12, 6, 0].map(|shift| LETTERS[i >> shift & 63]));
+    object(keys.map(|key| String::from_utf8_lossy(&key).into_owned()).filter(|key| in_first_chain(key)))
+}
+
+/// The i-th key of so many pairs of letters, all of one mark: twice the first and the second are the same for each pair.
+fn marked(i: usize, pairs: u32) -> String {
+    let pair = |place| ["ao", "bm", "ck", "di", "eg", "fe", "gc", "ha"][i >> (3 * place) & 7];
+    (0..pairs).map(pair).collect()
+}
+
+/// Keys that have one mark.
 pub fn of_one_mark() -> String {
-    let pairs = ["Ap", "BQ", "C2"];
-    let key = |i: usize| (0..7).map(|place| pairs[i / 3usize.pow(place) % 3]).collect();
-    object((0..3usize.pow(7)).map(key))
+    object((0..1 << 12).map(|i| marked(i * 37 % 4096, 4)))
+}
+
+/// Keys that have one mark and belong to one chain.
+pub fn of_one_mark_and_chain() -> String {
+    object((0..1 << 24).map(|i| marked(i, 8)).filter(|key| in_first_chain(key)))
+}
+
+/// Keys of 200 bytes that share their last 32, on which alone a mark depends.
+pub fn of_one_end() -> String {
+    object((0..200).map(|i| format!("{i:0168}{:-<32}", "")))
 }
 
 /// The same lines as strings of an array: as many bytes to judge, and no keys.

@@ -1,12 +1,12 @@
 -- `answer` meets its contract.
 use native.Mathlib.Omega.{arith}
 use borrow.Author.Needs.{needs}
-use Rattle.answers.specs.Held.{held-table, answer-repeat, answer-rows, answer-bytes, answer-ranked, answer-all, answer-total, no-total}
+use Rattle.answers.specs.Held.{answer-repeat, answer-rows, answer-bytes, answer-ranked, answer-all, answer-total, no-total}
 use Rattle.answers.proofs.answer.Statement.{statement}
 use Rattle.answers.proofs.answer.Tie as tie
 
-first-repeat-requires : tie.Need-first-repeat-requires
-first-repeat-requires c κs = search (held-table, needs)
+first-again-requires : tie.Need-first-again-requires
+first-again-requires c κs = search (needs)
 
 enum-known-p : tie.Need-enum-known-p
 enum-known-p c = search needs
@@ -36,7 +36,7 @@ copy-requires : tie.Need-copy-requires
 copy-requires c κs = search needs
 
 line-up-requires : tie.Need-line-up-requires
-line-up-requires c κs = answer-ranked _ _ _ _ _ _ (c .before .before .before .before .before .before .before .before .before .before .before .before .before .before .before .before .before .before .before .pre) ((c .before .before .before .before .before .before .before .before .before .before .before .before .before .first-repeat) .result) ((c .before .before .before .before .before .before .before .before .before .before .before .before .before .first-repeat) .ensures) ((c .before .before .before .before .before .before .before .before .before .before .before .before .before .before .before .before .before .before .before .args) .table .now) ((c .before .before .before .before .before .before .before .before .before .before .before .before .before .before .before .before .before .before .before .args) .text .now) ((c .before .before .before .before .before .before .before .before .before .before .if1) .left) _ ((c .before .before .before .before .before .before .before .copy-words) .ensures)
+line-up-requires c κs = answer-ranked _ _ _ _ _ _ _ (c .before .before .before .before .before .before .before .before .before .before .before .before .before .before .before .before .before .before .before .before .pre) ((c .before .before .before .before .before .before .before .before .before .before .before .before .before .first-again) .result) ((c .before .before .before .before .before .before .before .before .before .before .before .before .before .first-again) .ensures) ((c .before .before .before .before .before .before .before .before .before .before .before .before .before .before .before .before .before .before .before .before .args) .table .now) ((c .before .before .before .before .before .before .before .before .before .before .before .before .before .before .before .before .before .before .before .before .args) .text .now) ((c .before .before .before .before .before .before .before .before .before .before .if1) .left) _ ((c .before .before .before .before .before .before .before .copy-words) .ensures)
 
 same-length : tie.Need-same-length
 same-length c = search needs
@@ -45,13 +45,13 @@ same-length-2 : tie.Need-same-length-2
 same-length-2 c = search needs
 
 returns-4 : tie.Need-returns-4
-returns-4 c = (answer-all _ _ _ _ _ _ (c .before .before .before .before .before .before .before .before .before .before .before .before .before .before .before .before .before .before .before .before .before .before .pre) ((c .before .before .before .before .before .before .before .before .before .before .before .before .before .before .before .before .first-repeat) .result) ((c .before .before .before .before .before .before .before .before .before .before .before .before .before .before .before .before .first-repeat) .ensures) _ _ ((c .before .before .before .before .before .before .before .before .before .before .before .before .before .if1) .left) _ ((c .before .before .before .before .before .before .before .before .before .before .copy-words) .ensures) (search needs) ((c .before .before .before .before .before .before .before .before .before .before .before .before .if2) .left) _ _ ((c .before .before .line-up) .ensures) ((c .before .before .before .before .before .before .copy) .ensures), search (answer-total, needs))
+returns-4 c = (answer-all _ _ _ _ _ _ _ (c .before .before .before .before .before .before .before .before .before .before .before .before .before .before .before .before .before .before .before .before .before .before .before .pre) ((c .before .before .before .before .before .before .before .before .before .before .before .before .before .before .before .before .first-again) .result) ((c .before .before .before .before .before .before .before .before .before .before .before .before .before .before .before .before .first-again) .ensures) _ _ ((c .before .before .before .before .before .before .before .before .before .before .before .before .before .if1) .left) _ ((c .before .before .before .before .before .before .before .before .before .before .copy-words) .ensures) (search needs) ((c .before .before .before .before .before .before .before .before .before .before .before .before .if2) .left) _ _ ((c .before .before .line-up) .ensures) ((c .before .before .before .before .before .before .copy) .ensures), search (answer-total, needs))
 
 pub answer-spec : {M : Type 1} → statement M
 answer-spec =
     tie.close
     (tie.spec
-    first-repeat-requires
+    first-again-requires
     enum-known-p
     returns
     enum-told

@@ -1,7 +1,6 @@
 -- `among_all` starts with chains that have no key in them. Assumes nothing.
 use mathlib.Core.Path.{refl}
 use borrow.Author.Needs.{needs}
-use Rattle.language.specs.Answered.{limit}
 use Rattle.places.specs.Places.{most-keys}
 use Rattle.places.specs.Walks.{starting}
 use Rattle.places.proofs.among_all.Statement.{statement}
@@ -19,7 +18,7 @@ slice-aggregate-repeated-3 c = search needs
 repeated-requires : tie.Need-repeated-requires
 repeated-requires c κs =
     let s = c .before .before .before .before .before in
-    starting (s .args .doc .now) (s .args .keys .now) 4096 most-keys limit (s .args .n) refl (s .pre .few) refl (s .pre)
+    starting (s .args .doc .now) (s .args .keys .now) 4096 most-keys most-keys (s .args .n) refl (s .pre .few) refl (s .pre)
 
 returns : tie.Need-returns
 returns c = search needs

@@ -1,7 +1,6 @@
 -- `among_few` starts with chains that have no key in them. Assumes nothing.
 use mathlib.Core.Path.{refl}
 use borrow.Author.Needs.{needs}
-use Rattle.language.specs.Answered.{limit}
 use Rattle.places.specs.Walks.{starting}
 use Rattle.places.proofs.among_few.Statement.{statement}
 use Rattle.places.proofs.among_few.Tie as tie
@@ -18,7 +17,7 @@ slice-aggregate-repeated-3 c = search needs
 repeated-requires : tie.Need-repeated-requires
 repeated-requires c κs =
     let s = c .before .before .before .before .before in
-    starting (s .args .doc .now) (s .args .keys .now) 4096 512 limit (s .args .n) refl (s .pre .1) refl (s .pre .0)
+    starting (s .args .doc .now) (s .args .keys .now) 4096 512 512 (s .args .n) refl (s .pre .1) refl (s .pre .0)
 
 returns : tie.Need-returns
 returns c = search needs

@@ -1,84 +1,83 @@
--- `repeated` gives the answer for n keys. The loop's invariant: none passed has an earlier one, and they stand in the chains. Assumes nothing.
-use native.Mathlib.Omega.{arith}
-use mathlib.Core.Path.{_≡_, refl, _∙_}
+-- `repeated` gives the answer for n keys. The loop's invariant: none passed has an earlier one, and they stand in the chains.
+use mathlib.Core.Path.{_≡_}
 use Prim.Native.Nat.{_-_}
 use lib.ListN.{length}
-use Rattle.places.specs.Walks
+use borrow.Author.Needs.{needs}
+use Rattle.places.specs.Walks.{Passed, passing}
 use Rattle.places.proofs.repeated.Statement.{statement}
 use Rattle.places.proofs.repeated.Tie as tie
 
 abbrev Inv-loop : tie.InvT-loop
-Inv-loop doc keys heads₀ links₀ text₀ n i₀ heads links text i =
-    Walks.Passed doc keys heads links text n i × (length heads ≡ length heads₀) × (length links ≡ length links₀) × (length text ≡ length text₀)
+Inv-loop doc keys heads₀ links₀ marks₀ n i₀ heads links marks i = Passed doc keys heads links marks n i × (length heads ≡ length heads₀) × (length links ≡ length links₀) × (length marks ≡ length marks₀)
 
 abbrev μ-loop : tie.MeasureT-loop
-μ-loop doc keys heads₀ links₀ text₀ n i₀ heads links text i = n - i
+μ-loop doc keys heads₀ links₀ marks₀ n i₀ heads links marks i = n - i
 
 loop-holds : tie.Need-loop-holds Inv-loop μ-loop
-loop-holds c =
-    let s = c .before .before .before .before .before in
-    (Walks.pass-first (s .args .doc .now) (s .args .keys .now) (s .args .n) (s .args .heads .now) (s .args .links .now) (s .args .text .now) (s .pre), refl, refl, refl)
+loop-holds c = search passing
 
 chained-requires : tie.Need-chained-requires Inv-loop μ-loop
-chained-requires c κs =
-    let s = c .before .before .before .before .before .before .before .before .before .before in
-    let l = c .before .before .before .before .loop in
-    Walks.pass-chaining (s .args .doc .now) (s .args .keys .now) (s .args .n) (s .pre .placed) (l .heads) (l .links) (l .text) (l .i) (l .inv .0) (c .before .before .before .loop-test .taken)
+chained-requires c κs = search passing
+
+enum-told : tie.Need-enum-told Inv-loop μ-loop
+enum-told c = search passing
 
 place-of-requires : tie.Need-place-of-requires Inv-loop μ-loop
-place-of-requires c κs =
-    let s = c .before .before .before .before .before .before .before .before .before .before .before .before .before .before .before .before .before .before in
-    omega (arith, c .before .before .before .before .before .before .before .before .before .before .before .loop-test .taken, s .pre .placed .room)
+place-of-requires c κs = search passing
 
 same-length : tie.Need-same-length Inv-loop μ-loop
-same-length c =
-    c .before .before .before .before .before .before .before .before .chained .kept .1 .1 .0 ∙ c .before .before .before .before .before .before .before .before .before .before .before .before .before .loop .inv .1
+same-length c = search passing
 
 same-length-2 : tie.Need-same-length-2 Inv-loop μ-loop
-same-length-2 c =
-    c .before .before .before .before .before .before .before .before .chained .kept .1 .1 .1 .0 ∙ c .before .before .before .before .before .before .before .before .before .before .before .before .before .loop .inv .2
+same-length-2 c = search passing
 
 same-length-3 : tie.Need-same-length-3 Inv-loop μ-loop
-same-length-3 c =
-    c .before .before .before .before .before .before .before .before .chained .kept .1 .1 .1 .1 .0 ∙ c .before .before .before .before .before .before .before .before .before .before .before .before .before .loop .inv .3
+same-length-3 c = search passing
 
 returns : tie.Need-returns Inv-loop μ-loop
-returns c =
-    let s = c .before .before .before .before .before .before .before .before .before .before .before .before .before .before .before .before .before .before .before in
-    let l = c .before .before .before .before .before .before .before .before .before .before .before .before .before .loop in
-    let d = c .before .before .before .before .before .before .before .before .chained in
-    Walks.pass-again (s .args .doc .now) (s .args .keys .now) (s .args .n) (s .pre .placed) (l .heads) (l .links) (l .text) (l .i) (l .inv .0) (d .last .1 .1 .0) (d .last .1 .1 .1 .0) (d .last .1 .1 .1 .1 .0) (d .result) (d .ensures) (c .before .before .before .before .before .before .before .before .before .before .before .before .loop-test .taken) (c .place-of .result) (c .before .if1 .taken) (c .place-of .ensures)
+returns c = search passing
 
-add-i : tie.Need-add-i Inv-loop μ-loop
-add-i c =
-    let s = c .before .before .before .before .before .before .before .before .before .before .before .before .before .before .before .before .before .before in
-    omega (arith, c .before .before .before .before .before .before .before .before .before .before .before .loop-test .taken, s .pre .placed .few)
+enum-told-2 : tie.Need-enum-told-2 Inv-loop μ-loop
+enum-told-2 c = search passing
 
-loop-less : tie.Need-loop-less Inv-loop μ-loop
-loop-less c = omega (arith, c .before .before .before .before .before .before .before .before .before .before .before .loop-test .taken)
-
-loop-again : tie.Need-loop-again Inv-loop μ-loop
-loop-again c =
-    let s = c .before .before .before .before .before .before .before .before .before .before .before .before .before .before .before .before .before .before in
-    let l = c .before .before .before .before .before .before .before .before .before .before .before .before .loop in
-    let d = c .before .before .before .before .before .before .before .chained in
-    let t = Walks.pass-more (s .args .doc .now) (s .args .keys .now) (s .args .n) (s .pre .placed) (l .heads) (l .links) (l .text) (l .i) (l .inv .0) (d .last .1 .1 .0) (d .last .1 .1 .1 .0) (d .last .1 .1 .1 .1 .0) (d .result) (d .ensures) (c .before .before .before .before .before .before .before .before .before .before .before .loop-test .taken) (c .if1 .left) (d .kept .1 .1 .1 .0) (d .kept .1 .1 .1 .1 .0) in
-    (t, d .kept .1 .1 .0 ∙ l .inv .1, d .kept .1 .1 .1 .0 ∙ l .inv .2, d .kept .1 .1 .1 .1 .0 ∙ l .inv .3)
+sorted-requires : tie.Need-sorted-requires Inv-loop μ-loop
+sorted-requires c κs = search passing
 
 same-length-4 : tie.Need-same-length-4 Inv-loop μ-loop
-same-length-4 c = c .before .loop .inv .1
+same-length-4 c = search passing
 
 same-length-5 : tie.Need-same-length-5 Inv-loop μ-loop
-same-length-5 c = c .before .loop .inv .2
+same-length-5 c = search passing
 
 same-length-6 : tie.Need-same-length-6 Inv-loop μ-loop
-same-length-6 c = c .before .loop .inv .3
+same-length-6 c = search passing
 
 returns-2 : tie.Need-returns-2 Inv-loop μ-loop
-returns-2 c =
-    let s = c .before .before .before .before .before .before .before in
-    let l = c .before .loop in
-    Walks.pass-done (s .args .doc .now) (s .args .keys .now) (s .args .n) (s .pre .placed) (l .heads) (l .links) (l .text) (l .i) (l .inv .0) (c .loop-test .left)
+returns-2 c = search passing
+
+enum-told-3 : tie.Need-enum-told-3 Inv-loop μ-loop
+enum-told-3 c = search passing
+
+add-i : tie.Need-add-i Inv-loop μ-loop
+add-i c = search passing
+
+loop-less : tie.Need-loop-less Inv-loop μ-loop
+loop-less c = search passing
+
+loop-again : tie.Need-loop-again Inv-loop μ-loop
+loop-again c = (search passing, search needs, search needs, search needs)
+
+same-length-7 : tie.Need-same-length-7 Inv-loop μ-loop
+same-length-7 c = search passing
+
+same-length-8 : tie.Need-same-length-8 Inv-loop μ-loop
+same-length-8 c = search passing
+
+same-length-9 : tie.Need-same-length-9 Inv-loop μ-loop
+same-length-9 c = search passing
+
+returns-3 : tie.Need-returns-3 Inv-loop μ-loop
+returns-3 c = search passing
 
 pub repeated-spec : {M : Type 1} → statement M
 repeated-spec =
@@ -88,15 +87,23 @@ repeated-spec =
     μ-loop
     loop-holds
     chained-requires
+    enum-told
     place-of-requires
     same-length
     same-length-2
     same-length-3
     returns
-    add-i
-    loop-less
-    loop-again
+    enum-told-2
+    sorted-requires
     same-length-4
     same-length-5
     same-length-6
-    returns-2)
+    returns-2
+    enum-told-3
+    add-i
+    loop-less
+    loop-again
+    same-length-7
+    same-length-8
+    same-length-9
+    returns-3)

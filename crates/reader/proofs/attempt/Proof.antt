@@ -1,12 +1,9 @@
 -- `attempt` answers as the pass over the document says, if the rows have room.
-use borrow.Author.Needs.{needs}
 use Rattle.reader.specs.Filling.{attempt-stop, reads}
 use Rattle.reader.specs.Judged.{stopped-at}
+use borrow.Author.Needs.{needs}
 use Rattle.reader.proofs.attempt.Statement.{statement}
 use Rattle.reader.proofs.attempt.Tie as tie
-
-slice-aggregate-pass : tie.Need-slice-aggregate-pass
-slice-aggregate-pass c = search needs
 
 pass-requires : tie.Need-pass-requires
 pass-requires c κs = search needs
@@ -35,11 +32,11 @@ same-length c = search needs
 same-length-2 : tie.Need-same-length-2
 same-length-2 c = search needs
 
-returns : tie.Need-returns
-returns c = search (attempt-stop, needs)
-
 same-length-3 : tie.Need-same-length-3
 same-length-3 c = search needs
+
+returns : tie.Need-returns
+returns c = search (attempt-stop, needs)
 
 same-length-4 : tie.Need-same-length-4
 same-length-4 c = search needs
@@ -50,6 +47,12 @@ same-length-5 c = search needs
 same-length-6 : tie.Need-same-length-6
 same-length-6 c = search needs
 
+same-length-7 : tie.Need-same-length-7
+same-length-7 c = search needs
+
+same-length-8 : tie.Need-same-length-8
+same-length-8 c = search needs
+
 returns-2 : tie.Need-returns-2
 returns-2 c = search needs
 
@@ -57,7 +60,6 @@ pub attempt-spec : {M : Type 1} → statement M
 attempt-spec =
     tie.close
     (tie.spec
-    slice-aggregate-pass
     pass-requires
     enum-known-p
     blame-requires
@@ -67,9 +69,11 @@ attempt-spec =
     settled-requires
     same-length
     same-length-2
-    returns
     same-length-3
+    returns
     same-length-4
     same-length-5
     same-length-6
+    same-length-7
+    same-length-8
     returns-2)

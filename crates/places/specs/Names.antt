@@ -1,0 +1,345 @@
+-- MARKS AND NAMES OF KEYS, from their texts a byte at a time: what is marked so far, how far two texts agree, and how two keys stand to each other. Assumes nothing.
+use mathlib.Core.Path.{_≡_, refl, sym, ap, _∙_}
+use mathlib.Core.List.{List, [], _∷_}
+use mathlib.Core.Bool.{Bool, true, false}
+use Prim.Native.Nat.{ℕ, _+_, _-_, _*_, _%_, _≤_, _<_}
+use native.Mathlib.Nat.{mod-lt}
+use native.Mathlib.Omega.{arith}
+use lib.ListN.{length, getD, replicate}
+use borrow.Author.Needs.{needs}
+use Rattle.language.specs.Answered.{limit}
+use Rattle.language.specs.Strings.{keybyte}
+use Rattle.exact.specs.Class.{is}
+use Rattle.exact.specs.Place.{peek}
+use Rattle.characters.specs.declared.Reading.{Reading}
+use Rattle.characters.specs.declared.Took.{Took}
+use Rattle.characters.specs.declared.Took.the-variants.{Byte, Over}
+use Rattle.characters.specs.Reads.{ByteRead, byte-inside, byte-there, byte-next, byte-over}
+use Rattle.notes.specs.Lie.{KeyAt}
+use Rattle.repeats.specs.Tells.{Tells}
+use Rattle.repeats.specs.Mark.{marked, markFrom, mark}
+use Rattle.repeats.specs.Numbering.{Numbering, Same, markOf, stir}
+use Rattle.repeats.specs.Order.{Precedes, shorter, lower, further, nameOf, name-same, apart}
+use Rattle.places.specs.declared.spelling.Spelling.{Spelling}
+use Rattle.places.specs.declared.spelling.Given.{Given}
+use Rattle.places.specs.declared.spelling.Given.the-variants as given
+use Rattle.places.specs.declared.names.Marks.{Marks}
+use Rattle.places.specs.declared.names.Order.{Order}
+use Rattle.places.specs.declared.names.Order.the-variants.{Less, Same as Equal, More}
+use Rattle.places.specs.Places.{objectAt, placeAt, spelled, ends, placeKeys}
+use Rattle.places.specs.Spelling.{Rest, Spellable, Gave, Nexts, Begins, weight, rest-tail, begin-bare, step}
+use Rattle.places.specs.Left.{key-more, key-over}
+
+-- a key stands at a place
+pub record Keyed (doc : List ℕ) (at : ℕ) : Type 0 where
+  pub short : length doc ≤ limit
+  pub key : KeyAt doc at (spelled doc at) (ends doc at)
+
+pub keyed-low : (doc : List ℕ) (at : ℕ) → Keyed doc at → at ≤ limit
+keyed-low doc at k = omega (arith, k .short, k .key .ahead, k .key .inside)
+
+-- a text that is read, in a room for one piece
+pub record Reads (doc room : List ℕ) (p : Spelling) (s : List ℕ) : Type 0 where
+  pub short : length doc ≤ limit
+  pub long : length room ≡ 8
+  pub rest : Rest doc room p s
+
+module _ (doc : List ℕ) (room : List ℕ) (p : Spelling) (s : List ℕ) (x : Reads doc room p s) where
+  pub reads-able : Spellable doc room p
+  reads-able = record { short = x .short; long = x .long; text = s; rest = x .rest }
+
+  module _ (room′ : List ℕ) (g : Given) (h : Nexts doc room p room′ g) where
+    reads-end : g ≡ given.End → s ≡ []
+    unfolding Nexts
+    reads-end e = (rw e at h) s (x .rest)
+
+    module _ (b : ℕ) (n : Spelling) (e : g ≡ given.Byte b n) where
+      gave : Gave doc room p room′ b n
+      unfolding Nexts
+      gave = rw e at h
+
+      others : List ℕ
+      others = gave .more s (x .rest) .others
+
+      reads-is : s ≡ b ∷ others
+      unfolding others
+      reads-is = gave .more s (x .rest) .is
+
+      reads-on : length room′ ≡ length room → Reads doc room′ n others
+      unfolding others
+      reads-on l = record { short = x .short; long = l ∙ x .long; rest = gave .more s (x .rest) .rest }
+
+pub reads-first : (doc : List ℕ) (at : ℕ) (p : Spelling) → Keyed doc at → Begins doc at p → Reads doc (replicate 8 0) p (spelled doc at)
+reads-first doc at p k h = record { short = k .short; long = refl; rest = h (spelled doc at) (ends doc at) (k .key) (replicate 8 0) }
+
+-- ---- the marks of a key
+
+pub record MarksOf (doc : List ℕ) (at object : ℕ) (r : Marks) : Type 0 where
+  pub mark-is : r .mark ≡ mark (spelled doc at)
+  pub stir-is : r .stir ≡ stir object (spelled doc at)
+  pub low : r .stir < 4294967296
+
+-- m and h are those of the bytes passed
+pub record Marking (doc : List ℕ) (at object : ℕ) (room : List ℕ) (p : Spelling) (m h : ℕ) : Type 0 where
+  pub text : List ℕ
+  pub reads : Reads doc room p text
+  pub marks : markFrom m text ≡ mark (spelled doc at)
+  pub stirs : stir h text ≡ stir object (spelled doc at)
+  pub low : h < 4294967296
+
+module _ (doc : List ℕ) (at object : ℕ) where
+  pub marking-first : (p : Spelling) → Keyed doc at → object < 4294967296 → Begins doc at p → Marking doc at object (replicate 8 0) p 0 object
+  marking-first p k l h = record { text = spelled doc at; reads = reads-first doc at p k h; marks = refl; stirs = refl; low = l }
+
+  module _ (room : List ℕ) (p : Spelling) (m h : ℕ) (x : Marking doc at object room p m h) where
+    pub marking-able : Spellable doc room p
+    marking-able = reads-able doc room p (x .text) (x .reads)
+
+    module _ (room′ : List ℕ) (g : Given) (y : Nexts doc room p room′ g) where
+      pub marking-done : g ≡ given.End → MarksOf doc at object (record { mark = m; stir = h })
+      unfolding markFrom stir
+      marking-done e =
+          let z = reads-end doc room p (x .text) (x .reads) room′ g y e in
+          record { mark-is = rw z at (x .marks); stir-is = rw z at (x .stirs); low = x .low }
+
+      module _ (b : ℕ) (n : Spelling) (e : g ≡ given.Byte b n) where
+        pub marking-less : weight doc n < weight doc p
+        marking-less = gave doc room p (x .text) (x .reads) room′ g y b n e .less
+
+        pub marking-more : length room′ ≡ length room → (m′ h′ : ℕ) → m′ ≡ marked m b → h′ ≡ (31 * h + b) % 4294967296 → Marking doc at object room′ n m′ h′
+        unfolding markFrom stir
+        marking-more l m′ h′ u v =
+            let z = reads-is doc room p (x .text) (x .reads) room′ g y b n e in
+            rw (u, v)
+            (record {
+              text = others doc room p (x .text) (x .reads) room′ g y b n e;
+              reads = reads-on doc room p (x .text) (x .reads) room′ g y b n e l;
+              marks = rw z at (x .marks);
+              stirs = rw z at (x .stirs);
+              low = mod-lt (31 * h + b) (omega arith);
+            })
+
+-- ---- the marks of a bare key, as it stands
+
+-- no quote stands at a place
+pub record Bare (doc : List ℕ) (at : ℕ) : Type 0 where
+  pub no-double : peek doc at ≡ 34 → ⊥
+  pub no-single : peek doc at ≡ 39 → ⊥
+
+pub bare-of : (doc : List ℕ) (at b : ℕ) → b ≡ peek doc at → (b ≡ 34 → ⊥) → (b ≡ 39 → ⊥) → Bare doc at
+bare-of doc at b h n o = record { no-double = λ e. n (h ∙ e); no-single = λ e. o (h ∙ e) }
+
+abbrev bare : ℕ → Spelling
+bare a = record { at = a; quote = 0; from = 0; to = 0 }
+
+-- m and h are those of the bytes up to a
+abbrev pub BareMarking : List ℕ → ℕ → ℕ → ℕ → ℕ → ℕ → Type 0
+BareMarking doc at object a m h = Marking doc at object (replicate 8 0) (bare a) m h
+
+module _ (doc : List ℕ) (at object : ℕ) where
+  pub bare-first : Keyed doc at → object < 4294967296 → Bare doc at → BareMarking doc at object at 0 object
+  bare-first k l b = marking-first doc at object (bare at) k l (begin-bare doc at (peek doc at) refl (b .no-double) (b .no-single))
+
+  module _ (a m h : ℕ) (x : BareMarking doc at object a m h) where
+    ended : is keybyte (peek doc a) ≡ false → MarksOf doc at object (record { mark = m; stir = h })
+    unfolding Nexts
+    ended e =
+        marking-done doc at object (replicate 8 0) (bare a) m h x (replicate 8 0) given.End
+        (λ s r. key-over doc 0 a refl s (rest-tail doc (replicate 8 0) (bare a) s (omega arith) r) e) refl
+
+    module _ (t : Took) (g : ByteRead doc a t) where
+      pub bare-over : t ≡ Over → MarksOf doc at object (record { mark = m; stir = h })
+      bare-over e = let z = byte-over doc a t g e in ended (rw z refl)
+
+      module _ (b : ℕ) (n : Reading) (e : t ≡ Byte b n) where
+        pub bare-less : length doc - n .at < length doc - a
+        bare-less = omega (arith, byte-inside doc a t g b n e, byte-next doc a t g b n e)
+
+        module _ (y : Bool) (k : y ≡ is keybyte b) where
+          there : is keybyte (peek doc a) ≡ y
+          there = ap (is keybyte) (sym (byte-there doc a t g b n e)) ∙ sym k
+
+          pub bare-ended : y ≡ false → MarksOf doc at object (record { mark = m; stir = h })
+          bare-ended f = ended (there ∙ f)
+
+          pub bare-more : (m′ h′ : ℕ) → y ≡ true → m′ ≡ marked m b → h′ ≡ (31 * h + b) % 4294967296 → BareMarking doc at object (n .at) m′ h′
+          unfolding Nexts
+          bare-more m′ h′ f u v =
+              let z : Gave doc (replicate 8 0) (bare a) (replicate 8 0) b (bare (a + 1)) =
+              rw (byte-there doc a t g b n e)
+              (step doc (replicate 8 0) (bare a) (peek doc a) (byte-inside doc a t g b n e) (λ s r. key-more doc 0 a refl s (rest-tail doc (replicate 8 0) (bare a) s (omega arith) r) (there ∙ f))) in
+              rw (byte-next doc a t g b n e)
+              (marking-more doc at object (replicate 8 0) (bare a) m h x (replicate 8 0) (given.Byte b (bare (a + 1))) z b (bare (a + 1)) refl refl m′ h′ u v)
+
+    pub bare-low : h < 4294967296
+    bare-low = x .low
+
+-- ---- the order of two texts
+
+-- how two lists stand to each other
+unfoldable pub Ordered : List ℕ → List ℕ → Order → Type 0
+Ordered s t Less = Precedes s t
+Ordered s t Equal = s ≡ t
+Ordered s t More = Precedes t s
+
+module _ (b c : ℕ) (s t : List ℕ) where
+  pub ordered-less : b < c → Ordered (b ∷ s) (c ∷ t) Less
+  unfolding Ordered
+  ordered-less l = lower l
+
+  pub ordered-more : c < b → Ordered (b ∷ s) (c ∷ t) More
+  unfolding Ordered
+  ordered-more l = lower l
+
+  pub ordered-further : b ≡ c → (r : Order) → Ordered s t r → Ordered (b ∷ s) (c ∷ t) r
+  unfolding Ordered
+  ordered-further e Less x = further e x
+  ordered-further e Equal x = rw (e, x) refl
+  ordered-further e More x = further (sym e) x
+
+-- two texts agree so far: they stand to each other as what is left of them does
+pub record Agree (doc : List ℕ) (a b : ℕ) (room : List ℕ) (p : Spelling) (room₂ : List ℕ) (q : Spelling) : Type 0 where
+  pub one : List ℕ
+  pub two : List ℕ
+  pub first : Reads doc room p one
+  pub second : Reads doc room₂ q two
+  pub back : (r : Order) → Ordered one two r → Ordered (spelled doc a) (spelled doc b) r
+
+module _ (doc : List ℕ) (a b : ℕ) where
+  pub agree-first : (p q : Spelling) → Keyed doc a → Keyed doc b → Begins doc a p → Begins doc b q → Agree doc a b (replicate 8 0) p (replicate 8 0) q
+  agree-first p q k l g h =
+      record { one = spelled doc a; two = spelled doc b; first = reads-first doc a p k g; second = reads-first doc b q l h; back = λ r x. x }
+
+  module _ (room : List ℕ) (p : Spelling) (room₂ : List ℕ) (q : Spelling) (x : Agree doc a b room p room₂ q) where
+    pub agree-able : Spellable doc room p
+    agree-able = reads-able doc room p (x .one) (x .first)
+
+    pub agree-able₂ : Spellable doc room₂ q
+    agree-able₂ = reads-able doc room₂ q (x .two) (x .second)
+
+    module _ (room′ : List ℕ) (g : Given) (y : Nexts doc room p room′ g) (room₂′ : List ℕ) (h : Given) (z : Nexts doc room₂ q room₂′ h) where
+      over : g ≡ given.End → x .one ≡ []
+      over e = reads-end doc room p (x .one) (x .first) room′ g y e
+
+      over₂ : h ≡ given.End → x .two ≡ []
+      over₂ e = reads-end doc room₂ q (x .two) (x .second) room₂′ h z e
+
+      pub agree-same : g ≡ given.End → h ≡ given.End → Ordered (spelled doc a) (spelled doc b) Equal
+      unfolding Ordered
+      agree-same e f = x .back Equal (over e ∙ sym (over₂ f))
+
+      pub agree-shorter : (c : ℕ) (n : Spelling) → g ≡ given.End → h ≡ given.Byte c n → Ordered (spelled doc a) (spelled doc b) Less
+      unfolding Ordered
+      agree-shorter c n e f =
+          let u = reads-is doc room₂ q (x .two) (x .second) room₂′ h z c n f in
+          x .back Less (rw (over e, u) shorter)
+
+      pub agree-longer : (c : ℕ) (n : Spelling) → g ≡ given.Byte c n → h ≡ given.End → Ordered (spelled doc a) (spelled doc b) More
+      unfolding Ordered
+      agree-longer c n e f =
+          let u = reads-is doc room p (x .one) (x .first) room′ g y c n e in
+          x .back More (rw (over₂ f, u) shorter)
+
+      module _ (c d : ℕ) (n m : Spelling) (e : g ≡ given.Byte c n) (f : h ≡ given.Byte d m) where
+        abbrev one-others : List ℕ
+        one-others = others doc room p (x .one) (x .first) room′ g y c n e
+
+        abbrev two-others : List ℕ
+        two-others = others doc room₂ q (x .two) (x .second) room₂′ h z d m f
+
+        onto : (r : Order) → Ordered (c ∷ one-others) (d ∷ two-others) r → Ordered (spelled doc a) (spelled doc b) r
+        onto r w =
+            let u = reads-is doc room p (x .one) (x .first) room′ g y c n e in
+            let v = reads-is doc room₂ q (x .two) (x .second) room₂′ h z d m f in
+            x .back r (rw (u, v) w)
+
+        pub agree-less : c < d → Ordered (spelled doc a) (spelled doc b) Less
+        agree-less l = onto Less (ordered-less c d one-others two-others l)
+
+        pub agree-more : d < c → Ordered (spelled doc a) (spelled doc b) More
+        agree-more l = onto More (ordered-more c d one-others two-others l)
+
+        pub agree-weight : weight doc n < weight doc p
+        agree-weight = gave doc room p (x .one) (x .first) room′ g y c n e .less
+
+        pub agree-on : c ≤ d → d ≤ c → length room′ ≡ length room → length room₂′ ≡ length room₂ → Agree doc a b room′ n room₂′ m
+        agree-on l k i j =
+            record {
+              one = one-others;
+              two = two-others;
+              first = reads-on doc room p (x .one) (x .first) room′ g y c n e i;
+              second = reads-on doc room₂ q (x .two) (x .second) room₂′ h z d m f j;
+              back = λ r w. onto r (ordered-further c d one-others two-others (omega arith) r w);
+            }
+
+-- ---- the order of two keys
+
+-- keys i and k stand at their places, and their marks are stored
+pub record Compared (doc keys marks : List ℕ) (i k : ℕ) : Type 0 where
+  pub one : Keyed doc (placeAt keys i)
+  pub two : Keyed doc (placeAt keys k)
+  pub room : i + 1 < length keys
+  pub room₂ : k + 1 < length keys
+  pub low : i < length marks
+  pub low₂ : k < length marks
+  pub mark-is : getD marks i 0 ≡ markOf (placeKeys doc keys) i
+  pub mark-is₂ : getD marks k 0 ≡ markOf (placeKeys doc keys) k
+
+abbrev pub Stand : List ℕ → List ℕ → ℕ → ℕ → Order → Type 0
+Stand doc keys i k r = Ordered (nameOf (placeKeys doc keys) i) (nameOf (placeKeys doc keys) k) r
+
+module _ (doc keys marks : List ℕ) (i k : ℕ) (w : Compared doc keys marks i k) where
+  abbrev N : Numbering
+  N = placeKeys doc keys
+
+  pub compared-one : (a : ℕ) → a ≡ placeAt keys i → Keyed doc a
+  compared-one a e = rw e (w .one)
+
+  pub compared-two : (a : ℕ) → a ≡ placeAt keys k → Keyed doc a
+  compared-two a e = rw e (w .two)
+
+  pub mark-less : getD marks i 0 < getD marks k 0 → Stand doc keys i k Less
+  mark-less l = ordered-less (markOf N i) (markOf N k) (N .object i ∷ N .text i) (N .object k ∷ N .text k) (omega (arith, w .mark-is, w .mark-is₂))
+
+  pub mark-more : getD marks k 0 < getD marks i 0 → Stand doc keys i k More
+  mark-more l = ordered-more (markOf N i) (markOf N k) (N .object i ∷ N .text i) (N .object k ∷ N .text k) (omega (arith, w .mark-is, w .mark-is₂))
+
+  module _ (l : getD marks k 0 ≤ getD marks i 0) (m : getD marks i 0 ≤ getD marks k 0) where
+    marks-same : markOf (placeKeys doc keys) i ≡ markOf (placeKeys doc keys) k
+    marks-same = omega (arith, w .mark-is, w .mark-is₂)
+
+    marked-alike : (r : Order) → Ordered (N .object i ∷ N .text i) (N .object k ∷ N .text k) r → Stand doc keys i k r
+    marked-alike r x = ordered-further (markOf N i) (markOf N k) (N .object i ∷ N .text i) (N .object k ∷ N .text k) marks-same r x
+
+    module _ (x y : ℕ) (e : x ≡ objectAt keys i) (f : y ≡ objectAt keys k) where
+      pub object-less : x < y → Stand doc keys i k Less
+      object-less h = marked-alike Less (ordered-less (N .object i) (N .object k) (N .text i) (N .text k) (omega arith))
+
+      pub object-more : y < x → Stand doc keys i k More
+      object-more h = marked-alike More (ordered-more (N .object i) (N .object k) (N .text i) (N .text k) (omega arith))
+
+      pub text-order : (a b : ℕ) (r : Order) → y ≤ x → x ≤ y → a ≡ placeAt keys i → b ≡ placeAt keys k → Ordered (spelled doc a) (spelled doc b) r → Stand doc keys i k r
+      text-order a b r h g u v z = marked-alike r (ordered-further (N .object i) (N .object k) (N .text i) (N .text k) (omega arith) r (rw (u, v) at z))
+
+module _ (doc keys : List ℕ) (i k : ℕ) (r : Order) (x : Stand doc keys i k r) where
+  pub stand-less : r ≡ Less → Tells (Same (placeKeys doc keys) i k) false
+  unfolding Ordered
+  stand-less e = apart (placeKeys doc keys) i k (rw e at x)
+
+  pub stand-same : r ≡ Equal → Tells (Same (placeKeys doc keys) i k) true
+  unfolding Ordered
+  stand-same e = name-same (placeKeys doc keys) i k (rw e at x)
+
+  pub stand-more : r ≡ More → Tells (Same (placeKeys doc keys) i k) false
+  unfolding Ordered
+  stand-more e s = apart (placeKeys doc keys) k i (rw e at x) (record { objects = sym (s .objects); texts = sym (s .texts) })
+
+pub ruleset baring = (bare-first, bare-over, bare-less, bare-ended, bare-more, bare-low, needs)
+
+pub ruleset marking = (bare-of, keyed-low, marking-first, marking-able, marking-done, marking-less, marking-more, needs)
+
+pub ruleset agreeing = (keyed-low, agree-first, agree-able, agree-able₂, agree-same, agree-shorter, agree-longer, agree-less, agree-more, agree-weight, agree-on, needs)
+
+pub ruleset comparing = (compared-one, compared-two, mark-less, mark-more, object-less, object-more, text-order, needs)
+
+pub ruleset standing = (stand-less, stand-same, stand-more, needs)
