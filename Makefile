@@ -32,7 +32,8 @@ evidence:
 	$(BUILT)/vectors $(VECTORS)
 	nice $(BUILT)/places 2000 7
 
-# The proved reader agrees with the second reader, on a million documents and more.
+# The proved reader agrees with the second reader, on a million documents and more; the writer and the test of soundness
+# with the second ones, on hundreds of thousands of tables.
 compare: linked
 	$(BUILT)/compare --vectors $(VECTORS)
 
@@ -53,7 +54,7 @@ figures: linked
 
 # The programs of evidence/ that link the library.
 linked: $(LIBRARY)
-	cargo build $(EVIDENCE) --features proved --bin compare --bin bench
+	cargo build $(EVIDENCE) --features written --bin compare --bin bench
 
 # The tree of an example profile, read by the proved reader.
 run: yay

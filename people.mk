@@ -33,7 +33,8 @@ stack: $(LIBRARY)
 	build/stack
 
 people-test: yay c-example sanitize stack
-	YAY_VECTORS=$(CURDIR)/evidence/vectors/base.tsv cargo test --release --quiet $(MANIFEST) -p yay -p yay-command
+	YAY_VECTORS=$(CURDIR)/evidence/vectors/base.tsv YAY_WRITTEN=$(CURDIR)/evidence/vectors/written.tsv \
+		cargo test --release --quiet $(MANIFEST) -p yay -p yay-command
 	tools/try-command.sh build/yay
 	tools/try-manual.sh man/yay.1 build/yay
 	tools/try-header.sh $(LIBRARY) build '$(C_FLAGS)' build/yay

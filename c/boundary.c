@@ -35,7 +35,7 @@ static struct room make_room(void) {
     return (struct room){all + page, all + page + ROOM};
 }
 
-static struct room doc_room, table_room, text_room;
+static struct room doc_room, table_room, text_room, out_room;
 
 /* The part of a room of so many bytes that touches its end, or its beginning. */
 static uint8_t *part(struct room room, size_t bytes, int at_end) {
@@ -101,6 +101,54 @@ static void ask(const uint32_t *table, size_t words, size_t rows, const uint8_t 
     }
 }
 
+/* Tests any table and writes it: the two agree, and nothing is written but what is told. */
+static uint32_t write_in(const uint32_t *table, size_t words, size_t rows, const uint8_t *text, size_t len,
+                         size_t room, int at_end, size_t *count) {
+    uint8_t *out = part(out_room, room, at_end);
+    memset(out, 0xa5, room);
+    *count = 77;
+    uint32_t number = yay_write(table, words, rows, text, len, out, room, count);
+    size_t written = number == YAY_OK ? *count : 0;
+    expect((number == YAY_BADROW) == (yay_sound(table, words, rows, text, len) == YAY_BADROW), "soundness", rows);
+    expect(number == YAY_OK || number == YAY_BADROW || number == YAY_LONG || number == YAY_TEXT, "a number", number);
+    if (number == YAY_BADROW || number == YAY_LONG) expect(*count == 0, "a refusal's count", *count);
+    if (number == YAY_TEXT) expect(*count > room && *count <= YAY_LONGEST, "the bytes needed", *count);
+    if (written > room) expect(0, "more is written than was lent", written);
+    for (size_t i = written; i < room; i++) {
+        if (out[i] != 0xa5) expect(0, "the output was changed", i);
+    }
+    return number;
+}
+
+/* A table that was read is sound; what is written is read as the same rows but for spans, and written so again. */
+static void try_written(const uint32_t *table, size_t rows, const uint8_t *text, size_t len, int at_end) {
+    static uint8_t first[YAY_LONGEST], again_text[YAY_LONGEST];
+    static uint32_t again[YAY_TABLE_ROOM(YAY_LONGEST)];
+    size_t count, short_count, back, bytes, escapes;
+    uint32_t number = write_in(table, rows * YAY_WORDS, rows, text, len, YAY_LONGEST, at_end, &count);
+    expect(number == YAY_OK || number == YAY_LONG, "a table that was read", number);
+    if (number != YAY_OK) return;
+    memcpy(first, part(out_room, YAY_LONGEST, at_end), count);
+    expect(write_in(table, rows * YAY_WORDS, rows, text, len, count - 1, at_end, &short_count) == YAY_TEXT &&
+               short_count == count,
+           "an output too small", short_count);
+    expect(write_in(table, rows * YAY_WORDS, rows, text, len, count, at_end, &short_count) == YAY_OK &&
+               memcmp(part(out_room, count, at_end), first, count) == 0,
+           "an exact output", short_count);
+    number = yay_read(first, count, again, sizeof again / sizeof *again, again_text, sizeof again_text, &back, &bytes,
+                      &escapes);
+    expect(number == YAY_OK && back == rows && bytes == len, "what was written", back);
+    for (size_t i = 0; i < rows * YAY_WORDS && number == YAY_OK; i++) {
+        size_t word = i % YAY_WORDS;
+        int spans = word == YAY_FROM || word == YAY_TO || word == YAY_LINE || word == YAY_COLUMN;
+        if (!spans && again[i] != table[i]) expect(0, "a word of what was written", i);
+    }
+    expect(memcmp(again_text, text, len) == 0, "the text of what was written", len);
+    expect(write_in(again, back * YAY_WORDS, back, again_text, bytes, count, at_end, &short_count) == YAY_OK &&
+               memcmp(part(out_room, count, at_end), first, count) == 0,
+           "writing twice", short_count);
+}
+
 /* A document in large, exact and too small rooms. */
 static void try_document(const uint8_t *doc, size_t len) {
     for (int at_end = 0; at_end < 2; at_end++) {
@@ -122,6 +170,7 @@ static void try_document(const uint8_t *doc, size_t len) {
         uint32_t *table = (uint32_t *)(void *)part(table_room, words * 4, at_end);
         for (size_t row = 0; row < all.first; row++) expect_place(doc, table + YAY_WORDS * row, row);
         ask(table, words, all.first, part(text_room, all.second, at_end), all.second);
+        try_written(table, all.first, part(text_room, all.second, at_end), all.second, at_end);
     }
 }
 
@@ -136,7 +185,33 @@ static void try_broken_tables(void) {
             table[i] = (seed >> 16) % 100 == 0 ? 0xffffffffu : (seed >> 16) % 12;
         }
         ask(table, words, rows, part(text_room, 5, 1), 5);
+        size_t count;
+        write_in(table, words, rows, part(text_room, 5, 1), 5, round % 40, 1, &count);
     }
+}
+
+/* A table of two rows that is right but for one word. */
+static void try_soundness(void) {
+    static const uint32_t good[2 * YAY_WORDS] = {YAY_ARRAY, 9, 9, 0, 1, 0, 2, 9, 9, YAY_INTEGER, 9, 9, 0, 2, 0, 2, 9, 9};
+    uint32_t *table = (uint32_t *)(void *)part(table_room, sizeof good, 1);
+    uint8_t *text = part(text_room, 2, 1);
+    size_t count;
+    memcpy(text, "17", 2);
+    memcpy(table, good, sizeof good);
+    expect(write_in(table, 2 * YAY_WORDS, 2, text, 2, 5, 1, &count) == YAY_OK && count == 5, "a sound table", count);
+    expect(memcmp(part(out_room, 5, 1), "- 17\n", 5) == 0, "what is written of it", count);
+    for (size_t word = 0; word < 2 * YAY_WORDS; word++) {
+        size_t place = word % YAY_WORDS;
+        int spans = place == YAY_FROM || place == YAY_TO || place == YAY_LINE || place == YAY_COLUMN;
+        table[word] += 100;
+        expect(yay_sound(table, 2 * YAY_WORDS, 2, text, 2) == (spans ? YAY_OK : YAY_BADROW), "a word more", word);
+        table[word] -= 100;
+    }
+    for (size_t rows = 0; rows < 4; rows++) {
+        expect((yay_sound(table, 2 * YAY_WORDS, rows, text, 2) == YAY_OK) == (rows == 2), "so many rows", rows);
+    }
+    text[0] = '0';
+    expect(yay_sound(table, 2 * YAY_WORDS, 2, text, 2) == YAY_BADROW, "a leading zero", 0);
 }
 
 static void expect_answer(const char *doc, uint32_t number, size_t first) {
@@ -219,9 +294,11 @@ int main(int count, char **args) {
     doc_room = make_room();
     table_room = make_room();
     text_room = make_room();
+    out_room = make_room();
     try_borders();
     try_escapes();
     try_places();
+    try_soundness();
     try_broken_tables();
     memset(doc, ' ', sizeof doc);
     expect(read_in(doc, sizeof doc, 9, 9, 1).number == YAY_LONG, "a document too long", sizeof doc);

@@ -1,4 +1,4 @@
-/* Reads a profile and prints which image a tablet installs: `example FILE`. */
+/* Reads a profile, prints which image a tablet installs, and writes the profile back: `example FILE`. */
 #include <stdio.h>
 #include <string.h>
 #include "yay_help.h"
@@ -6,6 +6,7 @@
 static uint8_t doc[YAY_LONGEST + 1];
 static uint32_t table[YAY_TABLE_ROOM(YAY_LONGEST)];
 static uint8_t text[YAY_TEXT_ROOM(YAY_LONGEST)];
+static uint8_t out[YAY_LONGEST];
 static size_t rows, text_len, escapes;
 
 static const size_t words = sizeof table / sizeof *table;
@@ -45,6 +46,18 @@ static void print_numbers(size_t array, const char *limit) {
     }
 }
 
+/* Writes the table back in the house style, and prints how much and its first line. */
+static void print_written(void) {
+    size_t count, line = 0;
+    uint32_t number = yay_write(table, words, rows, text, text_len, out, sizeof out, &count);
+    if (number != YAY_OK) {
+        printf("not written: %s (%u)\n", yay_number_name(number), (unsigned)number);
+        return;
+    }
+    while (out[line] != '\n') line++;
+    printf("written back: %zu bytes, from %.*s\n", count, (int)line, (const char *)out);
+}
+
 int main(int count, char **args) {
     FILE *file = count == 2 ? fopen(args[1], "rb") : NULL;
     if (file == NULL) {
@@ -69,5 +82,6 @@ int main(int count, char **args) {
         printf("version, in line %u:\n", (unsigned)table[YAY_WORDS * version + YAY_LINE]);
         print_numbers(version, "9");
     }
+    print_written();
     return 0;
 }

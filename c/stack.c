@@ -1,4 +1,4 @@
-/* Measures the stack that yay_read touches: documents of every class of size, good, refused, repeating and hostile, with
+/* Measures the stack that yay_read touches, and yay_sound and yay_write on the tables that it fills: documents of every class of size, good, refused, repeating and hostile, with
  * many rows and with few, each read into large rooms and into none, in a thread whose stack is painted first. Fails where
  * a class takes more than yay.h says. */
 #define _DEFAULT_SOURCE
@@ -19,6 +19,15 @@ static uint32_t number;
 
 static void *reads(void *nothing) {
     number = yay_read(doc, len, table, words, text, room, &rows, &bytes, &escapes);
+    return nothing;
+}
+
+static void *writes(void *nothing) {
+    static uint8_t out[YAY_LONGEST];
+    size_t count;
+    if (yay_sound(table, words, rows, text, bytes) == YAY_OK) {
+        number = yay_write(table, words, rows, text, bytes, out, sizeof out, &count);
+    }
     return nothing;
 }
 
@@ -51,6 +60,9 @@ static struct class classes[] = {
 };
 
 static int documents, answers[YAY_TEXT + 1];
+/* The most that writing has touched, and how many documents were written or too long for it. */
+static size_t writing;
+static int written[2];
 
 /* The document in large rooms, in no table, and in no text room. */
 static void measure(void) {
@@ -64,6 +76,11 @@ static void measure(void) {
         size_t took = touched(reads) - rest;
         if (took > c->seen) c->seen = took;
         answers[number]++;
+        if (number != YAY_OK) continue;
+        number = YAY_BADROW;
+        took = touched(writes) - rest;
+        if (took > writing) writing = took;
+        if (number == YAY_OK || number == YAY_LONG) written[number]++;
     }
     documents++;
 }
@@ -176,6 +193,9 @@ int main(void) {
     for (int i = 0; i <= YAY_TEXT; i++) {
         if (!answers[i]) wrong++, printf("stack: no document was answered with %d\n", i);
     }
+    printf("stack: writing touches %zu KB%s\n", (writing + 1023) / 1024, writing > YAY_STACK ? ": TOO MUCH" : "");
+    wrong += writing > YAY_STACK;
+    if (!written[YAY_OK] || !written[YAY_LONG]) wrong++, printf("stack: too little was written\n");
     printf("stack: %d documents, %d faults\n", documents, wrong);
     return wrong != 0;
 }

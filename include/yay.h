@@ -1,8 +1,8 @@
-/* A reader of YAY documents, proved in Rattle. Link with -lyay.
+/* A reader and writer of YAY documents, proved in Rattle. Link with -lyay.
  *
  * Every function works on lent memory alone: none allocates, keeps a pointer, or keeps anything between calls, so
  * threads may call at once. A `const` pointer is only read from. What is written (the table, the text room, the
- * answers behind the last pointers) must overlap nothing else that is handed over.
+ * answers behind the last pointers, the output) must overlap nothing else that is handed over.
  * What is trusted of a caller is that each pointer is not NULL and valid for its length, a word pointer aligned;
  * where a length is 0 the pointer is never followed. Any document, table and text may be handed over: for every
  * one of them the answer is the one that the documents of the project fix.
@@ -26,8 +26,13 @@ extern "C" {
 #define YAY_NESTING 32
 #define YAY_WORDS 9
 
+/* A lent room counts for no more than this, however long it is: a table for so many rows, a text room and an output for
+ * so many bytes. */
+#define YAY_MOST 16777216
+
 /* The stack that a call of yay_read touches at most, in bytes, as c/stack.c measures it: for a document of at most
- * 1,024 bytes, and for any. So a thread of 128 KB reads every document. */
+ * 1,024 bytes, and for any. So a thread of 128 KB reads every document. yay_sound and yay_write touch no more than
+ * YAY_STACK, whatever the table. */
 #define YAY_STACK_FEW (48 * 1024)
 #define YAY_STACK (112 * 1024)
 
@@ -35,17 +40,18 @@ extern "C" {
 #define YAY_TABLE_ROOM(doc_len) ((doc_len) * YAY_WORDS)
 #define YAY_TEXT_ROOM(doc_len) (doc_len)
 
-/* Numbers. All but YAY_OK are refusals, and a refusal leaves the table and the text room as they were. */
+/* Numbers. All but YAY_OK are refusals, and a refusal leaves the table, the text room and the output as they were. */
 #define YAY_OK 0
-#define YAY_LONG 1    /* the document has more than YAY_LONGEST bytes; place 0 */
+#define YAY_LONG 1    /* the document, read or written, has more than YAY_LONGEST bytes; place 0 */
 #define YAY_CHAR 2    /* the byte at the place belongs to no allowed character */
 #define YAY_SYNTAX 3  /* no document goes on with the byte at the place */
 #define YAY_DEEP 4    /* only a document with more than YAY_NESTING containers inside one another goes on so */
 #define YAY_END 5     /* the document ends too early; the place is its length */
 #define YAY_REPEAT 6  /* the key at the place equals an earlier key of its object */
 #define YAY_ROWS 7    /* the table is too small; the place is the rows needed, of YAY_WORDS words each */
-#define YAY_TEXT 8    /* the text room is too small; the place is the bytes needed */
-#define YAY_BADROW 9  /* a question met a row that the table does not have, or of the wrong kind, or broken */
+#define YAY_TEXT 8    /* the text room, or the output, is too small; the place, or count, is the bytes needed */
+#define YAY_BADROW 9  /* a question met a row that the table does not have, or of the wrong kind, or broken; or the
+                         table is not sound */
 #define YAY_NONE 10   /* the key isn't in the object */
 #define YAY_NOTINT 11 /* a text compared isn't an integer's text */
 
@@ -94,6 +100,22 @@ uint32_t yay_find(const uint32_t *table, size_t words, size_t rows, const uint8_
 /* Two integers' texts by numeric order, whatever their length.
  * YAY_OK: *order is -1 if the left is less, 0 if they are equal, 1 if it is greater. YAY_NOTINT: *order is 0. */
 uint32_t yay_compare(const uint8_t *left, size_t left_len, const uint8_t *right, size_t right_len, int32_t *order);
+
+/* Whether a table of `rows` rows is sound: whether some document, of any length, gives these kinds, texts and nesting,
+ * with at most YAY_NESTING containers one inside another, no key twice in an object, and at most YAY_MOST rows and text
+ * bytes. Spans, lines and columns are passed over, and so are words behind the rows and bytes behind the texts.
+ * A table that yay_read has filled is sound. YAY_OK if it is, else YAY_BADROW. */
+uint32_t yay_sound(const uint32_t *table, size_t words, size_t rows, const uint8_t *text, size_t text_len);
+
+/* Writes a sound table as a document, in the one house style: block objects and arrays, `[]` and `{}` where empty, an
+ * array in an array on one line with all that is below it; strings in double quotes, keys without quotes wherever that
+ * is allowed, bytes inline, two spaces a level. Reading it gives the same kinds, texts and nesting, and writing that
+ * the same bytes. Comments, and the forms in which values were written, are not in a table, so they are lost.
+ * YAY_OK: *count bytes of `out` were written, at most YAY_LONGEST; those behind them are as before.
+ * YAY_BADROW: the table is not sound. YAY_LONG: the document would have more than YAY_LONGEST bytes. *count is 0.
+ * YAY_TEXT: *count bytes are needed, and out_len is less. */
+uint32_t yay_write(const uint32_t *table, size_t words, size_t rows, const uint8_t *text, size_t text_len,
+                   uint8_t *out, size_t out_len, size_t *count);
 
 #ifdef __cplusplus
 }

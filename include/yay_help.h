@@ -25,8 +25,8 @@ static inline const char *yay_number_sentence(uint32_t number) {
         "the document ends too early",
         "this key stands in its object already",
         "the table lent has too few words",
-        "the text room lent has too few bytes",
-        "the table has no such row that could be asked this",
+        "the text room or output lent has too few bytes",
+        "the table is not sound, or has no such row that could be asked this",
         "the key isn't in the object",
         "a text compared isn't an integer's text",
     };

@@ -23,15 +23,34 @@ expect 'an answer before the next document' 'ok 1 1 0 4,0,1,0,1,0,1,1,1 31' "$(
     echo "$line"
 )"
 
+# Files are written whole or not at all, and what is written is in the house style.
+cp examples/gate.yay build/house.yay
+expect 'not in the house style' 'build/house.yay
+1' "$("$yay" fmt --check build/house.yay; echo $?)"
+expect 'written into itself' 0 "$("$yay" write build/house.yay -o build/house.yay; echo $?)"
+expect 'in the house style then' 0 "$("$yay" fmt --check build/house.yay; echo $?)"
+expect 'with the same values' "$("$yay" json examples/gate.yay)" "$("$yay" json build/house.yay)"
+expect 'a full disk is an error of write' 2 "$("$yay" write examples/gate.yay > /dev/full 2> /dev/null; echo $?)"
+(printf '['; for ((i = 0; i < 10000; i++)); do printf '1, '; done; echo '1]') > build/list.yay
+expect 'too long to be written leaves the file' "1 $(cksum < build/house.yay)" \
+    "$("$yay" write build/list.yay -o build/house.yay 2> /dev/null; echo $? "$(cksum < build/house.yay)")"
+# No file may grow: the one beside cannot be made whole.
+expect 'a full disk leaves the file' "2 $(cksum < build/house.yay)" \
+    "$(ulimit -f 0; trap '' XFSZ; "$yay" write examples/tablet.yay -o build/house.yay 2> /dev/null; echo $? "$(cksum < build/house.yay)")"
+expect 'and nothing beside it' '' "$(find build -maxdepth 1 -name '.house.yay*')"
+
 # 128 KB of stack is enough for any document, with all that the command itself takes of it; the reader's part is YAY_STACK.
 keys() { for ((i = 0; i < $1; i++)); do echo "k$i: $i"; done; }
 keys 90 > build/few.yay
 keys 1400 > build/some.yay
 keys 2900 > build/long.yay
 (keys 2900; echo k0: 0) > build/again.yay
-(printf '['; for ((i = 0; i < 10000; i++)); do printf '1, '; done; echo '1]') > build/list.yay
 in_small_stack() { (ulimit -s 128; "$yay" check -q "build/$1.yay" 2> /dev/null; echo $?); }
 for name in few some long list; do expect "the document $name in a stack of 128 KB" 0 "$(in_small_stack $name)"; done
+written_in_small_stack() { (ulimit -s 128; "$yay" write "build/$1.yay" 2> /dev/null | cksum); }
+for name in few some long; do
+    expect "$name written in a stack of 128 KB" "$("$yay" write "build/$name.yay" | cksum)" "$(written_in_small_stack $name)"
+done
 expect 'a repeated key in a stack of 128 KB' 1 "$(in_small_stack again)"
 
 # Closed and full outputs. What was refused before or behind them is not lost.

@@ -1,5 +1,5 @@
-//! Evidence at scale: a second reader of YAY documents, a slow checker of its
-//! refusal places, documents to try, and the comparison with a reader under test.
+//! Evidence at scale: a second reader and writer of YAY documents, a slow checker of its
+//! refusal places, documents and tables to try, and the comparison with what is under test.
 
 pub mod clock;
 pub mod compare;
@@ -11,4 +11,5 @@ pub mod hex;
 pub mod proved;
 pub mod second;
 pub mod slow;
+pub mod tables;
 pub mod vectors;

@@ -1,5 +1,7 @@
 //! The proved library behind its C interface, include/yay.h (feature `proved`).
 
+#[cfg(feature = "written")]
+use crate::compare::writing::Writer;
 use crate::compare::{Questions, Reader, Said};
 use crate::second::questions::Lent;
 use std::ops::Range;
@@ -38,6 +40,19 @@ extern "C" {
         value: *mut usize,
     ) -> u32;
     fn yay_compare(left: *const u8, left_len: usize, right: *const u8, right_len: usize, order: *mut i32) -> u32;
+    #[cfg(feature = "written")]
+    fn yay_sound(table: *const u32, words: usize, rows: usize, text: *const u8, text_len: usize) -> u32;
+    #[cfg(feature = "written")]
+    fn yay_write(
+        table: *const u32,
+        words: usize,
+        rows: usize,
+        text: *const u8,
+        text_len: usize,
+        out: *mut u8,
+        out_len: usize,
+        count: *mut usize,
+    ) -> u32;
 }
 
 /// What answers hold before a call.
@@ -98,6 +113,26 @@ impl Questions for Proved {
         // SAFETY: every pointer and length is that of a live slice, and the answer is apart from them.
         let number = unsafe { yay_compare(left.as_ptr(), left.len(), right.as_ptr(), right.len(), &mut order) };
         answered(number, order, 0)
+    }
+}
+
+#[cfg(feature = "written")]
+impl Writer for Proved {
+    fn sound(&self, lent: &Lent) -> u32 {
+        let Lent { table, rows, text } = *lent;
+        // SAFETY: every pointer and length is that of a live slice.
+        unsafe { yay_sound(table.as_ptr(), table.len(), rows, text.as_ptr(), text.len()) }
+    }
+
+    fn write(&self, lent: &Lent, out: &mut [u8]) -> (u32, usize) {
+        let Lent { table, rows, text } = *lent;
+        let (words, bytes, room) = (table.len(), text.len(), out.len());
+        let (table, text, out) = (table.as_ptr(), text.as_ptr(), out.as_mut_ptr());
+        let mut count = UNSET;
+        // SAFETY: every pointer and length is that of a live slice, the output is borrowed by this call alone, and the
+        // answer is apart from all of them.
+        let number = unsafe { yay_write(table, words, rows, text, bytes, out, room, &mut count) };
+        (number, count)
     }
 }
 

@@ -14,8 +14,10 @@ mod places;
 pub mod questions;
 mod quoted;
 mod scan;
+pub mod sound;
 mod text;
 mod tree;
+pub mod write;
 
 use lines::Frame;
 use scan::PAD;
@@ -28,6 +30,8 @@ pub const LONGEST: usize = 32_768;
 pub const NESTING: usize = 32;
 /// Words of a row.
 pub const WORDS: usize = 9;
+/// The most rows, and the most text bytes, of a sound table; a lent room counts for no more.
+pub const MOST: usize = 16_777_216;
 
 pub const LONG: u32 = 1;
 pub const CHAR: u32 = 2;
@@ -171,6 +175,7 @@ impl Second {
     pub fn read(&mut self, doc: &[u8], table: &mut [u32], room: &mut [u8]) -> Answer {
         let (words, text, escapes) = self.tree(doc)?;
         let counts = Counts { rows: words.len() / WORDS, text: text.len(), escapes };
+        // A document has fewer rows and text than the most that a lent room counts for.
         if words.len() > table.len() {
             return Err(Refusal { number: ROWS, place: counts.rows });
         }

@@ -11,6 +11,8 @@ use Rattle.language.specs.Tree.{unlined, Tree, width, size, textOf, escapesOf, 
 use Rattle.language.specs.Document.{Document}
 use Rattle.language.specs.Answered.{limit, deepest, REPEAT, ROWS, TEXT, Reads, Answered, accepted, repeated, rows, bytes, Totals, total}
 use Rattle.language.specs.Lines.{linesOf}
+use Rattle.language.specs.Lent.{lent}
+use Rattle.spans.specs.Document.{few-rows, few-text}
 use Rattle.lined.specs.Lined.{Ranked, lined}
 use Rattle.lined.specs.Rows.{lined-rows}
 use Rattle.lined.specs.Ranking.{ranked-rows}
@@ -36,6 +38,13 @@ module _ {doc : List ℕ} {n m z : ℕ} {a : Repeat} (f : Counted doc n m z a) w
   reads : a ≡ Nowhere → Reads doc (f .tree)
   reads e = record { short = f .short; word = f .word; once = subst (Names (λ q. Repeats q (f .tree))) e (f .names) }
 
+  -- few enough for any room
+  few : size (f .tree) ≤ lent
+  few = omega (arith, f .short, few-rows deepest doc (f .tree) (f .word))
+
+  few-bytes : length (textOf (f .tree)) ≤ lent
+  few-bytes = omega (arith, f .short, few-text deepest doc (f .tree) (f .word))
+
   -- its escapes are the total
   pub counted-total : a ≡ Nowhere → Totals doc 0 z
   counted-total e = rw (f .escape-count) (total (f .tree) (reads e))
@@ -47,12 +56,12 @@ module _ {doc : List ℕ} {n m z : ℕ} {a : Repeat} (f : Counted doc n m z a) w
         repeated (f .tree) p (f .short) (f .word) (x .is) (x .least)
 
     pub counted-rows : a ≡ Nowhere → length table < width * n → Answered doc table text ROWS n 0 table text
-    counted-rows e l = subst (λ (i : ℕ). Answered doc table text ROWS i 0 table text) (sym (f .row)) (rows (f .tree) (reads e) (omega (arith, f .row)))
+    counted-rows e l = subst (λ (i : ℕ). Answered doc table text ROWS i 0 table text) (sym (f .row)) (rows (f .tree) (reads e) (omega (arith, f .row, few)))
 
     pub counted-bytes : a ≡ Nowhere → width * n ≤ length table → length text < m → Answered doc table text TEXT m 0 table text
     counted-bytes e l k =
         subst (λ (i : ℕ). Answered doc table text TEXT i 0 table text) (sym (f .text-count))
-        (bytes (f .tree) (reads e) (omega (arith, f .row)) (omega (arith, f .text-count)))
+        (bytes (f .tree) (reads e) (omega (arith, f .row, few)) (omega (arith, f .text-count, few-bytes)))
 
     -- both stored in the rooms lent
     module _ (l : width * n ≤ length table) (table′ : List ℕ) (x : table′ ≡ sets table 0 (rowsOf unlined 0 0 0 (f .tree))) where
@@ -74,4 +83,4 @@ module _ {doc : List ℕ} {n m z : ℕ} {a : Repeat} (f : Counted doc n m z a) w
           let p : table″ ≡ rowsOf (linesOf doc) 0 0 0 t ++ drop (width * size t) table =
           w ∙ rw (rows-stored, f .row) (lined-rows (linesOf doc) t (drop (width * size t) table)) in
           let q : text′ ≡ textOf t ++ drop (length (textOf t)) text = y ∙ stored text (textOf t) (omega (arith, f .text-count)) in
-          rw (p, q, f .row, f .text-count) (accepted t (reads e) (omega (arith, f .row)) (omega (arith, f .text-count)))
+          rw (p, q, f .row, f .text-count) (accepted t (reads e) (omega (arith, f .row, few)) (omega (arith, f .text-count, few-bytes)))

@@ -7,6 +7,7 @@ use native.Mathlib.Omega.{arith}
 use lib.ListN.{length}
 use Rattle.language.specs.Tree.{Positions, Tree, width, size, textOf, rowsOf, Repeats}
 use Rattle.rooms.specs.Forest.{length-rows}
+use Rattle.language.specs.Lent.{wordsIn, bytesIn}
 use Rattle.questions.specs.declared.Found.{Found}
 use Rattle.questions.specs.declared.Found.the-variants.{At, Missing, BadRow}
 use Rattle.questions.specs.Number.{NONE, BADROW}
@@ -19,19 +20,21 @@ use Rattle.found.specs.Looks.{Looks, Comes, comes-at, comes-none, looked
 use Rattle.found.specs.Once.{Once, once}
 use Rattle.found.specs.Walks.{finds}
 
--- the table holds the n rows of the tree t, and the room its text
+-- the table holds the n rows of the tree t, and the room its text, in what they count for
 pub record Filled (t : Tree) (n : ℕ) (table room : List ℕ) : Type 0 where
   pub count : n ≡ size t
   pub lines : Positions
   pub rows : Stands table 0 (rowsOf lines 0 0 0 t)
   pub text : Stands room 0 (textOf t)
+  pub few : width * n ≤ wordsIn table
+  pub few-text : length (textOf t) ≤ bytesIn room
 
 module _ {t : Tree} {n : ℕ} {table room : List ℕ} (h : Filled t n table room) where
-  pub enough : width * n ≤ length table
-  enough = omega (arith, stands-fits (h .rows), length-rows (h .lines) 0 0 0 t, h .count)
+  pub enough : width * n ≤ wordsIn table
+  enough = h .few
 
   pub placed : Placed table room n 0 t
-  placed = record { parent = 0; from = 0; lines = h .lines; rows = h .rows; text = h .text; last = omega (arith, h .count) }
+  placed = record { parent = 0; from = 0; lines = h .lines; rows = h .rows; text = h .text; counts = omega (arith, h .few-text); last = omega (arith, h .count) }
 
   -- FINDING is looking for the key in the pairs
   pub find-looks : {r : ℕ} {s : List ℕ} {fs : List Pair} {reply : Reply} → ObjectAt t r fs → Looks s fs reply → Finds table n room s r reply

@@ -11,6 +11,7 @@ use borrow.Author.Tests.{eqb-true, ltb-true}
 use Rattle.notation.specs.Class.{pick}
 use Rattle.language.specs.Kind.{TRUE, OBJECT}
 use Rattle.language.specs.Tree.{width, Tree, leaf, node, Forest, size, rowList}
+use Rattle.language.specs.Lent.{wordsIn}
 use Rattle.questions.specs.Both.{both-left, both-right}
 use Rattle.questions.specs.Table.{word, good, kind}
 use Rattle.questions.specs.Walk.{object}
@@ -74,7 +75,7 @@ module _ {t : Tree} {n : ℕ} {table room : List ℕ} (h : Filled t n table room
   unfolding object good
   kind-object f r e =
       let g : good table n r ≡ true = both-left (good table n r) (eqb (kind table r) OBJECT) e in
-      let l : r < n = ltb-true r n (both-left (ltb r n) (leb (width * (r + 1)) (length table)) g) in
+      let l : r < n = ltb-true r n (both-left (ltb r n) (leb (width * (r + 1)) (wordsIn table)) g) in
       let k : kind table r ≡ OBJECT = eqb-true (kind table r) OBJECT (both-right (good table n r) (eqb (kind table r) OBJECT) e) in
       let z = part-of r 0 t (record { least = omega arith; most = omega (arith, h .count) }) in
       let p = row-placed table room n (z .row) (placed h) in

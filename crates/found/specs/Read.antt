@@ -2,21 +2,23 @@
 -- (01, Questions), and the spans are in their place, the rows in the order of their first bytes (01, What the reader takes and gives), and line and
 -- column lead back to the first byte (02, Ticket 8). Assumes nothing.
 use mathlib.Core.Path.{_≡_, refl, sym, subst, _∙_}
-use mathlib.Core.List.{List}
+use mathlib.Core.List.{List, _++_}
 use mathlib.Core.Bool.{Bool, true, false}
 use mathlib.Core.Logic.{_↔_}
 use Prim.Native.Nat.{ℕ, _*_, _≤_, _<_}
 use native.Mathlib.Omega.{arith}
-use lib.ListN.{length, getD, drop}
+use lib.ListN.{length, getD, drop, length-append}
 use Rattle.language.specs.Tree.{Positions, Tree, width, size, textOf, rowsOf}
 use Rattle.language.specs.Document.{Document}
 use Rattle.language.specs.Lines.{linesOf}
 use Rattle.language.specs.Answered.{deepest, Stops, char, syntax, deep, end, Reads, Answered, accepted, stopped}
+use Rattle.language.specs.Lent.{wordsIn, bytesIn}
 use Rattle.questions.specs.declared.Found.{Found}
 use Rattle.questions.specs.declared.Found.the-variants.{BadRow}
 use Rattle.questions.specs.Walk.{foundReply, object, Finds, refused}
 use Rattle.questions.specs.Unique.{one-found}
-use Rattle.spans.specs.Document.{placed, sound, in-document}
+use Rattle.spans.specs.Document.{placed, sound, in-document, few-rows, few-text}
+use Rattle.rooms.specs.Forest.{length-rows}
 use Rattle.spans.specs.Placed.{itself}
 use Rattle.spans.specs.Rising.{firsts, firsts-within, document-rises}
 use Rattle.spans.specs.Begins.{begins-ascii}
@@ -45,13 +47,20 @@ refused-so (syntax p l b d a) = omega arith
 refused-so (deep p k l b d x) = omega arith
 refused-so (end b z) = omega arith
 
+-- what acceptance leaves is within what rooms count for
+filled-few : (doc : List ℕ) (t : Tree) → Reads doc t → (table : List ℕ) → width * size t ≤ wordsIn (rowsOf (linesOf doc) 0 0 0 t ++ drop (width * size t) table)
+filled-few doc t r table = omega (arith, r .short, few-rows deepest doc t (r .word), length-append (rowsOf (linesOf doc) 0 0 0 t) (drop (width * size t) table), length-rows (linesOf doc) 0 0 0 t)
+
+filled-text : (doc : List ℕ) (t : Tree) → Reads doc t → (text : List ℕ) → length (textOf t) ≤ bytesIn (textOf t ++ drop (length (textOf t)) text)
+filled-text doc t r text = omega (arith, r .short, few-text deepest doc t (r .word), length-append (textOf t) (drop (length (textOf t)) text))
+
 pub filling : {doc table text table′ text′ : List ℕ} {n m : ℕ} → Answered doc table text 0 n m table′ text′ → Filling doc n table′ text′
 filling (stopped n p l x) = let h = refused-so x in absurd (omega arith)
 filling {doc = doc} {table = table} {text = text} (accepted t r l k) =
     record {
       tree = t;
       reads = r;
-      filled = record { count = refl; lines = linesOf doc; rows = stands-first (rowsOf (linesOf doc) 0 0 0 t) (drop (width * size t) table); text = stands-first (textOf t) (drop (length (textOf t)) text) };
+      filled = record { count = refl; lines = linesOf doc; rows = stands-first (rowsOf (linesOf doc) 0 0 0 t) (drop (width * size t) table); text = stands-first (textOf t) (drop (length (textOf t)) text); few = filled-few doc t r table; few-text = filled-text doc t r text };
       lines-are = refl;
     }
 

@@ -4,24 +4,26 @@ use mathlib.Core.List.{List}
 use mathlib.Core.Bool.{Bool, true, false}
 use Prim.Native.Nat.{ℕ, _+_, _*_, _≤_, _<_}
 use native.Mathlib.Omega.{arith}
-use lib.ListN.{length, getD}
+use lib.ListN.{length, getD, length-append}
 use lib.Dec.{leb}
 use Rattle.notation.specs.Class.{pick}
 use Rattle.language.specs.Kind.{TRUE}
 use Rattle.language.specs.Tree.{Positions, Decoded, Tree, leaf, node, Forest, more, width, size, sizes, textOf, textsOf, rowList, leafRow, rowsOf, rowss}
+use Rattle.language.specs.Lent.{bytesIn}
 use Rattle.rooms.specs.Forest.{length-rows}
 use Rattle.questions.specs.Table.{word}
 use Rattle.found.specs.Objects.{RowOf, own, within, RowAmong, in-first, in-further}
 use Rattle.found.specs.Stands.{Stands, stands-left, stands-right, stands-word}
 
 module _ (table room : List ℕ) (n : ℕ) where
-  -- the rows of t stand from row r on, its text stands in the room, and both end in time
+  -- the rows of t stand from row r on, its text stands in what the room counts for, and both end in time
   pub record Placed (r : ℕ) (t : Tree) : Type 0 where
     pub parent : ℕ
     pub from : ℕ
     pub lines : Positions
     pub rows : Stands table (width * r) (rowsOf lines r parent from t)
     pub text : Stands room from (textOf t)
+    pub counts : from + length (textOf t) ≤ bytesIn room
     pub last : r + size t ≤ n
 
   -- .. of trees one after another
@@ -31,6 +33,7 @@ module _ (table room : List ℕ) (n : ℕ) where
     pub lines : Positions
     pub rows : Stands table (width * r) (rowss lines r parent from ts)
     pub text : Stands room from (textsOf ts)
+    pub counts : from + length (textsOf ts) ≤ bytesIn room
     pub last : r + sizes ts ≤ n
 
   pub children : (r k a e c : ℕ) (ts : Forest) → Placed r (node k a e c ts) → PlacedAll (r + 1) ts
@@ -42,6 +45,7 @@ module _ (table room : List ℕ) (n : ℕ) where
         lines = p .lines;
         rows = stands-right (rowList (p .lines) k a e 0 c (p .parent) (r + 1 + sizes ts)) (rowss (p .lines) (r + 1) r (p .from) ts) (p .rows) (width * (r + 1)) (omega arith);
         text = p .text;
+        counts = p .counts;
         last = omega (arith, p .last);
       }
 
@@ -55,6 +59,7 @@ module _ (table room : List ℕ) (n : ℕ) where
           lines = p .lines;
           rows = stands-left (rowsOf (p .lines) r (p .parent) (p .from) t) (rowss (p .lines) (r + size t) (p .parent) (p .from + length (textOf t)) ts) (p .rows);
           text = stands-left (textOf t) (textsOf ts) (p .text);
+          counts = omega (arith, p .counts, length-append (textOf t) (textsOf ts));
           last = omega (arith, p .last);
         }
 
@@ -69,6 +74,7 @@ module _ (table room : List ℕ) (n : ℕ) where
               stands-right (rowsOf (p .lines) r (p .parent) (p .from) t) (rowss (p .lines) (r + size t) (p .parent) (p .from + length (textOf t)) ts) (p .rows) (width * (r + size t))
               (omega (arith, length-rows (p .lines) r (p .parent) (p .from) t));
           text = stands-right (textOf t) (textsOf ts) (p .text) (p .from + length (textOf t)) refl;
+          counts = omega (arith, p .counts, length-append (textOf t) (textsOf ts));
           last = omega (arith, p .last);
         }
 

@@ -8,6 +8,7 @@ use lib.ListN.{length}
 use borrow.Author.Tests.{lt-ltb, le-leb}
 use Rattle.language.specs.Kind.{OBJECT, KEY}
 use Rattle.language.specs.Tree.{Decoded, Tree, leaf, node, Forest, more, width, size, sizes, textOf}
+use Rattle.language.specs.Lent.{wordsIn, bytesIn}
 use Rattle.questions.specs.Table.{word, good, readable}
 use Rattle.questions.specs.Text.{part}
 use Rattle.questions.specs.Walk.{Reply, paired, onward, Walk, ends, matches, goes, object, Finds, walked}
@@ -19,10 +20,10 @@ use Rattle.found.specs.Looks.{Looks, looks-none, looks-here, looks-later
 both : {a b : Bool} → a ≡ true → b ≡ true → (a && b) ≡ true
 both h k = rw (h, k)
 
-module _ (table room : List ℕ) (n : ℕ) (enough : width * n ≤ length table) where
+module _ (table room : List ℕ) (n : ℕ) (enough : width * n ≤ wordsIn table) where
   good-row : (r : ℕ) → r < n → good table n r ≡ true
   unfolding good
-  good-row r h = both (lt-ltb r n h) (le-leb (width * (r + 1)) (length table) (omega arith))
+  good-row r h = both (lt-ltb r n h) (le-leb (width * (r + 1)) (wordsIn table) (omega arith))
 
   module _ (r a e : ℕ) (s : Decoded) (p : Placed table room n r (leaf KEY a e s)) where
     -- a key's row
@@ -38,9 +39,9 @@ module _ (table room : List ℕ) (n : ℕ) (enough : width * n ≤ length table)
     key-paired : r + 1 < n → paired table n room r ≡ true
     unfolding paired readable textOf
     key-paired h =
-        let f : p .from + length (s .bytes) ≤ length room = stands-fits (p .text) in
+        let f : p .from + length (s .bytes) ≤ bytesIn room = p .counts in
         rw (key-kind, key-start, key-end)
-        (both (both (good-row r (omega arith)) (both refl (both (le-leb (p .from) (p .from + length (s .bytes)) (omega arith)) (le-leb (p .from + length (s .bytes)) (length room) f)))) (both refl (good-row (r + 1) h)))
+        (both (both (good-row r (omega arith)) (both refl (both (le-leb (p .from) (p .from + length (s .bytes)) (omega arith)) (le-leb (p .from + length (s .bytes)) (bytesIn room) f)))) (both refl (good-row (r + 1) h)))
 
     key-part : part table room r ≡ s .bytes
     unfolding part textOf

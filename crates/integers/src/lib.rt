@@ -4,6 +4,7 @@ mod integer;
 mod numeral;
 
 pub use comparing::compare;
+pub use integer::is_integer;
 
 // How the left integer stands to the right one.
 pub enum Compared {

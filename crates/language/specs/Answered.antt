@@ -5,10 +5,11 @@ use lib.ListN.{length, take, drop}
 use Rattle.notation.specs.Lang.{Begins}
 use Rattle.language.specs.declared.Answer.{Answer}
 use Rattle.language.specs.declared.Answer.the-variants.{Accepted, Long, Char, Syntax, Deep, End, Repeat, Rows, Text}
-use Rattle.language.specs.Tree.{Tree, width, size, textOf, escapesOf, rowsOf, Repeats}
+use Rattle.language.specs.Tree.{Tree, width, size, textOf, escapesOf, rowsOf, Repeats, Once}
 use Rattle.language.specs.Characters.{Allowed}
 use Rattle.language.specs.Document.{Document}
 use Rattle.language.specs.Lines.{linesOf}
+use Rattle.language.specs.Lent.{wordsIn, bytesIn}
 
 -- "more than 32,768 bytes"; "at most 32 containers one inside another"
 abbrev pub limit : ℕ
@@ -41,6 +42,9 @@ ROWS = 7
 
 abbrev pub TEXT : ℕ
 TEXT = 8
+
+abbrev pub BADROW : ℕ
+BADROW = 9
 
 -- "Where an answer is an enum, a definition gives this paper's number and values for each of its cases, and the promises use that definition" (01, Expected forms by place).
 -- The number is 0 for an acceptance; the values are the counts, or the place, the rows needed or the bytes needed, and 0
@@ -109,13 +113,13 @@ pub data Stops (doc : List ℕ) : ℕ → ℕ → Type 0 where
 pub record Reads (doc : List ℕ) (t : Tree) : Type 0 where
   pub short : length doc ≤ limit
   pub word : Document deepest doc t
-  pub once : (p : ℕ) → Repeats p t → ⊥
+  pub once : Once t
 
 -- THE PROMISE: the document, table and text room as they were lent; the answer's number and first two values; table and text room afterwards.
 -- "All refusals leave table and text room unchanged."
 pub data Answered (doc table text : List ℕ) : ℕ → ℕ → ℕ → List ℕ → List ℕ → Type 0 where
   -- the rows and the text of the tree; "words and bytes past the counts keep what they held"
-  accepted : (t : Tree) → Reads doc t → width * size t ≤ length table → length (textOf t) ≤ length text
+  accepted : (t : Tree) → Reads doc t → width * size t ≤ wordsIn table → length (textOf t) ≤ bytesIn text
       → Answered
       doc
       table
@@ -131,9 +135,9 @@ pub data Answered (doc table text : List ℕ) : ℕ → ℕ → ℕ → List ℕ
   repeated : (t : Tree) (p : ℕ) → length doc ≤ limit → Document deepest doc t → Repeats p t → ((q : ℕ) → Repeats q t → p ≤ q)
       → Answered doc table text REPEAT p 0 table text
   -- "seven times the rows needed exceeds the words lent" (01); "ROWS is reckoned with nine" (02, Ticket 8)
-  rows : (t : Tree) → Reads doc t → length table < width * size t → Answered doc table text ROWS (size t) 0 table text
+  rows : (t : Tree) → Reads doc t → wordsIn table < width * size t → Answered doc table text ROWS (size t) 0 table text
   -- "text needed exceeds the bytes lent"
-  bytes : (t : Tree) → Reads doc t → width * size t ≤ length table → length text < length (textOf t)
+  bytes : (t : Tree) → Reads doc t → width * size t ≤ wordsIn table → bytesIn text < length (textOf t)
       → Answered doc table text TEXT (length (textOf t)) 0 table text
 
 -- THE PROMISE OF THE THIRD VALUE, by the number beside it: "Acceptance answers with the document's total" (02, Ticket 2); every refusal, ROWS and TEXT too, has none

@@ -8,4 +8,9 @@ pub mod BlockText
 pub mod Blocks
 pub mod Document
 pub mod Lines
+pub mod Lent
 pub mod Answered
+pub mod Alike
+pub mod Sound
+pub mod House
+pub mod Written

@@ -163,3 +163,7 @@ mutual
     again : {a e n : ℕ} {s : List ℕ} {ts : Forest} → Has s p ts → Repeated p (more (leaf KEY a e (record { bytes = s; escapes = n })) ts)
     below : {t : Tree} {ts : Forest} → Repeats p t → Repeated p (more t ts)
     beside : {t : Tree} {ts : Forest} → Repeated p ts → Repeated p (more t ts)
+
+-- no object of the tree has two equal keys
+abbrev pub Once : Tree → Type 0
+Once t = (p : ℕ) → Repeats p t → ⊥

@@ -2,6 +2,9 @@
 ghost use mathlib.Core.Path.{_≡_};
 ghost use Rattle.language.specs.Kind.{hasText};
 ghost use Rattle.language.specs.Answered as answered;
+ghost use Rattle.language.specs.Tree.{width};
+ghost use Rattle.language.specs.Lent.{wordsIn, bytesIn};
+ghost use Prim.Native.Nat.{_/_};
 
 // "A row is nine words" (02, Ticket 8).
 pub const WIDTH: usize = 9;
@@ -11,6 +14,25 @@ pub const LIMIT: usize = 32768;
 
 // "at most 32 containers one inside another".
 pub const DEEPEST: usize = 32;
+
+// "at most 16,777,216 rows and text bytes; from here on a lent room counts for no more than that" (02, Ticket 1).
+pub const LENT: usize = 16777216;
+
+// The rows that a lent table counts for.
+pub fn rows_lent(table: &[u32]) -> usize
+    ensures { λ r. ⌜ r ≡ wordsIn (now (table .entry)) / width ⌝ }
+{
+    let rows = table.len() / WIDTH;
+    if rows < LENT { rows } else { LENT }
+}
+
+// The bytes that a lent text room or output counts for.
+pub fn bytes_lent(room: &[u8]) -> usize
+    ensures { λ r. ⌜ r ≡ bytesIn (now (room .entry)) ⌝ }
+{
+    let bytes = room.len();
+    if bytes < LENT { bytes } else { LENT }
+}
 
 // A place is counted in bytes from 0.
 pub struct Place(pub usize);
@@ -71,6 +93,14 @@ pub enum Answer {
     Repeat(Place),
     Rows(Row),
     Text(usize),
+}
+
+// What `write` answers: the count of bytes written; that the table is not sound; that the bytes are too many; or how many bytes the output would need.
+pub enum Wrote {
+    Done(usize),
+    BadRow,
+    TooLong,
+    TooShort(usize),
 }
 
 // The number of an answer and its three values, as documents 01 and 02 count them.

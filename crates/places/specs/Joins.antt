@@ -8,7 +8,7 @@ use lib.ListN.{length, getD, set}
 use borrow.Author.Needs.{needs}
 use Rattle.repeats.specs.declared.Repeat.the-variants.{At, Nowhere}
 use Rattle.exact.specs.Class.{clash}
-use Rattle.repeats.specs.Tells.{Tells, tells-yes, tells-no}
+use Rattle.exact.specs.Tells.{Tells, tells-yes, tells-no}
 use Rattle.repeats.specs.Numbering.{Numbering, markOf}
 use Rattle.repeats.specs.Order.{name-same}
 use Rattle.repeats.specs.Links.{Earlier}

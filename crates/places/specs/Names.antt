@@ -16,7 +16,7 @@ use Rattle.characters.specs.declared.Took.{Took}
 use Rattle.characters.specs.declared.Took.the-variants.{Byte, Over}
 use Rattle.characters.specs.Reads.{ByteRead, byte-inside, byte-there, byte-next, byte-over}
 use Rattle.notes.specs.Lie.{KeyAt}
-use Rattle.repeats.specs.Tells.{Tells}
+use Rattle.exact.specs.Tells.{Tells}
 use Rattle.repeats.specs.Mark.{marked, markFrom, mark}
 use Rattle.repeats.specs.Numbering.{Numbering, Same, markOf, stir}
 use Rattle.repeats.specs.Order.{Precedes, shorter, lower, further, nameOf, name-same, apart}

@@ -9,7 +9,7 @@ use lib.ListN.{length, getD, set, replicate, length-replicate}
 use lib.Seq.{getD-set-same, getD-set-other}
 use borrow.Author.Needs.{needs}
 use Rattle.repeats.specs.declared.Repeat.the-variants.{At, Nowhere}
-use Rattle.repeats.specs.Tells.{Tells, tells-yes, tells-no}
+use Rattle.exact.specs.Tells.{Tells, tells-yes, tells-no}
 use Rattle.repeats.specs.Numbering.{Numbering, Same, markOf, stir, spread, chainOf, chainAt}
 use Rattle.repeats.specs.Links.{Earlier, Chains, Walked, walk-first, walk-none, walk-key, walk-room, walk-less, walk-same, walk-more, note-walkable, note-low, note-small, note-met, note-past, note-chains}
 use Rattle.repeats.specs.Links

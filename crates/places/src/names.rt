@@ -2,7 +2,7 @@
 ghost use mathlib.Core.Path.{_≡_};
 ghost use Prim.Native.Nat.{_+_, _*_, _%_, _<_};
 ghost use lib.ListN.{length, getD};
-ghost use Rattle.repeats.specs.Tells.{Tells};
+ghost use Rattle.exact.specs.Tells.{Tells};
 ghost use Rattle.repeats.specs.Mark.{marked};
 ghost use Rattle.repeats.specs.Numbering.{Same};
 ghost use Rattle.places.specs.Places.{objectAt, placeAt, spelled, placeKeys};

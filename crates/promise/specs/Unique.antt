@@ -18,6 +18,7 @@ use Rattle.language.specs.Tree.{Tree, width, size, textOf, escapesOf, rowsOf, R
 use Rattle.language.specs.Characters.{Allowed}
 use Rattle.language.specs.Document.{Document}
 use Rattle.language.specs.Lines.{linesOf}
+use Rattle.language.specs.Lent.{wordsIn, bytesIn}
 use Rattle.language.specs.Answered.{limit, deepest, LONG, CHAR, SYNTAX, DEEP, END, REPEAT, ROWS, TEXT, number, value, second, third, Viable, Stops, char, syntax, deep, end, Reads, Answered, accepted, long, stopped, repeated, rows, bytes, Totals, total, untold}
 
 -- WHAT IS TAKEN FROM THE READERS: a document has one tree, and is a sequence of allowed characters
@@ -130,8 +131,8 @@ module _ (κ : Known) where
   outcome doc table text (stops-at n p) = kept table text n p
   outcome doc table text (repeats-at p) = kept table text REPEAT p
   outcome doc table text (has-tree t) =
-      pick (ltb (length table) (width * size t)) (kept table text ROWS (size t))
-      (pick (ltb (length text) (length (textOf t))) (kept table text TEXT (length (textOf t)))
+      pick (ltb (wordsIn table) (width * size t)) (kept table text ROWS (size t))
+      (pick (ltb (bytesIn text) (length (textOf t))) (kept table text TEXT (length (textOf t)))
       (record {
         counted = 0;
         valued = size t;
@@ -144,12 +145,12 @@ module _ (κ : Known) where
     report : {n v s : ℕ} {table′ text′ : List ℕ} → Answered doc table text n v s table′ text′
         → (r : Report) × Reports doc r × (record { counted = n; valued = v; other = s; table-after = table′; text-after = text′ } ≡ outcome doc table text r)
     unfolding outcome kept
-    report (accepted t x h k) = (has-tree t, is-tree t x, rw (le-ltb (length table) (width * size t) h, le-ltb (length text) (length (textOf t)) k) refl)
+    report (accepted t x h k) = (has-tree t, is-tree t x, rw (le-ltb (wordsIn table) (width * size t) h, le-ltb (bytesIn text) (length (textOf t)) k) refl)
     report (long l) = (too-long, is-long l, refl)
     report (stopped n p l x) = (stops-at n p, is-stop n p l x, refl)
     report (repeated t p l x r m) = (repeats-at p, is-repeat t p l x r m, refl)
-    report (rows t x h) = (has-tree t, is-tree t x, rw (lt-ltb (length table) (width * size t) h) refl)
-    report (bytes t x h k) = (has-tree t, is-tree t x, rw (le-ltb (length table) (width * size t) h, lt-ltb (length text) (length (textOf t)) k) refl)
+    report (rows t x h) = (has-tree t, is-tree t x, rw (lt-ltb (wordsIn table) (width * size t) h) refl)
+    report (bytes t x h k) = (has-tree t, is-tree t x, rw (le-ltb (wordsIn table) (width * size t) h, lt-ltb (bytesIn text) (length (textOf t)) k) refl)
 
     -- ONE ANSWER ONLY, whatever the document and the rooms
     pub one-answer : {n v s n₂ v₂ s₂ : ℕ} {table′ text′ table″ text″ : List ℕ} → Answered doc table text n v s table′ text′ → Answered doc table text n₂ v₂ s₂ table″ text″

@@ -12,6 +12,7 @@ use borrow.Author.Needs.{needs}
 use borrow.Author.Tests.{lt-ltb, le-ltb, le-leb, lt-leb, ltb-true, leb-true, ltb-false}
 use Rattle.language.specs.Kind.{hasText}
 use Rattle.language.specs.Tree.{width}
+use Rattle.language.specs.Lent.{wordsIn, bytesIn}
 use Rattle.questions.specs.Both.{both-left, both-right, not-left, not-right, then-right}
 use Rattle.questions.specs.Table.{word, kind, start, end, good, readable}
 use Rattle.questions.specs.Contract.{isKind, Held}
@@ -19,16 +20,16 @@ use Rattle.questions.specs.Contract.{isKind, Held}
 -- ---- a good row
 
 module _ (table : List ℕ) (R r : ℕ) where
-  whole-row : ltb r (length table / width) ≡ leb (width * (r + 1)) (length table)
-  whole-row = go (ltb r (length table / width)) refl
+  whole-row : ltb r (wordsIn table / width) ≡ leb (width * (r + 1)) (wordsIn table)
+  whole-row = go (ltb r (wordsIn table / width)) refl
     where
-      go : (b : Bool) → ltb r (length table / width) ≡ b → b ≡ leb (width * (r + 1)) (length table)
-      go true h = let l = ltb-true r (length table / width) h in sym (le-leb (width * (r + 1)) (length table) (omega arith))
-      go false h = let l = ltb-false r (length table / width) h in sym (lt-leb (width * (r + 1)) (length table) (omega arith))
+      go : (b : Bool) → ltb r (wordsIn table / width) ≡ b → b ≡ leb (width * (r + 1)) (wordsIn table)
+      go true h = let l = ltb-true r (wordsIn table / width) h in sym (le-leb (width * (r + 1)) (wordsIn table) (omega arith))
+      go false h = let l = ltb-false r (wordsIn table / width) h in sym (lt-leb (width * (r + 1)) (wordsIn table) (omega arith))
 
-  pub good-below : r < R → ltb r (length table / width) ≡ good table R r
+  pub good-below : (n : ℕ) → n ≡ wordsIn table / width → r < R → ltb r n ≡ good table R r
   unfolding good
-  good-below h = then-right _ _ _ (lt-ltb r R h) whole-row
+  good-below n e h = then-right _ _ _ (lt-ltb r R h) (ap (ltb r) e ∙ whole-row)
 
   pub good-past : R ≤ r → false ≡ good table R r
   unfolding good
@@ -37,14 +38,14 @@ module _ (table : List ℕ) (R r : ℕ) where
   module _ (g : Bool) (said : g ≡ good table R r) (taken : g ≡ true) where
     pub good-row : r < R
     unfolding good
-    good-row = ltb-true r R (both-left (ltb r R) (leb (width * (r + 1)) (length table)) (sym said ∙ taken))
+    good-row = ltb-true r R (both-left (ltb r R) (leb (width * (r + 1)) (wordsIn table)) (sym said ∙ taken))
 
     pub good-fits : Fits w64 R → Fits w64 (r + 1)
     good-fits f = let l = good-row in omega arith
 
     pub good-whole : width * (r + 1) ≤ length table
     unfolding good
-    good-whole = leb-true (width * (r + 1)) (length table) (both-right (ltb r R) (leb (width * (r + 1)) (length table)) (sym said ∙ taken))
+    good-whole = omega (arith, leb-true (width * (r + 1)) (wordsIn table) (both-right (ltb r R) (leb (width * (r + 1)) (wordsIn table)) (sym said ∙ taken)))
 
     pub good-held : (k : ℕ) → k < width → Held table r k
     good-held k h = record { whole = good-whole; one = h }
@@ -71,7 +72,7 @@ module _ (table : List ℕ) (R : ℕ) (room : List ℕ) (r : ℕ) where
   S = leb (start table r) (end table r)
 
   abbrev E : Bool
-  E = leb (end table r) (length room)
+  E = leb (end table r) (bytesIn room)
 
   module _ (g : Bool) (said : g ≡ good table R r) where
     pub read-bad : g ≡ false → false ≡ readable table R room r
@@ -93,12 +94,12 @@ module _ (table : List ℕ) (R : ℕ) (room : List ℕ) (r : ℕ) where
             not-right G (H && (S && E))
             (sym (not-right H (S && E) (sym (not-left S E (lt-leb (start table r) (end table r) (rw (← from, ← to) l))))))
 
-        pub read-room : s ≤ e → leb e (length room) ≡ readable table R room r
+        pub read-room : (n : ℕ) → n ≡ bytesIn room → s ≤ e → leb e n ≡ readable table R room r
         unfolding readable
-        read-room l =
-            then-right G (H && (S && E)) (leb e (length room)) (sym said ∙ row)
-            (then-right H (S && E) (leb e (length room)) (texted ∙ text)
-            (then-right S E (leb e (length room)) (le-leb (start table r) (end table r) (rw (← from, ← to) l)) (ap (λ n. leb n (length room)) to)))
+        read-room n z l =
+            then-right G (H && (S && E)) (leb e n) (sym said ∙ row)
+            (then-right H (S && E) (leb e n) (texted ∙ text)
+            (then-right S E (leb e n) (le-leb (start table r) (end table r) (rw (← from, ← to) l)) (ap (λ m. leb m n) to ∙ ap (leb (end table r)) z)))
 
   module _ (b : Bool) (said : b ≡ readable table R room r) (taken : b ≡ true) where
     read-all : (G && (H && (S && E))) ≡ true
@@ -115,7 +116,7 @@ module _ (table : List ℕ) (R : ℕ) (room : List ℕ) (r : ℕ) where
     read-start = leb-true (start table r) (end table r) (both-left S E read-spans)
 
     pub read-end : end table r ≤ length room
-    read-end = leb-true (end table r) (length room) (both-right S E read-spans)
+    read-end = omega (arith, leb-true (end table r) (bytesIn room) (both-right S E read-spans))
 
     pub read-held : (k : ℕ) → k < width → Held table r k
     read-held k h = good-held table R r true read-good refl k h

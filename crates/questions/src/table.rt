@@ -1,6 +1,8 @@
 // Rows of any lent table: whether they are good, and their words.
 use language::Kind;
 use language::WIDTH;
+use language::bytes_lent;
+use language::rows_lent;
 ghost use mathlib.Core.Path.{_≡_};
 ghost use Rattle.questions.specs.Table as T;
 ghost use Rattle.questions.specs.Contract.{Held, isKind};
@@ -33,7 +35,7 @@ pub fn good(table: &[u32], rows: usize, r: usize) -> bool
     ensures { λ b. ⌜ b ≡ T.good (now (table .entry)) rows r ⌝ }
 {
     if r < rows {
-        return r < table.len() / WIDTH;
+        return r < rows_lent(&*table);
     }
     false
 }
@@ -64,7 +66,7 @@ pub fn readable(table: &[u32], rows: usize, room: &[u8], r: usize) -> bool
             let start = word(&*table, r, START);
             let end = word(&*table, r, END);
             if start <= end {
-                return end <= room.len();
+                return end <= bytes_lent(&*room);
             }
         }
     }

@@ -1,7 +1,6 @@
 pub mod Flat
 pub mod Repeating
 pub mod Stands
-pub mod Tells
 pub mod Mark
 pub mod Numbering
 pub mod Links

@@ -8,7 +8,7 @@ use native.Mathlib.Decide.{ℕ-discrete}
 use native.Mathlib.Numerals.{add-one}
 use lib.ListN.{length, getD, set, length-set}
 use lib.Seq.{getD-set-same, getD-set-other}
-use Rattle.repeats.specs.Tells.{Tells}
+use Rattle.exact.specs.Tells.{Tells}
 use Rattle.repeats.specs.Numbering.{Numbering, Same, chainAt, chain-low, same-chain}
 
 -- the key k is before n

@@ -130,7 +130,7 @@ twice-two (twice-later (twice-later x)) = elim x [ ]
 third : Says (gives (91 ∷ 49 ∷ 44 ∷ 32 ∷ 50 ∷ 50 ∷ 93 ∷ 10 ∷ []) 3 (8 ∷ 0 ∷ 7 ∷ 0 ∷ 2 ∷ 0 ∷ 3 ∷ 1 ∷ 1 ∷ 4 ∷ 1 ∷ 2 ∷ 0 ∷ 1 ∷ 0 ∷ 2 ∷ 1 ∷ 2 ∷ 4 ∷ 4 ∷ 6 ∷ 1 ∷ 3 ∷ 0 ∷ 3 ∷ 1 ∷ 5 ∷ []) (49 ∷ 50 ∷ 50 ∷ []))
 unfolding reading tree₃ size textOf rowsOf flat lineOf columnOf feeds characters lastLine
 third table text l m =
-    accepted tree₃ (record { short = omega arith; word = has-tree _ tree₃ refl; once = λ p x. none-twice p (repeats-twice 0 0 tree₃ x) }) l m
+    accepted tree₃ (record { short = omega arith; word = has-tree _ tree₃ refl; once = λ p x. none-twice p (repeats-twice 0 0 tree₃ x) }) (omega arith) (omega arith)
   where
     none-twice : (p : ℕ) → Twice p (flat 0 0 tree₃) → ⊥
     none-twice p x = elim x [ ]

@@ -1,3 +1,4 @@
 pub mod Proved
 pub mod Borders
 pub mod WrongReaders
+pub mod Writing

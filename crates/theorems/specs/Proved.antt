@@ -33,7 +33,7 @@ use Rattle.promise.specs.Unique as unique
 use Rattle.promise.specs.Refusals as refusals
 use Rattle.promise.specs.LargerRooms as rooms
 
-known : unique.Known
+pub known : unique.Known
 known = record { one-tree = readers.one-tree; allowed = clean.document-allowed }
 
 -- ONE TREE: a document has one, whatever its nesting

@@ -1,4 +1,4 @@
--- Laws of the C interface: its promises from those of `read`, of the questions and of comparing. Assumes nothing.
+-- Laws of the C interface: its promises from those of `read`, of the questions, of comparing, of `sound` and of `write`. Assumes nothing.
 use mathlib.Core.Path.{_≡_, refl, sym, ap, subst, _∙_}
 use mathlib.Core.List.{List}
 use mathlib.Core.Bool.{Bool, true, false, _&&_}
@@ -8,10 +8,11 @@ use lib.ListN.{length, getD}
 use lib.Dec.{ltb, leb}
 use borrow.Author.Tests.{leb-true}
 use Rattle.language.specs.Kind.{pick, hasText}
+use Rattle.language.specs.Lent.{wordsIn, bytesIn}
 use Rattle.questions.specs.Table.{word, kind, start, end, good, readable}
 use Rattle.questions.specs.Text.{textNumber}
 use Rattle.language.specs.declared.Answer.{Answer}
-use Rattle.language.specs.Answered.{Answered, Totals, number, value, second, third}
+use Rattle.language.specs.Answered.{BADROW, Answered, Totals, number, value, second, third}
 use Rattle.questions.specs.Walk.{Reply, Finds, foundReply}
 use Rattle.questions.specs.declared.Found.{Found}
 use Rattle.questions.specs.declared.Found.the-variants.{At, Missing, BadRow}
@@ -21,6 +22,9 @@ use lib.IntN.{ℤ, pos, negsuc}
 use Rattle.integers.specs.declared.Compared.{Compared}
 use Rattle.integers.specs.declared.Compared.the-variants.{Less, Equal, Greater, NotInt}
 use Rattle.integers.specs.Order.{Verdict, compared, comparedVerdict}
+use Rattle.language.specs.declared.Wrote.{Wrote}
+use Rattle.language.specs.declared.Wrote.the-variants.{Done, BadRow as BadTable, TooLong, TooShort}
+use Rattle.language.specs.Written.{Sounded, Written, wroteNumber, wroteCount}
 use Rattle.exports.specs.Exports.{FoundAt, ComparedTo, TextAt}
 
 -- ---- `yay_read`
@@ -82,17 +86,17 @@ module _ (table : List ℕ) (R : ℕ) (room : List ℕ) (r n : ℕ) (x : n ≡ t
   unfolding readable good
   text-inside j l e = go (ltb r R) refl (is-readable e)
     where
-      size : (b : Bool) → leb (width * (r + 1)) (length table) ≡ b → b ≡ true → width * r + j < length table
-      size true h k = let z = leb-true (width * (r + 1)) (length table) h in omega arith
+      size : (b : Bool) → leb (width * (r + 1)) (wordsIn table) ≡ b → b ≡ true → width * r + j < length table
+      size true h k = let z = leb-true (width * (r + 1)) (wordsIn table) h in omega arith
       size false h k = let z : _≡_ {A = ℕ} 0 1 = cc in absurd (omega arith)
 
       rest : (b c : Bool) → (b && c) ≡ true → b ≡ true
       rest true c h = refl
       rest false c h = h
 
-      go : (b : Bool) → ltb r R ≡ b → ((b && leb (width * (r + 1)) (length table)) && (hasText (kind table r) && (leb (start table r) (end table r) && leb (end table r) (length room)))) ≡ true
+      go : (b : Bool) → ltb r R ≡ b → ((b && leb (width * (r + 1)) (wordsIn table)) && (hasText (kind table r) && (leb (start table r) (end table r) && leb (end table r) (bytesIn room)))) ≡ true
           → width * r + j < length table
-      go true h k = size (leb (width * (r + 1)) (length table)) refl (rest (leb (width * (r + 1)) (length table)) _ k)
+      go true h k = size (leb (width * (r + 1)) (wordsIn table)) refl (rest (leb (width * (r + 1)) (wordsIn table)) _ k)
       go false h k = let z : _≡_ {A = ℕ} 0 1 = cc in absurd (omega arith)
 
   pub text-at : (a b : ℕ) → n ≡ 0 → a ≡ getD table (width * r + 3) 0 → b ≡ getD table (width * r + 4) 0 → TextAt table R room r 0 a b
@@ -104,3 +108,30 @@ module _ (table : List ℕ) (R : ℕ) (room : List ℕ) (r n : ℕ) (x : n ≡ t
   text-bad e =
       let h = not-readable e in
       record { number-is = sym (ap (λ (c : Bool). pick c 0 9) h); from-is = sym (ap (λ (c : Bool). pick c (start table r) 0) h); to-is = sym (ap (λ (c : Bool). pick c (end table r) 0) h) }
+
+-- ---- `yay_sound`
+
+module _ (table : List ℕ) (rows : ℕ) (text : List ℕ) (b : Bool) (x : Sounded table rows text (pick b 0 BADROW)) where
+  pub sounded-so : b ≡ true → Sounded table rows text 0
+  sounded-so e = subst (λ (c : Bool). Sounded table rows text (pick c 0 BADROW)) e x
+
+  pub sounded-not : b ≡ false → Sounded table rows text 9
+  sounded-not e = subst (λ (c : Bool). Sounded table rows text (pick c 0 BADROW)) e x
+
+-- ---- `yay_write`
+
+module _ (table : List ℕ) (rows : ℕ) (text out out′ : List ℕ) (w : Wrote) (x : Written table rows text out (wroteNumber w) (wroteCount w) out′) where
+  told : (v : Wrote) → w ≡ v → Written table rows text out (wroteNumber v) (wroteCount v) out′
+  told v e = subst (λ (u : Wrote). Written table rows text out (wroteNumber u) (wroteCount u) out′) e x
+
+  pub wrote-done : (n : ℕ) → w ≡ Done n → Written table rows text out 0 n out′
+  wrote-done n e = told (Done n) e
+
+  pub wrote-bad : w ≡ BadTable → Written table rows text out 9 0 out′
+  wrote-bad e = told BadTable e
+
+  pub wrote-long : w ≡ TooLong → Written table rows text out 1 0 out′
+  wrote-long e = told TooLong e
+
+  pub wrote-short : (n : ℕ) → w ≡ TooShort n → Written table rows text out 8 n out′
+  wrote-short n e = told (TooShort n) e

@@ -1,6 +1,7 @@
 // The C interface: each function answers a number of document 01, 0 for none, and puts its values where it is told.
 ghost use Rattle.exports.specs.Exports.{FoundAt, ComparedTo, TextAt};
 ghost use Rattle.language.specs.Answered.{Answered, Totals};
+ghost use Rattle.language.specs.Written.{Sounded, Written};
 ghost use mathlib.Core.Path.{_≡_};
 ghost use Prim.Native.Nat.{_+_, _*_, _<_};
 ghost use lib.ListN.{length, getD};
@@ -8,6 +9,7 @@ ghost use Rattle.language.specs.Tree.{width};
 use integers::Compared;
 use language::Row;
 use language::WIDTH;
+use language::Wrote;
 use questions::Found;
 
 // 0 with the counts of rows, text bytes and escapes; or the number of a refusal with its place, or what is needed, 0 and 0.
@@ -111,4 +113,46 @@ pub extern "C" fn yay_text(
     *from = 0;
     *to = 0;
     9
+}
+
+// 0 where the rows and the text are those of a document; else 9.
+#[no_mangle]
+pub extern "C" fn yay_sound(table: &[u32], rows: usize, text: &[u8]) -> u32
+    ensures { λ r. ⌜ Sounded (now (table .entry)) rows (now (text .entry)) r ⌝ }
+{
+    if sound::sound(&*table, rows, &*text) {
+        return 0;
+    }
+    9
+}
+
+// 0 with the bytes written; 8 with the bytes needed; or 9 or 1 with 0.
+#[no_mangle]
+pub extern "C" fn yay_write(
+    table: &[u32],
+    rows: usize,
+    text: &[u8],
+    out: &mut [u8],
+    count: &mut usize,
+) -> u32
+    ensures { λ r. ⌜ Written (now (table .entry)) rows (now (text .entry)) (now (out .entry)) r (now (count .exit)) (now (out .exit)) ⌝ }
+{
+    match writer::write(&*table, rows, &*text, out) {
+        Wrote::Done(n) => {
+            *count = n;
+            0
+        }
+        Wrote::BadRow => {
+            *count = 0;
+            9
+        }
+        Wrote::TooLong => {
+            *count = 0;
+            1
+        }
+        Wrote::TooShort(n) => {
+            *count = n;
+            8
+        }
+    }
 }

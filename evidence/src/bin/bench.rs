@@ -125,6 +125,66 @@ fn repeats(bench: &mut Bench) -> usize {
     bad
 }
 
+/// How much more such tables may cost than reading what was written; tables as people have them may cost no more.
+#[cfg(feature = "written")]
+const LABORIOUS: f64 = 2.0;
+
+/// Tables that cost a writer more than they look: nothing but keys, empty arrays, escapes or indentation.
+#[cfg(feature = "written")]
+fn laborious() -> Vec<(&'static str, String)> {
+    let deep = |keys: usize| -> String {
+        let line = |depth: usize, i: usize| format!("{}k{i}: 1\n", "  ".repeat(depth));
+        let open: String = (0..31).map(|depth| format!("{}d:\n", "  ".repeat(depth))).collect();
+        open + &(0..keys).map(|i| line(31, i)).collect::<String>()
+    };
+    vec![
+        ("short keys", keys::short()),
+        ("keys of one chain", keys::of_one_chain()),
+        ("keys of one mark", keys::of_one_mark()),
+        ("empty arrays", format!("[{}[]]\n", "[], ".repeat(5_000))),
+        ("an array of arrays of arrays", format!("[{}[[[1]]]]\n", "[[[1]]], ".repeat(2_500))),
+        ("a string of U+0000", format!("\"{}\"\n", "\\u{0}".repeat(6_000))),
+        ("a string of quotes", format!("'{}'\n", "\"".repeat(16_000))),
+        ("31 levels of indentation", deep(400)),
+    ]
+}
+
+/// What writing costs beside reading what was written; how many documents cost more than they may, or are written
+/// otherwise by the second writer.
+#[cfg(feature = "written")]
+fn written(bench: &mut Bench) -> usize {
+    println!("| Written | Bytes | Reading, µs | Writing, µs | Times | Test of soundness alone, µs |");
+    println!("|---|---:|---:|---:|---:|---:|");
+    let mut bad = 0;
+    // What is written may be longer than what was read, so the documents are of half the length.
+    let shapes = SHAPES.iter().map(|(name, shape)| (*name, shape(&mut Rng::new(1), SIZES[3] / 2), 1.0));
+    let laborious = laborious().into_iter().map(|(name, doc)| (name, doc, LABORIOUS));
+    for (name, doc, most) in shapes.chain(laborious) {
+        let Some(mut best) = bench.written(doc.as_bytes()) else {
+            bad += 1;
+            println!("| {name} | THE WRITERS DIFFER |");
+            continue;
+        };
+        for _ in 1..TIMES {
+            if best.writing <= most * best.reading {
+                break;
+            }
+            best = bench.written(doc.as_bytes()).unwrap_or(best);
+        }
+        let good = best.writing <= most * best.reading;
+        bad += usize::from(!good);
+        print!("| {name} | {} | {:.1} | {:.1} ", best.bytes, best.reading * 1e6, best.writing * 1e6);
+        println!("| {:.2}{} | {:.1} |", best.writing / best.reading, mark(good), best.testing * 1e6);
+    }
+    println!();
+    bad
+}
+
+#[cfg(not(feature = "written"))]
+fn written(_: &mut Bench) -> usize {
+    0
+}
+
 /// The document of a shape by its name.
 fn named(name: &str) -> Option<Vec<u8>> {
     let shape =
@@ -156,6 +216,7 @@ fn main() -> ExitCode {
     println!();
     let mut bad = shapes(&mut bench);
     println!();
+    bad += written(&mut bench);
     bad += hostile(&mut bench);
     println!();
     bad += repeats(&mut bench);

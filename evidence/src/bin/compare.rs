@@ -1,6 +1,7 @@
 //! Compares the proved reader with the second reader, and shows that deliberate faults are found:
-//! `compare [--seed N] [--documents N] [--vectors FILE]`. As long as one likes, with a count every ten seconds, and
-//! without the faults: `compare --soak [--seconds N] [--seed N] [--vectors FILE]`.
+//! `compare [--seed N] [--documents N] [--tables N] [--vectors FILE]`. As long as one likes, with a count every ten
+//! seconds, and without the faults: `compare --soak [--seconds N] [--seed N] [--tables N] [--vectors FILE]`.
+//! With the feature `written`, the writer and the test of soundness too, on tables.
 
 use evidence::compare::run::{run, Difference, Limits};
 use evidence::compare::{faults, forms, places, Comparer, Tally};
@@ -15,18 +16,21 @@ const KINDS: [&str; 10] = ["null", "false", "true", "integer", "float", "string"
 
 /// How many documents a run has.
 const DOCUMENTS: usize = 1_100_000;
-/// From so many on, it must have met every number, kind and place of rows and form of backslash thousands of times.
+/// And how many tables.
+const TABLES: usize = 600_000;
+/// From so many documents on, it must have met every number, kind and place of rows and form of backslash thousands of times.
 const ENOUGH: usize = 1_000_000;
 const THOUSANDS: usize = 2_000;
 
 struct Options {
     limits: Limits,
+    tables: usize,
     soak: bool,
 }
 
 fn options() -> Result<Options, String> {
     let limits = Limits { seed: 1, vectors: Vec::new(), documents: DOCUMENTS, seconds: None };
-    let mut options = Options { limits, soak: false };
+    let mut options = Options { limits, tables: TABLES, soak: false };
     let mut words = std::env::args().skip(1);
     while let Some(word) = words.next() {
         if word == "--soak" {
@@ -39,6 +43,7 @@ fn options() -> Result<Options, String> {
         match word.as_str() {
             "--seed" => options.limits.seed = number?,
             "--documents" => options.limits.documents = number? as usize,
+            "--tables" => options.tables = number? as usize,
             "--seconds" => options.limits.seconds = Some(number?),
             "--vectors" => options.limits.vectors = vectors::load(&value)?,
             _ => return Err(format!("{word} is no option")),
@@ -107,8 +112,22 @@ fn report(tally: &Tally) -> bool {
     false
 }
 
+/// Whether the writer and the test of soundness differ nowhere on so many tables, and every fault in them is found.
+#[cfg(feature = "written")]
+fn written(seed: u64, tables: usize, soak: bool) -> bool {
+    use evidence::compare::writing::told;
+    let found = soak || told::finds_faults(seed, tables);
+    told::differs_nowhere(|| Proved, seed, tables) && found
+}
+
+#[cfg(not(feature = "written"))]
+fn written(_: u64, tables: usize, _: bool) -> bool {
+    println!("no writer yet: {tables} tables are not tried");
+    true
+}
+
 fn main() -> ExitCode {
-    let Options { limits, soak } = match options() {
+    let Options { limits, tables, soak } = match options() {
         Ok(options) => options,
         Err(error) => {
             eprintln!("compare: {error}");
@@ -116,6 +135,7 @@ fn main() -> ExitCode {
         }
     };
     println!("seed {}", limits.seed);
+    let wrote = written(limits.seed, tables, soak);
     let found = soak || finds_faults(&limits);
     let watch = |count| {
         if soak {
@@ -129,5 +149,5 @@ fn main() -> ExitCode {
             false
         }
     };
-    ExitCode::from(u8::from(!found || !same))
+    ExitCode::from(u8::from(!wrote || !found || !same))
 }

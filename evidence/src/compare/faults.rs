@@ -2,6 +2,8 @@
 
 mod escapes;
 mod places;
+mod soundness;
+pub mod writing;
 
 use super::{Questions, Reader, Said, SecondQuestions};
 use crate::second::questions::{Lent, BADROW, NONE};

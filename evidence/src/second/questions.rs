@@ -1,7 +1,7 @@
 //! The questions of document 01, asked of any lent table and text room.
 
 use super::tree::{BYTES, INTEGER, KEY, OBJECT};
-use super::WORDS;
+use super::{MOST, WORDS};
 use std::cmp::Ordering;
 use std::ops::Range;
 
@@ -9,7 +9,8 @@ pub const BADROW: u32 = 9;
 pub const NONE: u32 = 10;
 pub const NOTINT: u32 = 11;
 
-/// What was lent: a table of words, its row count and the text room.
+/// What was lent: a table of words, its row count and the text room. It counts for at most 16,777,216 rows and as many
+/// text bytes, however long it is.
 #[derive(Clone, Copy)]
 pub struct Lent<'a> {
     pub table: &'a [u32],
@@ -20,7 +21,7 @@ pub struct Lent<'a> {
 impl<'a> Lent<'a> {
     /// The words of a good row.
     fn row(&self, row: usize) -> Option<&'a [u32; WORDS]> {
-        if row >= self.rows {
+        if row >= self.rows.min(MOST) {
             return None;
         }
         self.table.get(row.checked_mul(WORDS)?..)?.first_chunk()
@@ -31,7 +32,7 @@ impl<'a> Lent<'a> {
         let words = self.row(row).ok_or(BADROW)?;
         let (from, to) = (words[3] as usize, words[4] as usize);
         let has_text = matches!(words[0], INTEGER..=BYTES | KEY);
-        if has_text && from <= to && to <= self.text.len() {
+        if has_text && from <= to && to <= self.text.len().min(MOST) {
             Ok(from..to)
         } else {
             Err(BADROW)

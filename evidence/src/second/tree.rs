@@ -21,10 +21,10 @@ const FEW: u32 = 8;
 /// Places in a row.
 pub const SPAN_FROM: usize = 1;
 const SPAN_TO: usize = 2;
-const TEXT_FROM: usize = 3;
-const TEXT_TO: usize = 4;
-const PARENT: usize = 5;
-const NEXT: usize = 6;
+pub const TEXT_FROM: usize = 3;
+pub const TEXT_TO: usize = 4;
+pub const PARENT: usize = 5;
+pub const NEXT: usize = 6;
 pub const LINE: usize = 7;
 pub const COLUMN: usize = 8;
 

@@ -1,4 +1,4 @@
-//! `yay`: reads YAY documents for people and scripts.
+//! `yay`: reads and writes YAY documents for people and scripts.
 
 mod accepted;
 mod batch;
@@ -9,6 +9,7 @@ mod integers;
 mod json;
 mod numbers;
 mod outline;
+mod output;
 mod pages;
 mod quote;
 mod refused;
@@ -16,6 +17,7 @@ mod rows;
 mod stop;
 mod told;
 mod words;
+mod write;
 
 use accepted::accepted;
 use std::ffi::OsString;
@@ -52,6 +54,8 @@ fn run_command(words: &Words, out: &mut dyn Write) -> Done {
         "rows" => rows::write(&accepted(words.one_file()?)?.tree(), out),
         "get" => get::run(words, out),
         "json" => json::run(words, out),
+        "write" => write::run(words, out),
+        "fmt" => write::format(words, out),
         "compare" => integers::run(words, out),
         "batch" if words.plain.is_empty() => batch::run(&mut io::stdin().lock(), out),
         "batch" => Err(words.wrong("takes its documents from standard input alone")),

@@ -26,6 +26,8 @@ const NUMBERS: Opt =
     Opt { short: "", long: "--numbers", value: "HOW", what: "numbers in JSON: json (the default), text or exact" };
 const HELP: Opt = Opt { short: "-h", long: "--help", value: "", what: "this page" };
 
+const OUTPUT: Opt = Opt { short: "-o", long: "--output", value: "OUT", what: "into this file, whole or not at all" };
+
 const NUMBERS_TEXT: &str = "
 A number is a JSON number with all its digits, whatever its size; nan and the infinities, for which JSON
 has no number, are strings. With --numbers=text every number is a string of its text. With
@@ -33,7 +35,7 @@ has no number, are strings. With --numbers=text every number is a string of its 
 Bytes are an object of one pair, {\"$bytes\": \"00ff\"}.
 ";
 
-pub const PAGES: [Page; 7] = [
+pub const PAGES: [Page; 9] = [
     Page {
         name: "check",
         words: "FILE..",
@@ -95,6 +97,31 @@ Where the path leads nowhere the exit status is 3. A key that begins with - stan
         integers: false,
     },
     Page {
+        name: "write",
+        words: "FILE",
+        short: "the document written back in the house style",
+        text: "
+Writes the document back in the house style: block objects and arrays, [] and {} where empty, an array
+in an array on one line; strings in double quotes, keys without quotes wherever that is allowed, bytes
+inline, two spaces a level. Reading it gives the same values. COMMENTS ARE NOT KEPT.
+OUT may be FILE itself: it is written beside and renamed, so that it is never half written.
+",
+        options: &[OUTPUT],
+        integers: false,
+    },
+    Page {
+        name: "fmt",
+        words: "FILE..",
+        short: "the same; with --check, which files are not in the house style",
+        text: "
+Writes one document back as the command write does; comments are not kept. With --check it writes none:
+it names each file that is not in the house style, as no file with comments is, and the exit status is
+1 if there is one.
+",
+        options: &[OUTPUT, Opt { short: "", long: "--check", value: "", what: "name the files that would be changed" }],
+        integers: false,
+    },
+    Page {
         name: "compare",
         words: "A B",
         short: "-1, 0 or 1: how the integer A stands to B, of any length",
@@ -116,11 +143,11 @@ writes a line for each: 'no NUMBER PLACE', or 'ok ROWS TEXTBYTES ESCAPES', the w
 ];
 
 const STATUS: &str =
-    "Exit status: 0 good; 1 refused; 2 wrong words, or a file that cannot be read or written; 3 not there.\n";
+    "Exit status: 0 good; 1 refused or not in the house style; 2 wrong words, or a file that cannot be\nread or written; 3 not there.\n";
 
 /// What `yay --help` prints.
 pub fn all() -> String {
-    let mut text = String::from("yay: reads YAY documents by a proved reader\n\n");
+    let mut text = String::from("yay: reads and writes YAY documents by a proved reader and writer\n\n");
     for page in &PAGES {
         text += &format!("  yay {:<20} {}\n", format!("{} {}", page.name, page.words), page.short);
     }

@@ -3,7 +3,7 @@
 mod common;
 use common::{status_unread, yay, Temporary};
 
-const READING: [&str; 5] = ["check", "show", "rows", "get", "json"];
+const READING: [&str; 7] = ["check", "show", "rows", "get", "json", "write", "fmt"];
 
 /// Each command that reads a file gives this status and writes nothing but this to standard error.
 fn all_say(file: &str, status: i32, said: &str) {
@@ -122,7 +122,7 @@ fn wrong_words() {
 
 #[test]
 fn an_unknown_option_is_named_and_never_a_file() {
-    for command in ["check", "show", "rows", "get", "json", "compare", "batch"] {
+    for command in ["check", "show", "rows", "get", "json", "write", "fmt", "compare", "batch"] {
         for option in ["-x", "--nope", "--nope=1", "-qx"] {
             let run = yay(&[command, option, "-"], b"1\n");
             let name = option.split('=').next().unwrap();

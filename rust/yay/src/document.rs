@@ -4,6 +4,7 @@ use crate::limits::{LONGEST, WORDS};
 use crate::reading::{read, Accepted};
 use crate::refusal::Refusal;
 use crate::tree::Tree;
+use crate::writing::{written, Unwritten};
 
 /// An accepted document's rows and text, in memory of its own, and how many escapes it has.
 ///
@@ -36,6 +37,12 @@ impl Document {
 
     pub fn tree(&self) -> Tree<'_> {
         Tree::new(&self.table, self.table.len() / WORDS, &self.text)
+    }
+
+    /// The document written back in the house style; [`Unwritten::Long`](crate::Unwritten) where that takes too many
+    /// bytes.
+    pub fn written(&self) -> Result<Vec<u8>, Unwritten> {
+        written(&self.tree())
     }
 
     /// How many escapes the document's quoted keys and strings have; [`Accepted::escapes`] says what counts.

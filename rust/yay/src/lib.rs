@@ -1,4 +1,4 @@
-//! Reads YAY documents by the reader proved in Rattle (`libyay.a`, include/yay.h).
+//! Reads and writes YAY documents by the reader and the writer proved in Rattle (`libyay.a`, include/yay.h).
 //!
 //! [`read`] fills rooms that the caller lends and allocates nothing; [`Document`] is the same with rooms of its
 //! own. A [`Tree`] answers questions, and knows each row's line and column; both tell how many escapes a document
@@ -26,6 +26,14 @@
 //! # Ok::<(), Box<dyn std::error::Error>>(())
 //! ```
 //!
+//! [`write`] and [`written`] make a document of a table, in one house style; [`sound`] tells whether there is one:
+//!
+//! ```
+//! let document = yay::Document::read(b"doors: [1, 22]  # of the cold store\n")?;
+//! assert_eq!(document.written()?, b"doors:\n  - 1\n  - 22\n");
+//! # Ok::<(), Box<dyn std::error::Error>>(())
+//! ```
+//!
 //! A refusal says why and where, and with the document at hand in a sentence that helps:
 //!
 //! ```
@@ -48,9 +56,10 @@ pub mod shown;
 mod sys;
 mod tree;
 mod values;
+mod writing;
 
 pub use document::Document;
-pub use limits::{LONGEST, NAMES, NESTING, WORDS};
+pub use limits::{LONGEST, MOST, NAMES, NESTING, WORDS};
 pub use path::Missing;
 pub use place::{line_around, position, Place, Position};
 pub use reading::{compare, read, Accepted};
@@ -58,6 +67,7 @@ pub use refusal::{Number, Refusal};
 pub use repeat::first_key;
 pub use tree::{Children, Kind, Row, Tree, ROOT};
 pub use values::{Mismatch, Pairs};
+pub use writing::{sound, write, written, Unwritten};
 
 /// The program of rust/README.md, so that it is compiled with the other examples.
 #[cfg(doctest)]

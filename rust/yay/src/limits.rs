@@ -18,6 +18,8 @@ pub(crate) use {longest, nesting};
 pub const LONGEST: usize = longest!();
 /// The most containers one inside another.
 pub const NESTING: usize = nesting!();
+/// A lent room counts for no more than this: a table for so many rows, a text room and an output for so many bytes.
+pub const MOST: usize = 16_777_216;
 /// What the words of a row are called, in their order.
 pub const NAMES: [&str; 9] = ["kind", "from", "to", "start", "end", "parent", "next", "line", "column"];
 /// Words of a row.

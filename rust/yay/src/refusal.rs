@@ -9,7 +9,7 @@ use std::fmt;
 #[derive(Clone, Copy, PartialEq, Eq, Hash, Debug)]
 #[repr(u32)]
 pub enum Number {
-    /// The document has more than [`LONGEST`](crate::LONGEST) bytes.
+    /// The document, read or written, has more than [`LONGEST`](crate::LONGEST) bytes.
     Long = 1,
     /// The byte at the place belongs to no allowed character.
     Char,
@@ -23,9 +23,9 @@ pub enum Number {
     Repeat,
     /// The table lent has too few words.
     Rows,
-    /// The text room lent has too few bytes.
+    /// The text room lent, or the output, has too few bytes.
     Text,
-    /// A question met a row that the table doesn't have, of the wrong kind, or broken.
+    /// A question met a row that the table doesn't have, of the wrong kind, or broken; or the table isn't sound.
     BadRow,
     /// The key isn't in the object.
     None,
@@ -41,8 +41,8 @@ const NUMBERS: [(Number, &str, &str); 11] = [
     (Number::End, "END", "the document ends too early"),
     (Number::Repeat, "REPEAT", "this key stands in its object already"),
     (Number::Rows, "ROWS", "the table lent has too few words"),
-    (Number::Text, "TEXT", "the text room lent has too few bytes"),
-    (Number::BadRow, "BADROW", "the table has no such row that could be asked this"),
+    (Number::Text, "TEXT", "the text room or output lent has too few bytes"),
+    (Number::BadRow, "BADROW", "the table is not sound, or has no such row that could be asked this"),
     (Number::None, "NONE", "the key isn't in the object"),
     (Number::NotInt, "NOTINT", "a text compared isn't an integer's text"),
 ];

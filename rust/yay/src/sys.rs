@@ -41,6 +41,17 @@ mod linked {
             right_len: usize,
             order: *mut i32,
         ) -> u32;
+        pub fn yay_sound(table: *const u32, words: usize, rows: usize, text: *const u8, text_len: usize) -> u32;
+        pub fn yay_write(
+            table: *const u32,
+            words: usize,
+            rows: usize,
+            text: *const u8,
+            text_len: usize,
+            out: *mut u8,
+            out_len: usize,
+            count: *mut usize,
+        ) -> u32;
     }
 }
 
@@ -102,4 +113,31 @@ pub fn compare(left: &[u8], right: &[u8]) -> (u32, i32) {
     // SAFETY: each pointer and length is that of a live slice, and the answer is apart from them.
     let number = unsafe { linked::yay_compare(left.as_ptr(), left.len(), right.as_ptr(), right.len(), &mut order) };
     (number, order)
+}
+
+/// 0, or the number.
+pub fn sound(table: &[u32], rows: usize, text: &[u8]) -> u32 {
+    // SAFETY: each pointer and length is that of a live slice.
+    unsafe { linked::yay_sound(table.as_ptr(), table.len(), rows, text.as_ptr(), text.len()) }
+}
+
+/// 0 and the bytes written; or the number, and the bytes needed or 0.
+pub fn write(table: &[u32], rows: usize, text: &[u8], out: &mut [u8]) -> (u32, usize) {
+    let mut count = 0;
+    let room = out.len();
+    // SAFETY: each pointer and length is that of a live slice, the output is borrowed by this call alone, and the answer
+    // is apart from all of them.
+    let number = unsafe {
+        linked::yay_write(
+            table.as_ptr(),
+            table.len(),
+            rows,
+            text.as_ptr(),
+            text.len(),
+            out.as_mut_ptr(),
+            room,
+            &mut count,
+        )
+    };
+    (number, count)
 }

@@ -78,6 +78,11 @@ impl<'a> Tree<'a> {
         self.text
     }
 
+    /// The whole table as lent.
+    pub fn table(&self) -> &'a [u32] {
+        self.table
+    }
+
     /// The words of a row.
     pub fn words(&self, row: Row) -> Result<&'a [u32; WORDS], Number> {
         if row.0 >= self.rows {

@@ -1,6 +1,6 @@
 //! The two C headers and the crate say the same: limits, numbers, names, sentences, kinds and parameters.
 
-use yay::{Kind, Number, LONGEST, NAMES, NESTING, WORDS};
+use yay::{Kind, Number, LONGEST, MOST, NAMES, NESTING, WORDS};
 
 fn header(name: &str) -> String {
     let path = format!("{}/../../include/{name}", env!("CARGO_MANIFEST_DIR"));
@@ -27,6 +27,7 @@ fn limits() {
     assert_eq!(defined(&header, "YAY_LONGEST"), LONGEST as u64);
     assert_eq!(defined(&header, "YAY_NESTING"), NESTING as u64);
     assert_eq!(defined(&header, "YAY_WORDS"), WORDS as u64);
+    assert_eq!(defined(&header, "YAY_MOST"), MOST as u64);
 }
 
 #[test]
@@ -75,7 +76,9 @@ fn parameters(text: &str, function: &str, name: fn(&str) -> Option<&str>) -> Vec
 #[test]
 fn parameters_of_the_functions() {
     let (proved, linked) = (header("yay.h"), include_str!("../src/sys.rs"));
-    for (function, count) in [("yay_read", 9), ("yay_text", 8), ("yay_find", 9), ("yay_compare", 5)] {
+    let functions =
+        [("yay_read", 9), ("yay_text", 8), ("yay_find", 9), ("yay_compare", 5), ("yay_sound", 5), ("yay_write", 8)];
+    for (function, count) in functions {
         let in_c = parameters(&proved, function, |parameter| parameter.rsplit([' ', '*']).next());
         let in_rust = parameters(linked, function, |parameter| Some(parameter.split_once(':')?.0));
         assert_eq!((in_c.len(), in_c), (count, in_rust), "{function}");

@@ -39,7 +39,7 @@ fn rooms_too_small_say_what_is_needed_and_stay() {
     let refusal = read(b"[1, 22]\n", &mut table, &mut text[..2]).unwrap_err();
     assert_eq!(refusal, Refusal { number: Number::Text, place: Place(3), position: None });
     assert_eq!((table, text), ([9; 3 * WORDS], [9; 3]));
-    assert_eq!(refusal.to_string(), "TEXT (8): the text room lent has too few bytes, 3 are needed");
+    assert_eq!(refusal.to_string(), "TEXT (8): the text room or output lent has too few bytes, 3 are needed");
 }
 
 #[test]

@@ -1,7 +1,10 @@
--- `good` tells a good row: with the row below the words divided by the width, no product can wrap.
+-- `good` tells a good row: with the row below the rows that the table counts for, no product can wrap.
 use Rattle.questions.proofs.RowLaws.{rows}
 use Rattle.questions.proofs.table.good.Statement.{statement}
 use Rattle.questions.proofs.table.good.Tie as tie
+
+rows-lent-requires : tie.Need-rows-lent-requires
+rows-lent-requires c κs = search rows
 
 returns : tie.Need-returns
 returns c = search rows
@@ -10,4 +13,4 @@ returns-2 : tie.Need-returns-2
 returns-2 c = search rows
 
 pub good-spec : {M : Type 1} → statement M
-good-spec = tie.close (tie.spec returns returns-2)
+good-spec = tie.close (tie.spec rows-lent-requires returns returns-2)

@@ -18,6 +18,9 @@ word-requires c κs = search rows
 word-requires-2 : tie.Need-word-requires-2
 word-requires-2 c κs = search rows
 
+bytes-lent-requires : tie.Need-bytes-lent-requires
+bytes-lent-requires c κs = search rows
+
 returns : tie.Need-returns
 returns c = search rows
 
@@ -39,6 +42,7 @@ readable-spec =
     has-text-requires
     word-requires
     word-requires-2
+    bytes-lent-requires
     returns
     returns-2
     returns-3

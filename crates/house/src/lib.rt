@@ -1,0 +1,1 @@
+// What is proved of the house style stands in specs/; this crate has no code.

@@ -1,0 +1,50 @@
+-- `apart` tells whether no two keys have one text. The loop's invariant: none have exactly if none from here on have.
+use Rattle.sound.proofs.KeyLaws.{sifting, Sifted}
+use Prim.Native.Nat.{_-_}
+use Rattle.sound.proofs.once.apart.Statement.{statement}
+use Rattle.sound.proofs.once.apart.Tie as tie
+
+abbrev Inv-loop : tie.InvT-loop
+Inv-loop table text from stop r₀ r = Sifted table text from stop r
+
+abbrev μ-loop : tie.MeasureT-loop
+μ-loop table text from stop r₀ r = stop - r
+
+loop-holds : tie.Need-loop-holds Inv-loop μ-loop
+loop-holds c = search sifting
+
+add-word : tie.Need-add-word Inv-loop μ-loop
+add-word c = search sifting
+
+word-requires : tie.Need-word-requires Inv-loop μ-loop
+word-requires c κs = search sifting
+
+among-requires : tie.Need-among-requires Inv-loop μ-loop
+among-requires c κs = search sifting
+
+returns : tie.Need-returns Inv-loop μ-loop
+returns c = search sifting
+
+loop-less : tie.Need-loop-less Inv-loop μ-loop
+loop-less c = search sifting
+
+loop-again : tie.Need-loop-again Inv-loop μ-loop
+loop-again c = search sifting
+
+returns-2 : tie.Need-returns-2 Inv-loop μ-loop
+returns-2 c = search sifting
+
+pub apart-spec : {M : Type 1} → statement M
+apart-spec =
+    tie.close
+    (tie.spec
+    Inv-loop
+    μ-loop
+    loop-holds
+    add-word
+    word-requires
+    among-requires
+    returns
+    loop-less
+    loop-again
+    returns-2)

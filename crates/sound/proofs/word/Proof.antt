@@ -1,0 +1,30 @@
+-- `word` gives a word of a row. Assumes nothing.
+use native.Mathlib.Omega.{arith}
+use Prim.Native.Nat.{_+_, _*_}
+use borrow.Author.Needs.{needs}
+use Rattle.sound.proofs.word.Statement.{statement}
+use Rattle.sound.proofs.word.Tie as tie
+use Rattle.language.specs.Tree.{width}
+
+mul-result : tie.Need-mul-result
+mul-result c = search needs
+
+add-result : tie.Need-add-result
+add-result c = search needs
+
+mul-result-2 : tie.Need-mul-result-2
+mul-result-2 c = search needs
+
+shared-slice-read-result : tie.Need-shared-slice-read-result
+shared-slice-read-result c = search needs
+
+cast-result : tie.Need-cast-result
+cast-result c = omega (arith, c .shared-slice-known .given (width * c .before .args .r + c .before .args .j))
+
+returns : tie.Need-returns
+returns c = (search needs, omega (arith, c .shared-slice-known .given (width * c .before .args .r + c .before .args .j)))
+
+pub word-spec : {M : Type 1} → statement M
+word-spec =
+    tie.close
+    (tie.spec mul-result add-result mul-result-2 shared-slice-read-result cast-result returns)

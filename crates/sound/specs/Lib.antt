@@ -1,0 +1,10 @@
+pub mod Distinct
+pub mod Members
+pub mod Tested
+pub mod Walk
+pub mod Pairs
+pub mod Rows
+pub mod Keys
+pub mod Pairwise
+pub mod Contract
+pub mod Sounding
