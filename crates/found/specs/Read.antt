@@ -17,7 +17,7 @@ use Rattle.questions.specs.declared.Found.{Found}
 use Rattle.questions.specs.declared.Found.the-variants.{BadRow}
 use Rattle.questions.specs.Walk.{foundReply, object, Finds, refused}
 use Rattle.questions.specs.Unique.{one-found}
-use Rattle.spans.specs.Document.{placed, sound, in-document, few-rows, few-text}
+use Rattle.spans.specs.Document.{placed, document-formed, in-document, few-rows, few-text}
 use Rattle.rooms.specs.Forest.{length-rows}
 use Rattle.spans.specs.Placed.{itself}
 use Rattle.spans.specs.Rising.{firsts, firsts-within, document-rises}
@@ -83,7 +83,7 @@ no-object {table} {room} {s} {n} {r} f false e m g = one-found table n room s r 
 
 finds-exactly : {doc : List ℕ} {n : ℕ} {table room : List ℕ} {t : Tree} → Reads doc t → Filled t n table room → FindsExactly t n table room
 finds-exactly {doc} {n} {table} {t = t} d h =
-    let o = objects h (sound deepest doc t (d .word)) in
+    let o = objects h (document-formed deepest doc t (d .word)) in
     record {
       objects-are = o;
       one-list = λ y w. one-object y w;

@@ -10,17 +10,17 @@ use Rattle.repeats.specs.declared.Repeat.the-variants.{At, Nowhere}
 use Rattle.exact.specs.Class.{clash}
 use Rattle.exact.specs.Tells.{Tells, tells-yes, tells-no}
 use Rattle.repeats.specs.Numbering.{Numbering, markOf}
-use Rattle.repeats.specs.Order.{name-same}
+use Rattle.repeats.specs.Order.{Ordered, nameOf, name-same, same-name}
 use Rattle.repeats.specs.Links.{Earlier}
 use Rattle.repeats.specs.Later.{Names, Later, names-few}
 use Rattle.repeats.specs.Sorted.{Ranked, ranked-none, Sought, seek-first, seek-key, seek-less, seek-more, seek-none, Inserted, ranked-more}
 use Rattle.places.specs.declared.names.Marks.{Marks}
-use Rattle.places.specs.declared.names.Order.{Order}
-use Rattle.places.specs.declared.names.Order.the-variants.{Less, Same as Equal, More}
-use Rattle.places.specs.declared.sorted.Found.{Found}
-use Rattle.places.specs.declared.sorted.Found.the-variants.{Gap, There}
+use Rattle.repeats.specs.declared.Order.{Order}
+use Rattle.repeats.specs.declared.Order.the-variants.{Less, Same as Equal, More}
+use Rattle.repeats.specs.declared.Found.{Found}
+use Rattle.repeats.specs.declared.Found.the-variants.{Gap, There}
 use Rattle.places.specs.Places.{placeAt, placeKeys, Placed}
-use Rattle.places.specs.Names.{Keyed, MarksOf, Compared, Ordered, Stand}
+use Rattle.places.specs.Names.{Keyed, MarksOf, Compared, Stand}
 use Rattle.places.specs.Walks.{Held, held-none, held-key, held-more, held-compared, pass-none, pass-again, pass-done}
 
 -- ---- where a key belongs
@@ -29,29 +29,29 @@ pub record Seeking (doc keys marks order : List ℕ) (i : ℕ) : Type 0 where
   pub n : ℕ
   pub low : i < n
   pub held : Held doc keys marks n (i + 1)
-  pub ranked : Ranked (placeKeys doc keys) order i
+  pub ranked : Ranked (nameOf (placeKeys doc keys)) order i
   pub room : n ≤ length order
 
 -- between the first p and the others; or it is the same as one of them
 unfoldable pub Finds : List ℕ → List ℕ → List ℕ → ℕ → Found → Type 0
-Finds doc keys order i (Gap p) = Sought (placeKeys doc keys) order i p p
+Finds doc keys order i (Gap p) = Sought (nameOf (placeKeys doc keys)) (nameOf (placeKeys doc keys) i) order i p p
 Finds doc keys order i There = Earlier (placeKeys doc keys) i
 
 pub gap-within : (doc keys order : List ℕ) (i : ℕ) (r : Found) → Finds doc keys order i r → (p : ℕ) → r ≡ Gap p → p ≤ i
 unfolding Finds
-gap-within doc keys order i r y p e = let x : Sought (placeKeys doc keys) order i p p = rw e at y in x .inside
+gap-within doc keys order i r y p e = let x : Sought (nameOf (placeKeys doc keys)) (nameOf (placeKeys doc keys) i) order i p p = rw e at y in x .inside
 
 module _ (doc keys marks order : List ℕ) (i : ℕ) (w : Seeking doc keys marks order i) where
   abbrev N : Numbering
   N = placeKeys doc keys
 
-  pub find-first : Sought N order i 0 i
-  find-first = seek-first N order i (w .ranked)
+  pub find-first : Sought (nameOf N) (nameOf N i) order i 0 i
+  find-first = seek-first (nameOf N) (nameOf N i) order i (w .ranked)
 
   pub find-few : i < 8192
   find-few = omega (arith, w .held .placed .few, w .low)
 
-  module _ (lo hi : ℕ) (x : Sought N order i lo hi) where
+  module _ (lo hi : ℕ) (x : Sought (nameOf N) (nameOf N i) order i lo hi) where
     pub find-gap : hi ≤ lo → Finds doc keys order i (Gap lo)
     unfolding Finds
     find-gap l = let e : hi ≡ lo = omega (arith, x .ordered) in rw e at x
@@ -68,7 +68,7 @@ module _ (doc keys marks order : List ℕ) (i : ℕ) (w : Seeking doc keys marks
 
       module _ (k : ℕ) (f : k ≡ getD order mid 0) where
         key : k < i
-        key = rw f (seek-key N order i (w .ranked) lo hi mid x (omega arith) (omega arith))
+        key = rw f (seek-key (nameOf N) (nameOf N i) order i (w .ranked) lo hi mid x (omega arith) (omega arith))
 
         pub find-compared : Compared doc keys marks i k
         find-compared = held-compared doc keys marks (w .n) i (w .low) (w .held) k key
@@ -78,13 +78,13 @@ module _ (doc keys marks order : List ℕ) (i : ℕ) (w : Seeking doc keys marks
           unfolding Finds Ordered
           find-there h = record { other = k; key = record { before = key; key = tt }; same = name-same N i k (rw h at t) }
 
-          pub find-below : r ≡ Less → Sought N order i lo mid
+          pub find-below : r ≡ Less → Sought (nameOf N) (nameOf N i) order i lo mid
           unfolding Ordered
-          find-below h = seek-less N order i (w .ranked) lo hi mid x (omega arith) (omega arith) (rw f at (rw h at t))
+          find-below h = seek-less (nameOf N) (nameOf N i) order i (w .ranked) lo hi mid x (omega arith) (omega arith) (rw f at (rw h at t))
 
-          pub find-above : (lo′ : ℕ) → r ≡ More → lo′ ≡ mid + 1 → Sought N order i lo′ hi
+          pub find-above : (lo′ : ℕ) → r ≡ More → lo′ ≡ mid + 1 → Sought (nameOf N) (nameOf N i) order i lo′ hi
           unfolding Ordered
-          find-above lo′ h z = rw z (seek-more N order i (w .ranked) lo hi mid x (omega arith) (omega arith) (rw f at (rw h at t)))
+          find-above lo′ h z = rw z (seek-more (nameOf N) (nameOf N i) order i (w .ranked) lo hi mid x (omega arith) (omega arith) (rw f at (rw h at t)))
 
 pub ruleset finding = (find-first, find-few, find-gap, find-sum, find-inside, find-less, find-compared, find-there, find-below, find-above, needs)
 
@@ -94,13 +94,13 @@ pub record Joining (doc keys order marks : List ℕ) (i : ℕ) : Type 0 where
   pub n : ℕ
   pub low : i < n
   pub held : Held doc keys marks n i
-  pub ranked : Ranked (placeKeys doc keys) order i
+  pub ranked : Ranked (nameOf (placeKeys doc keys)) order i
   pub room : n ≤ length order
 
 pub record Joined (doc keys order marks : List ℕ) (i : ℕ) (r : Bool) : Type 0 where
   pub tells : Tells (Earlier (placeKeys doc keys) i) r
   pub stored : (k : ℕ) → k < i + 1 → getD marks k 0 ≡ markOf (placeKeys doc keys) k
-  pub ranked : r ≡ false → Ranked (placeKeys doc keys) order (i + 1)
+  pub ranked : r ≡ false → Ranked (nameOf (placeKeys doc keys)) order (i + 1)
 
 module _ (doc keys order marks : List ℕ) (i : ℕ) (w : Joining doc keys order marks i) where
   pub join-room : i + 1 < length keys
@@ -131,16 +131,16 @@ module _ (doc keys order marks : List ℕ) (i : ℕ) (w : Joining doc keys order
       join-there f = record { tells = rw f at y; stored = held .stored; ranked = λ g. absurd (clash refl g) }
 
       module _ (p : ℕ) (f : r ≡ Gap p) where
-        sought : Sought (placeKeys doc keys) order i p p
+        sought : Sought (nameOf (placeKeys doc keys)) (nameOf (placeKeys doc keys) i) order i p p
         unfolding Finds
         sought = rw f at y
 
         pub join-gap : (order′ : List ℕ) → Inserted order order′ p i → Joined doc keys order′ (set marks i (m .mark)) i false
         join-gap order′ z =
             record {
-              tells = λ u. seek-none (placeKeys doc keys) order i (w .ranked) p sought (u .other) (u .key .before) (u .same);
+              tells = λ u. seek-none (nameOf (placeKeys doc keys)) (nameOf (placeKeys doc keys) i) order i (w .ranked) p sought (u .other) (u .key .before) (same-name (placeKeys doc keys) i (u .other) (u .same));
               stored = held .stored;
-              ranked = λ g. ranked-more (placeKeys doc keys) order order′ p i (w .ranked) sought z;
+              ranked = λ g. ranked-more (nameOf (placeKeys doc keys)) order order′ p i (w .ranked) sought z;
             }
 
 pub ruleset joining = (join-room, join-low, join-order, join-few, join-key, join-seeking, join-there, gap-within, join-gap, needs)
@@ -151,13 +151,13 @@ pub record Sorting (doc keys order marks : List ℕ) (n i : ℕ) : Type 0 where
   pub within : i ≤ n
   pub held : Held doc keys marks n i
   pub room : n ≤ length order
-  pub ranked : Ranked (placeKeys doc keys) order i
+  pub ranked : Ranked (nameOf (placeKeys doc keys)) order i
   pub names : Names (Later (placeKeys doc keys) i) Nowhere
 
 module _ (doc keys : List ℕ) (n : ℕ) where
   pub sorting-first : (order marks : List ℕ) → Placed doc keys n → n ≤ length order → n ≤ length marks → Sorting doc keys order marks n 0
   sorting-first order marks p l m =
-      record { within = omega arith; held = held-none doc keys marks n p m; room = l; ranked = ranked-none (placeKeys doc keys) order; names = names-few (placeKeys doc keys) 0 (omega arith) }
+      record { within = omega arith; held = held-none doc keys marks n p m; room = l; ranked = ranked-none (nameOf (placeKeys doc keys)) order; names = names-few (placeKeys doc keys) 0 (omega arith) }
 
   module _ (order marks : List ℕ) (i : ℕ) (x : Sorting doc keys order marks n i) where
     pub sorting-joining : i < n → Joining doc keys order marks i

@@ -19,13 +19,13 @@ use Rattle.notes.specs.Lie.{KeyAt}
 use Rattle.exact.specs.Tells.{Tells}
 use Rattle.repeats.specs.Mark.{marked, markFrom, mark}
 use Rattle.repeats.specs.Numbering.{Numbering, Same, markOf, stir}
-use Rattle.repeats.specs.Order.{Precedes, shorter, lower, further, nameOf, name-same, apart}
+use Rattle.repeats.specs.Order.{shorter, Ordered, ordered-less, ordered-more, ordered-further, nameOf, name-same, apart}
 use Rattle.places.specs.declared.spelling.Spelling.{Spelling}
 use Rattle.places.specs.declared.spelling.Given.{Given}
 use Rattle.places.specs.declared.spelling.Given.the-variants as given
 use Rattle.places.specs.declared.names.Marks.{Marks}
-use Rattle.places.specs.declared.names.Order.{Order}
-use Rattle.places.specs.declared.names.Order.the-variants.{Less, Same as Equal, More}
+use Rattle.repeats.specs.declared.Order.{Order}
+use Rattle.repeats.specs.declared.Order.the-variants.{Less, Same as Equal, More}
 use Rattle.places.specs.Places.{objectAt, placeAt, spelled, ends, placeKeys}
 use Rattle.places.specs.Spelling.{Rest, Spellable, Gave, Nexts, Begins, weight, rest-tail, begin-bare, step}
 use Rattle.places.specs.Left.{key-more, key-over}
@@ -175,27 +175,6 @@ module _ (doc : List ℕ) (at object : ℕ) where
     bare-low = x .low
 
 -- ---- the order of two texts
-
--- how two lists stand to each other
-unfoldable pub Ordered : List ℕ → List ℕ → Order → Type 0
-Ordered s t Less = Precedes s t
-Ordered s t Equal = s ≡ t
-Ordered s t More = Precedes t s
-
-module _ (b c : ℕ) (s t : List ℕ) where
-  pub ordered-less : b < c → Ordered (b ∷ s) (c ∷ t) Less
-  unfolding Ordered
-  ordered-less l = lower l
-
-  pub ordered-more : c < b → Ordered (b ∷ s) (c ∷ t) More
-  unfolding Ordered
-  ordered-more l = lower l
-
-  pub ordered-further : b ≡ c → (r : Order) → Ordered s t r → Ordered (b ∷ s) (c ∷ t) r
-  unfolding Ordered
-  ordered-further e Less x = further e x
-  ordered-further e Equal x = rw (e, x) refl
-  ordered-further e More x = further (sym e) x
 
 -- two texts agree so far: they stand to each other as what is left of them does
 pub record Agree (doc : List ℕ) (a b : ℕ) (room : List ℕ) (p : Spelling) (room₂ : List ℕ) (q : Spelling) : Type 0 where

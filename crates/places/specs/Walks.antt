@@ -11,11 +11,12 @@ use borrow.Author.Needs.{needs}
 use Rattle.repeats.specs.declared.Repeat.the-variants.{At, Nowhere}
 use Rattle.exact.specs.Tells.{Tells, tells-yes, tells-no}
 use Rattle.repeats.specs.Numbering.{Numbering, Same, markOf, stir, spread, chainOf, chainAt}
-use Rattle.repeats.specs.Links.{Earlier, Chains, Walked, walk-first, walk-none, walk-key, walk-room, walk-less, walk-same, walk-more, note-walkable, note-low, note-small, note-met, note-past, note-chains}
+use Rattle.repeats.specs.Walk.{Walks, walks-long, Walking, chain-first, chain-none, chain-before, chain-met, chain-room, chain-less, chain-more}
+use Rattle.repeats.specs.Links.{Earlier, Chains, note-walkable, note-low, note-small, note-met, note-past, note-chains}
 use Rattle.repeats.specs.Links
 use Rattle.repeats.specs.Later.{Names, Later, names-few, names-same, names-first, chains-start}
-use Rattle.places.specs.declared.Walk.{Walk}
-use Rattle.places.specs.declared.Walk.the-variants.{Met, Past, Long}
+use Rattle.repeats.specs.declared.Walk.{Walk}
+use Rattle.repeats.specs.declared.Walk.the-variants.{Met, Past, Long}
 use Rattle.places.specs.declared.names.Marks.{Marks}
 use Rattle.places.specs.Places.{objectAt, placeAt, placeKeys, Placed}
 use Rattle.places.specs.Names.{Keyed, MarksOf, Compared}
@@ -61,58 +62,18 @@ module _ (doc keys marks : List ℕ) (n i : ℕ) (l : i < n) where
 
 -- ---- a walk along a chain, which may be broken off
 
--- what it tells of A
-unfoldable pub Walks : Type 0 → Walk → Type 0
-Walks A Met = A
-Walks A Past = A → ⊥
-Walks A Long = Unit {0}
-
 pub record Walkable (doc keys marks links : List ℕ) (head i : ℕ) : Type 0 where
   pub n : ℕ
   pub low : i < n
   pub held : Held doc keys marks n (i + 1)
   pub walk : Links.Walkable (placeKeys doc keys) links head i
 
--- the walk has come to h, and taken no more steps than it may
-pub record Walking (doc keys links : List ℕ) (head i h steps : ℕ) : Type 0 where
-  pub walked : Walked (placeKeys doc keys) links head i h
-  pub few : steps ≤ 16
-
 module _ (doc keys marks links : List ℕ) (head i : ℕ) (w : Walkable doc keys marks links head i) where
-  abbrev N : Numbering
-  N = placeKeys doc keys
+  pub chain-compared : (h steps : ℕ) → Walking (placeKeys doc keys) (Same (placeKeys doc keys) i) links head i h steps → 0 < h → (k : ℕ) → k ≡ h - 1 → Compared doc keys marks i k
+  chain-compared h steps x l k e =
+      held-compared doc keys marks (w .n) i (w .low) (w .held) k (chain-before (placeKeys doc keys) (Same (placeKeys doc keys) i) links head i (w .walk) h steps x l k e)
 
-  pub chain-first : Walking doc keys links head i head 0
-  chain-first = record { walked = walk-first N links head i (w .walk); few = omega arith }
-
-  pub chain-long : Walks (Links.Met N links head i) Long
-  unfolding Walks
-  chain-long = tt
-
-  module _ (h steps : ℕ) (x : Walking doc keys links head i h steps) where
-    pub chain-none : h ≤ 0 → Walks (Links.Met N links head i) Past
-    unfolding Walks
-    chain-none l = walk-none N links head i (w .walk) h (x .walked) l
-
-    module _ (l : 0 < h) where
-      pub chain-compared : (k : ℕ) → k ≡ h - 1 → Compared doc keys marks i k
-      chain-compared k e = held-compared doc keys marks (w .n) i (w .low) (w .held) k (omega (arith, walk-key N links head i (w .walk) h (x .walked) l .before))
-
-      pub chain-met : (k : ℕ) (r : Bool) → k ≡ h - 1 → r ≡ true → Tells (Same N i k) r → Walks (Links.Met N links head i) Met
-      unfolding Walks
-      chain-met k r e f t = walk-same N links head i (w .walk) h (x .walked) l (rw e at (tells-yes r f t))
-
-      pub chain-room : (k : ℕ) → k ≡ h - 1 → k < length links
-      chain-room k e = omega (arith, walk-room N links head i (w .walk) h (x .walked) l)
-
-      pub chain-less : (k g : ℕ) → k ≡ h - 1 → g ≡ getD links k 0 → g < h
-      chain-less k g e f = rw (f, e) (walk-less N links head i (w .walk) h l)
-
-      pub chain-more : (k g : ℕ) (r : Bool) → k ≡ h - 1 → g ≡ getD links k 0 → r ≡ false → Tells (Same N i k) r → (steps ≡ 16 → ⊥) → Walking doc keys links head i g (steps + 1)
-      chain-more k g r e z f t o =
-          record { walked = rw (z, e) (walk-more N links head i (w .walk) h (x .walked) l (rw e at (tells-no r f t))); few = omega (arith, x .few, o) }
-
-pub ruleset walking = (chain-first, chain-long, chain-none, chain-compared, chain-met, chain-room, chain-less, chain-more, needs)
+pub ruleset walking = (chain-first, walks-long, chain-none, chain-compared, chain-met, chain-room, chain-less, chain-more, needs)
 
 -- ---- a key takes its place in its chain
 
@@ -165,7 +126,7 @@ module _ (doc keys heads links marks : List ℕ) (i : ℕ) (w : Chaining doc key
           walk = note-walkable (placeKeys doc keys) heads links i (w .noting) c chain-is;
         })
 
-    pub chained-all : (head : ℕ) → head ≡ getD heads c 0 → (r : Walk) → Walks (Links.Met (placeKeys doc keys) links head i) r
+    pub chained-all : (head : ℕ) → head ≡ getD heads c 0 → (r : Walk) → Walks (Links.Met (Same (placeKeys doc keys) i) links head) r
         → Chained doc keys (set heads c (i + 1)) (set links i (getD heads c 0)) (set marks i (m .mark)) i r
     unfolding Walks
     chained-all head z r t =
@@ -175,7 +136,7 @@ module _ (doc keys heads links marks : List ℕ) (i : ℕ) (w : Chaining doc key
           tells = go r (rw z at t);
         }
       where
-        go : (r : Walk) → Walks (Links.Met (placeKeys doc keys) links (getD heads c 0) i) r → Walks (Earlier (placeKeys doc keys) i) r
+        go : (r : Walk) → Walks (Links.Met (Same (placeKeys doc keys) i) links (getD heads c 0)) r → Walks (Earlier (placeKeys doc keys) i) r
         go Met t = note-met (placeKeys doc keys) heads links i (w .noting) c chain-is t
         go Past t = note-past (placeKeys doc keys) heads links i (w .noting) c chain-is t
         go Long t = tt

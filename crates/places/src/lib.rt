@@ -1,11 +1,12 @@
 // Repeated keys, found by their places: the keys noted of a document stand in chains; where a chain grows long, in the order of their names.
 ghost use mathlib.Core.Path.{_≡_};
 ghost use Prim.Native.Nat.{_≤_, _<_};
-ghost use Rattle.repeats.specs.Numbering.{spread};
+ghost use Rattle.repeats.specs.Numbering.{Same};
+ghost use Rattle.repeats.specs.Walk.{Walks};
 ghost use Rattle.repeats.specs.Links.{Met};
 ghost use Rattle.repeats.specs.Later.{Names, Later};
 ghost use Rattle.places.specs.Places.{placeKeys, Placed};
-ghost use Rattle.places.specs.Walks.{Walkable, Walks, Chaining, Chained, Starting};
+ghost use Rattle.places.specs.Walks.{Walkable, Chaining, Chained, Starting};
 ghost use Rattle.places.specs.Log.{Log, Told};
 
 mod names;
@@ -17,8 +18,10 @@ use names::marks_of;
 use names::object_of;
 use names::place_of;
 use names::same_key;
-use names::word;
 use repeats::Repeat;
+use repeats::Walk;
+use repeats::chain_of;
+use repeats::word;
 use sorted::sorted;
 
 // Four bytes or more of a document belong to each key.
@@ -32,25 +35,10 @@ const SOME: usize = 2048;
 // A chain is looked through so far.
 const STEPS: usize = 16;
 
-// What a look through a chain gives: the same key is met, or not, or the chain is too long.
-pub enum Walk {
-    Met,
-    Past,
-    Long,
-}
-
-// The chain that a key belongs to.
-fn chain_of(stir: usize) -> usize
-    requires { ⌜ stir < 4294967296 ⌝ }
-    ensures { λ r. ⌜ r ≡ spread stir ⌝ }
-{
-    (stir + stir / 1048576) % 4096
-}
-
 // Whether a key in the chain from `head` is the same as the i-th. A link leads to an earlier key, so the walk ends.
 fn in_chain(doc: &[u8], keys: &[u32], marks: &[u32], links: &[u16], head: usize, i: usize) -> Walk
     requires { ⌜ Walkable (now doc) (now keys) (now marks) (now links) head i ⌝ }
-    ensures { λ r. ⌜ Walks (Met (placeKeys (now (doc .entry)) (now (keys .entry))) (now (links .entry)) head i) r ⌝ }
+    ensures { λ r. ⌜ Walks (Met (Same (placeKeys (now (doc .entry)) (now (keys .entry))) i) (now (links .entry)) head) r ⌝ }
 {
     let mut h = head;
     let mut steps = 0;

@@ -1,12 +1,13 @@
 // What keys are told apart by: their marks, their objects, and their texts where both agree.
 ghost use mathlib.Core.Path.{_≡_};
-ghost use Prim.Native.Nat.{_+_, _*_, _%_, _<_};
-ghost use lib.ListN.{length, getD};
+ghost use Prim.Native.Nat.{_+_, _<_};
+ghost use lib.ListN.{length};
 ghost use Rattle.exact.specs.Tells.{Tells};
 ghost use Rattle.repeats.specs.Mark.{marked};
 ghost use Rattle.repeats.specs.Numbering.{Same};
+ghost use Rattle.repeats.specs.Order.{Ordered};
 ghost use Rattle.places.specs.Places.{objectAt, placeAt, spelled, placeKeys};
-ghost use Rattle.places.specs.Names.{Bare, Keyed, MarksOf, Ordered, Compared, Stand};
+ghost use Rattle.places.specs.Names.{Bare, Keyed, MarksOf, Compared, Stand};
 use super::spelling::Given;
 use super::spelling::begin;
 use super::spelling::next;
@@ -14,14 +15,9 @@ use characters::Reading;
 use characters::Took;
 use characters::is_key;
 use notes::PLACES;
+use repeats::Order;
+use repeats::stirred;
 use rooms::Cursor;
-
-// How two keys stand to each other in the order of their names.
-pub enum Order {
-    Less,
-    Same,
-    More,
-}
 
 // What a text leads to: its mark, and a number that picks its chain.
 pub struct Marks {
@@ -45,27 +41,11 @@ pub fn place_of(keys: &[u32], i: usize) -> usize
     keys[i + 1] as usize % PLACES
 }
 
-// A word of the chains or of the order, as a number of keys.
-pub fn word(words: &[u16], x: usize) -> usize
-    requires { ⌜ x < length (now words) ⌝ }
-    ensures { λ r. ⌜ (r ≡ getD (now (words .entry)) x 0) × (r < 65536) ⌝ }
-{
-    words[x] as usize
-}
-
 // A byte more in a mark: twice the mark so far plus that byte, wrapping.
 fn marked(h: u32, b: u8) -> u32
     ensures { λ r. ⌜ r ≡ marked h b ⌝ }
 {
     std::num::wrapping_add_u32(std::num::wrapping_add_u32(h, h), b as u32)
-}
-
-// A byte stirred into the number that picks a chain.
-fn stirred(h: usize, b: u8) -> usize
-    requires { ⌜ h < 4294967296 ⌝ }
-    ensures { λ r. ⌜ r ≡ (31 * h + b) % 4294967296 ⌝ }
-{
-    (31 * h + b as usize) % 4294967296
 }
 
 // The marks of the bare key at a place, in an object.

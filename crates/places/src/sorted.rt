@@ -2,22 +2,17 @@
 ghost use Prim.Native.Nat.{_≤_, _<_};
 ghost use lib.ListN.{length};
 ghost use Rattle.repeats.specs.Later.{Names, Later};
-ghost use Rattle.repeats.specs.Sorted.{Inserted};
 ghost use Rattle.places.specs.Places.{placeKeys, Placed};
 ghost use Rattle.places.specs.Joins.{Seeking, Finds, Joining, Joined};
-use super::names::Order;
 use super::names::marks_of;
 use super::names::object_of;
 use super::names::ordered;
 use super::names::place_of;
-use super::names::word;
+use repeats::Found;
+use repeats::Order;
 use repeats::Repeat;
-
-// Where a key belongs among those in order: behind so many, or it is there already.
-pub enum Found {
-    Gap(usize),
-    There,
-}
+use repeats::insert;
+use repeats::word;
 
 // Where the i-th key belongs among those before it.
 fn find(doc: &[u8], keys: &[u32], marks: &[u32], order: &[u16], i: usize) -> Found
@@ -42,19 +37,6 @@ fn find(doc: &[u8], keys: &[u32], marks: &[u32], order: &[u16], i: usize) -> Fou
         }
     }
     Found::Gap(lo)
-}
-
-// The i-th key put behind the first p of those before it.
-fn insert(order: &mut [u16], p: usize, i: usize)
-    requires { ⌜ (p ≤ i) × (i < length (now order)) × (i < 65536) ⌝ }
-    ensures { λ _. ⌜ Inserted (now (order .entry)) (now (order .exit)) p i ⌝ }
-{
-    let mut j = i;
-    while p < j {
-        order[j] = order[j - 1];
-        j -= 1;
-    }
-    order[p] = i as u16;
 }
 
 // Whether the i-th key is among those before it; if not it joins them.

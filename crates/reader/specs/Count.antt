@@ -12,7 +12,7 @@ use Rattle.language.specs.Tree.{Tree, leaf, node, Forest, none, more, count, si
 use Rattle.language.specs.Document.{Document}
 use Rattle.notes.specs.Flat.{Named, named, flat, flats}
 use Rattle.spans.specs.Keys.{isKey, keysIn, keysAmong, value-none}
-use Rattle.spans.specs.Document.{few-keys, sound}
+use Rattle.spans.specs.Document.{few-keys, document-formed}
 
 count-append : (xs ys : List Named) → count (xs ++ ys) ≡ count xs + count ys
 count-append [] ys = omega arith
@@ -60,4 +60,4 @@ mutual
 
 -- a document is no key
 pub few-noted : (k : ℕ) (doc : List ℕ) (t : Tree) → Document k doc t → 4 * count (flat 0 0 t) ≤ length doc
-few-noted k doc t d = omega (arith, few-keys k doc t d, count-flat 0 0 t, value-none (sound k doc t d))
+few-noted k doc t d = omega (arith, few-keys k doc t d, count-flat 0 0 t, value-none (document-formed k doc t d))

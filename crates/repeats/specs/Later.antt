@@ -62,7 +62,7 @@ names-first N n i x o l k e =
     by q y (no h) (no d) = let g = o (y .number) (omega arith) (y .key .before) in omega (arith, y .starts)
 
 -- rooms for chains, with no key seen yet
-zeros : (n i : ℕ) → _≡_ {A = ℕ} (getD (replicate n 0) i 0) 0
+pub zeros : (n i : ℕ) → _≡_ {A = ℕ} (getD (replicate n 0) i 0) 0
 zeros zero i = refl
 zeros (suc n) zero = refl
 zeros (suc n) (suc i) = zeros n i

@@ -4,6 +4,7 @@ pub mod Stands
 pub mod Mark
 pub mod Numbering
 pub mod Links
+pub mod Walk
 pub mod Order
 pub mod Sorted
 pub mod Later

@@ -52,11 +52,11 @@ chained-kept {links = links} i v l (chained-later {h} c) (to-key x) =
 
 -- ---- a walk along a chain
 
--- a key of the chain from h is the same as key i
-pub record Met (N : Numbering) (links : List ℕ) (h i : ℕ) : Type 0 where
+-- a key of the chain from h is one of those sought
+pub record Met (P : ℕ → Type 0) (links : List ℕ) (h : ℕ) : Type 0 where
   pub other : ℕ
   pub chained : Chained links other h
-  pub same : Same N i other
+  pub same : P other
 
 pub record Walkable (N : Numbering) (links : List ℕ) (head i : ℕ) : Type 0 where
   pub points : Points N i head
@@ -64,30 +64,30 @@ pub record Walkable (N : Numbering) (links : List ℕ) (head i : ℕ) : Type 0 w
   pub there : i ≤ length links
 
 -- the walk from head has come to h, and met none
-pub record Walked (N : Numbering) (links : List ℕ) (head i h : ℕ) : Type 0 where
+pub record Walked (N : Numbering) (P : ℕ → Type 0) (links : List ℕ) (head i h : ℕ) : Type 0 where
   pub points : Points N i h
-  pub to : Met N links head i → Met N links h i
-  pub from : Met N links h i → Met N links head i
+  pub to : Met P links head → Met P links h
+  pub from : Met P links h → Met P links head
 
-module _ (N : Numbering) (links : List ℕ) (head i : ℕ) (w : Walkable N links head i) where
-  pub walk-first : Walked N links head i head
+module _ (N : Numbering) (P : ℕ → Type 0) (links : List ℕ) (head i : ℕ) (w : Walkable N links head i) where
+  pub walk-first : Walked N P links head i head
   walk-first = record { points = w .points; to = λ m. m; from = λ m. m }
 
-  pub walk-none : (h : ℕ) → Walked N links head i h → h ≤ 0 → Tells (Met N links head i) false
+  pub walk-none : (h : ℕ) → Walked N P links head i h → h ≤ 0 → Tells (Met P links head) false
   walk-none h x l m = go h (x .to m .chained) l
     where
       go : {k : ℕ} (h : ℕ) → Chained links k h → h ≤ 0 → ⊥
       go _ chained-here l = omega arith
       go _ (chained-later c) l = omega arith
 
-  pub walk-key : (h : ℕ) → Walked N links head i h → 0 < h → Before N i (h - 1)
+  pub walk-key : (h : ℕ) → Walked N P links head i h → 0 < h → Before N i (h - 1)
   walk-key h x l = go h (x .points) l
     where
       go : (h : ℕ) → Points N i h → 0 < h → Before N i (h - 1)
       go _ to-none l = absurd (omega arith)
       go _ (to-key {k} y) l = let e : suc k - 1 ≡ k = omega arith in rw e y
 
-  pub walk-room : (h : ℕ) → Walked N links head i h → 0 < h → h - 1 < length links
+  pub walk-room : (h : ℕ) → Walked N P links head i h → 0 < h → h - 1 < length links
   walk-room h x l = omega (arith, walk-key h x l .before, w .there)
 
   pub walk-less : (h : ℕ) → 0 < h → getD links (h - 1) 0 < h
@@ -97,29 +97,29 @@ module _ (N : Numbering) (links : List ℕ) (head i : ℕ) (w : Walkable N links
       low to-none = omega arith
       low (to-key y) = omega (arith, y .before)
 
-  pub walk-same : (h : ℕ) → Walked N links head i h → 0 < h → Same N i (h - 1) → Tells (Met N links head i) true
+  pub walk-same : (h : ℕ) → Walked N P links head i h → 0 < h → P (h - 1) → Tells (Met P links head) true
   walk-same h x l s =
       let e : suc (h - 1) ≡ h = omega arith in
       let c : Chained links (h - 1) (suc (h - 1)) = chained-here in
       x .from (record { other = h - 1; chained = subst (Chained links (h - 1)) e c; same = s })
 
-  pub walk-more : (h : ℕ) → Walked N links head i h → 0 < h → (Same N i (h - 1) → ⊥) → Walked N links head i (getD links (h - 1) 0)
+  pub walk-more : (h : ℕ) → Walked N P links head i h → 0 < h → (P (h - 1) → ⊥) → Walked N P links head i (getD links (h - 1) 0)
   walk-more h x l n =
       let e : suc (h - 1) ≡ h = omega arith in
       record {
         points = points-more i (omega (arith, walk-key h x l .before)) (w .linked (h - 1));
-        to = λ m. on (subst (λ (j : ℕ). Met N links j i) (sym e) (x .to m));
-        from = λ m. x .from (subst (λ (j : ℕ). Met N links j i) e (back m));
+        to = λ m. on (subst (λ (j : ℕ). Met P links j) (sym e) (x .to m));
+        from = λ m. x .from (subst (λ (j : ℕ). Met P links j) e (back m));
       }
     where
-      back : Met N links (getD links (h - 1) 0) i → Met N links (suc (h - 1)) i
+      back : Met P links (getD links (h - 1) 0) → Met P links (suc (h - 1))
       back m = record { other = m .other; chained = chained-later (m .chained); same = m .same }
 
-      past : {k : ℕ} (j : ℕ) → (Same N i j → ⊥) → Same N i k → Chained links k (suc j) → Chained links k (getD links j 0)
+      past : {k : ℕ} (j : ℕ) → (P j → ⊥) → P k → Chained links k (suc j) → Chained links k (getD links j 0)
       past j n s chained-here = absurd (n s)
       past j n s (chained-later c) = c
 
-      on : Met N links (suc (h - 1)) i → Met N links (getD links (h - 1) 0) i
+      on : Met P links (suc (h - 1)) → Met P links (getD links (h - 1) 0)
       on m = record { other = m .other; chained = past (h - 1) n (m .same) (m .chained); same = m .same }
 
 -- ---- the chains of the keys before n
@@ -130,11 +130,26 @@ pub record Chains (N : Numbering) (heads links : List ℕ) (n : ℕ) : Type 0 wh
   pub linked : Linked N links
   pub all : (k : ℕ) → Before N n k → Chained links k (getD heads (chainAt N k) 0)
 
--- key i is the same as one before it
-pub record Earlier (N : Numbering) (i : ℕ) : Type 0 where
+-- a key before n is one of those sought
+pub record Within (N : Numbering) (P : ℕ → Type 0) (n : ℕ) : Type 0 where
   pub other : ℕ
-  pub key : Before N i other
-  pub same : Same N i other
+  pub key : Before N n other
+  pub same : P other
+
+-- .. which all belong to the chain c: so it is in that chain
+module _ (N : Numbering) (P : ℕ → Type 0) (heads links : List ℕ) (n : ℕ) (x : Chains N heads links n) (c : ℕ) where
+  pub chains-walkable : n ≤ length links → Walkable N links (getD heads c 0) n
+  chains-walkable l = record { points = x .heads-point c; linked = x .linked; there = l }
+
+  pub met-within : Met P links (getD heads c 0) → Within N P n
+  met-within m = record { other = m .other; key = chained-key (x .linked) (m .chained) (x .heads-point c); same = m .same }
+
+  pub within-met : ((k : ℕ) → P k → c ≡ chainAt N k) → Within N P n → Met P links (getD heads c 0)
+  within-met f e = record { other = e .other; chained = rw (f (e .other) (e .same)) (x .all (e .other) (e .key)); same = e .same }
+
+-- key i is the same as one before it
+abbrev pub Earlier : Numbering → ℕ → Type 0
+Earlier N i = Within N (Same N i) i
 
 -- key i takes its place in its chain
 pub record Noting (N : Numbering) (heads links : List ℕ) (i : ℕ) : Type 0 where
@@ -160,18 +175,13 @@ module _ (N : Numbering) (heads links : List ℕ) (i : ℕ) (w : Noting N heads 
   head = getD heads (chainAt N i) 0
 
   walkable : Walkable N links head i
-  walkable =
-      record {
-        points = x .heads-point (chainAt N i);
-        linked = x .linked;
-        there = omega (arith, w .room);
-      }
+  walkable = chains-walkable N (Same N i) heads links i x (chainAt N i) (omega (arith, w .room))
 
-  met-earlier : Met N links head i → Earlier N i
-  met-earlier m = record { other = m .other; key = chained-key (x .linked) (m .chained) (x .heads-point (chainAt N i)); same = m .same }
+  met-earlier : Met (Same N i) links head → Earlier N i
+  met-earlier m = met-within N (Same N i) heads links i x (chainAt N i) m
 
-  earlier-met : Earlier N i → Met N links head i
-  earlier-met e = record { other = e .other; chained = rw (same-chain N i (e .other) (e .same)) (x .all (e .other) (e .key)); same = e .same }
+  earlier-met : Earlier N i → Met (Same N i) links head
+  earlier-met e = within-met N (Same N i) heads links i x (chainAt N i) (λ k s. same-chain N i k s) e
 
   chains-key : Chains N (set heads (chainAt N i) (i + 1)) (set links i head) (i + 1)
   chains-key =
@@ -218,10 +228,10 @@ module _ (N : Numbering) (heads links : List ℕ) (i : ℕ) (w : Noting N heads 
     pub note-small : m < 4096
     note-small = omega (arith, chain-low N i)
 
-    pub note-met : Met N links (getD heads m 0) i → Earlier N i
+    pub note-met : Met (Same N i) links (getD heads m 0) → Earlier N i
     note-met y = met-earlier (rw e at y)
 
-    pub note-past : (Met N links (getD heads m 0) i → ⊥) → Earlier N i → ⊥
+    pub note-past : (Met (Same N i) links (getD heads m 0) → ⊥) → Earlier N i → ⊥
     note-past n y = n (rw e (earlier-met y))
 
     pub note-chains : Chains N (set heads m (i + 1)) (set links i (getD heads m 0)) (i + 1)

@@ -1,4 +1,4 @@
--- KEYS IN THE ORDER OF THEIR NAMES (`Ranked`): the first t stand in a room, each once; a further one is sought by halving (`Sought`) and put between (`Inserted`). Assumes nothing.
+-- KEYS BY NUMBER IN THE ORDER OF THEIR NAMES (`Ranked`): the first t stand in a room, each once; a name is sought among them by halving (`Sought`), and its key put between (`Inserted`). Assumes nothing.
 use mathlib.Core.Path.{_≡_, refl, sym, ap, subst, _∙_}
 use mathlib.Core.List.{List}
 use Prim.Native.Nat.{ℕ, _+_, _-_, _≤_, _<_}
@@ -6,8 +6,7 @@ use native.Mathlib.Omega.{arith}
 use native.Mathlib.Decide.{ℕ-discrete, decLt}
 use lib.ListN.{length, getD, set, length-set}
 use lib.Seq.{getD-set-same, getD-set-other}
-use Rattle.repeats.specs.Numbering.{Numbering, Same}
-use Rattle.repeats.specs.Order.{Precedes, onward, nameOf, apart}
+use Rattle.repeats.specs.Order.{Precedes, onward, never-itself}
 
 -- the key at x of the order
 abbrev pub at : List ℕ → ℕ → ℕ
@@ -19,30 +18,30 @@ pub record Stands (order : List ℕ) (t k : ℕ) : Type 0 where
   pub low : where-at < t
   pub is : at order where-at ≡ k
 
-pub record Ranked (N : Numbering) (order : List ℕ) (t : ℕ) : Type 0 where
-  pub rising : (x y : ℕ) → x < y → y < t → Precedes (nameOf N (at order x)) (nameOf N (at order y))
+pub record Ranked (name : ℕ → List ℕ) (order : List ℕ) (t : ℕ) : Type 0 where
+  pub rising : (x y : ℕ) → x < y → y < t → Precedes (name (at order x)) (name (at order y))
   pub keys : (x : ℕ) → x < t → at order x < t
   pub all : (k : ℕ) → k < t → Stands order t k
 
-pub ranked-none : (N : Numbering) (order : List ℕ) → Ranked N order 0
-ranked-none N order = record { rising = λ x y h l. absurd (omega arith); keys = λ x l. absurd (omega arith); all = λ k l. absurd (omega arith) }
+pub ranked-none : (name : ℕ → List ℕ) (order : List ℕ) → Ranked name order 0
+ranked-none name order = record { rising = λ x y h l. absurd (omega arith); keys = λ x l. absurd (omega arith); all = λ k l. absurd (omega arith) }
 
--- key i belongs behind the first lo, and before those from hi on
-pub record Sought (N : Numbering) (order : List ℕ) (i lo hi : ℕ) : Type 0 where
+-- the name s belongs behind the first lo of i, and before those from hi on
+pub record Sought (name : ℕ → List ℕ) (s : List ℕ) (order : List ℕ) (i lo hi : ℕ) : Type 0 where
   pub ordered : lo ≤ hi
   pub inside : hi ≤ i
-  pub below : (x : ℕ) → x < lo → Precedes (nameOf N (at order x)) (nameOf N i)
-  pub above : (x : ℕ) → hi ≤ x → x < i → Precedes (nameOf N i) (nameOf N (at order x))
+  pub below : (x : ℕ) → x < lo → Precedes (name (at order x)) (s)
+  pub above : (x : ℕ) → hi ≤ x → x < i → Precedes (s) (name (at order x))
 
-module _ (N : Numbering) (order : List ℕ) (i : ℕ) (r : Ranked N order i) where
-  pub seek-first : Sought N order i 0 i
+module _ (name : ℕ → List ℕ) (s : List ℕ) (order : List ℕ) (i : ℕ) (r : Ranked name order i) where
+  pub seek-first : Sought name s order i 0 i
   seek-first = record { ordered = omega arith; inside = omega arith; below = λ x l. absurd (omega arith); above = λ x h l. absurd (omega arith) }
 
-  module _ (lo hi mid : ℕ) (w : Sought N order i lo hi) (l : lo ≤ mid) (m : mid < hi) where
+  module _ (lo hi mid : ℕ) (w : Sought name s order i lo hi) (l : lo ≤ mid) (m : mid < hi) where
     pub seek-key : at order mid < i
     seek-key = r .keys mid (omega (arith, w .inside))
 
-    pub seek-less : Precedes (nameOf N i) (nameOf N (at order mid)) → Sought N order i lo mid
+    pub seek-less : Precedes (s) (name (at order mid)) → Sought name s order i lo mid
     seek-less p =
         record {
           ordered = l;
@@ -51,11 +50,11 @@ module _ (N : Numbering) (order : List ℕ) (i : ℕ) (r : Ranked N order i) whe
           above = λ x h k. by x h k (ℕ-discrete x mid);
         }
       where
-        by : (x : ℕ) → mid ≤ x → x < i → Dec (x ≡ mid) → Precedes (nameOf N i) (nameOf N (at order x))
-        by x h k (yes e) = subst (λ (j : ℕ). Precedes (nameOf N i) (nameOf N (at order j))) (sym e) p
+        by : (x : ℕ) → mid ≤ x → x < i → Dec (x ≡ mid) → Precedes (s) (name (at order x))
+        by x h k (yes e) = subst (λ (j : ℕ). Precedes (s) (name (at order j))) (sym e) p
         by x h k (no e) = onward p (r .rising mid x (omega arith) k)
 
-    pub seek-more : Precedes (nameOf N (at order mid)) (nameOf N i) → Sought N order i (mid + 1) hi
+    pub seek-more : Precedes (name (at order mid)) (s) → Sought name s order i (mid + 1) hi
     seek-more p =
         record {
           ordered = omega arith;
@@ -64,20 +63,20 @@ module _ (N : Numbering) (order : List ℕ) (i : ℕ) (r : Ranked N order i) whe
           above = w .above;
         }
       where
-        by : (x : ℕ) → x < mid + 1 → Dec (x ≡ mid) → Precedes (nameOf N (at order x)) (nameOf N i)
-        by x k (yes e) = subst (λ (j : ℕ). Precedes (nameOf N (at order j)) (nameOf N i)) (sym e) p
+        by : (x : ℕ) → x < mid + 1 → Dec (x ≡ mid) → Precedes (name (at order x)) (s)
+        by x k (yes e) = subst (λ (j : ℕ). Precedes (name (at order j)) (s)) (sym e) p
         by x k (no e) = onward (r .rising x mid (omega arith) (omega (arith, w .inside))) p
 
-  -- it is none of them
-  pub seek-none : (p : ℕ) → Sought N order i p p → (k : ℕ) → k < i → Same N i k → ⊥
-  seek-none p w k l s = go (r .all k l)
+  -- it is the name of none of them
+  pub seek-none : (p : ℕ) → Sought name s order i p p → (k : ℕ) → k < i → s ≡ name k → ⊥
+  seek-none p w k l e = go (r .all k l)
     where
       go : Stands order i k → ⊥
       go z = by (decLt (z .where-at) p)
         where
           by : Dec (z .where-at < p) → ⊥
-          by (yes h) = apart N k i (subst (λ (j : ℕ). Precedes (nameOf N j) (nameOf N i)) (z .is) (w .below (z .where-at) h)) (record { objects = sym (s .objects); texts = sym (s .texts) })
-          by (no h) = apart N i k (subst (λ (j : ℕ). Precedes (nameOf N i) (nameOf N j)) (z .is) (w .above (z .where-at) (omega arith) (z .low))) s
+          by (yes h) = never-itself s (rw (ap name (z .is) ∙ sym e) at (w .below (z .where-at) h))
+          by (no h) = never-itself s (rw (ap name (z .is) ∙ sym e) at (w .above (z .where-at) (omega arith) (z .low)))
 
 -- key i stands at p of the order now, and those that stood there and behind stand one further
 pub record Inserted (order order′ : List ℕ) (p i : ℕ) : Type 0 where
@@ -125,7 +124,7 @@ module _ (order : List ℕ) (p i : ℕ) where
         }
 
 -- so one key more is in order
-module _ (N : Numbering) (order order′ : List ℕ) (p i : ℕ) (r : Ranked N order i) (w : Sought N order i p p) (v : Inserted order order′ p i) where
+module _ (name : ℕ → List ℕ) (order order′ : List ℕ) (p i : ℕ) (r : Ranked name order i) (w : Sought name (name i) order i p p) (v : Inserted order order′ p i) where
   -- a key of the old order, and where it stands now
   data Spot (x : ℕ) : Type 0 where
     is-before : x < p → at order′ x ≡ at order x → Spot x
@@ -141,12 +140,12 @@ module _ (N : Numbering) (order order′ : List ℕ) (p i : ℕ) (r : Ranked N o
       by (no h) (no e) = let g : p < x = omega arith in is-behind g (v .behind x g l)
 
   abbrev Up : ℕ → ℕ → Type 0
-  Up j k = Precedes (nameOf N j) (nameOf N k)
+  Up j k = Precedes (name j) (name k)
 
   up : (x y : ℕ) {j k : ℕ} → at order′ x ≡ j → at order′ y ≡ k → Up j k → Up (at order′ x) (at order′ y)
   up x y e f z = rw (e, f) z
 
-  pub ranked-more : Ranked N order′ (i + 1)
+  pub ranked-more : Ranked name order′ (i + 1)
   ranked-more = record { rising = λ x y h l. rise x y h l (spot x (omega arith)) (spot y (omega arith)); keys = λ x l. key x l (spot x (omega arith)); all = λ k l. placed k l (ℕ-discrete k i) }
     where
       rise : (x y : ℕ) → x < y → y < i + 1 → Spot x → Spot y → Up (at order′ x) (at order′ y)

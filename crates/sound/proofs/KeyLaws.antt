@@ -12,38 +12,40 @@ use lib.Seq.{slice, slice-cons, slice-empty, length-slice}
 use borrow.Author.Needs.{needs}
 use Rattle.exact.specs.Tells.{Tells, tells-yes, tells-no}
 use Rattle.language.specs.Tree.{width}
-use Rattle.sound.specs.Keys.{fromAt, toAt, textAt, beyond, Among, Apart}
+use Rattle.sound.specs.Keys.{textAt, beyond, Among, Apart}
+use Rattle.sound.specs.Window.{Named, rowed-named}
+use Rattle.sound.specs.Chains.{named-inside, named-order, named-fits}
 use Rattle.sound.specs.Pairwise.{Rowed, Keys, keys-row, keys-on, Comes, comes-first, AmongTold, ApartTold, seek-met, seek-on, seek-over, pass-met, pass-on, pass-over}
 
 -- ---- two texts
 
 -- the texts are the same exactly if what is left of them is
-pub record Same (text : List ℕ) (a e b f n i : ℕ) : Type 0 where
+pub record Same (text : List ℕ) (a e : ℕ) (words : List ℕ) (b f n i : ℕ) : Type 0 where
   pub few : i ≤ n
   pub first : a + n ≡ e
   pub second : b + n ≡ f
-  pub to : slice a e text ≡ slice b f text → slice (a + i) e text ≡ slice (b + i) f text
-  pub from : slice (a + i) e text ≡ slice (b + i) f text → slice a e text ≡ slice b f text
+  pub to : slice a e text ≡ slice b f words → slice (a + i) e text ≡ slice (b + i) f words
+  pub from : slice (a + i) e text ≡ slice (b + i) f words → slice a e text ≡ slice b f words
 
-pub same-uneven : (text : List ℕ) (a e b f : ℕ) → (f - b ≡ e - a → ⊥) → e ≤ length text → f ≤ length text → Tells (slice a e text ≡ slice b f text) false
-same-uneven text a e b f d l k z = d (omega (arith, length-slice a e text l, length-slice b f text k, ap length z))
+pub same-uneven : (text : List ℕ) (a e : ℕ) (words : List ℕ) (b f : ℕ) → (f - b ≡ e - a → ⊥) → e ≤ length text → f ≤ length words → Tells (slice a e text ≡ slice b f words) false
+same-uneven text a e words b f d l k z = d (omega (arith, length-slice a e text l, length-slice b f words k, ap length z))
 
-pub same-first : (text : List ℕ) (a e b f : ℕ) → f - b ≡ e - a → a ≤ e → b ≤ f → Same text a e b f (e - a) 0
-same-first text a e b f d l k =
+pub same-first : (text : List ℕ) (a e : ℕ) (words : List ℕ) (b f : ℕ) → f - b ≡ e - a → a ≤ e → b ≤ f → Same text a e words b f (e - a) 0
+same-first text a e words b f d l k =
     record { few = omega arith; first = omega arith; second = omega arith; to = λ z. rw (add-zero a, add-zero b) z; from = λ z. rw (add-zero a, add-zero b) at z }
 
-module _ (text : List ℕ) (a e b f n : ℕ) where
-  pub same-yes : (i : ℕ) → Same text a e b f n i → n ≤ i → Tells (slice a e text ≡ slice b f text) true
+module _ (text : List ℕ) (a e : ℕ) (words : List ℕ) (b f n : ℕ) where
+  pub same-yes : (i : ℕ) → Same text a e words b f n i → n ≤ i → Tells (slice a e text ≡ slice b f words) true
   same-yes i x h =
       let z : a + i ≡ e = omega (arith, x .few, x .first) in
       let y : b + i ≡ f = omega (arith, x .few, x .second) in
-      x .from (rw (z, y, slice-empty e text, slice-empty f text))
+      x .from (rw (z, y, slice-empty e text, slice-empty f words))
 
-  module _ (i : ℕ) (x : Same text a e b f n i) (l : e ≤ length text) (m : f ≤ length text) (h : i < n) where
+  module _ (i : ℕ) (x : Same text a e words b f n i) (l : e ≤ length text) (m : f ≤ length words) (h : i < n) where
     pub same-at : a + i < length text
     same-at = omega (arith, x .first)
 
-    pub same-other : b + i < length text
+    pub same-other : b + i < length words
     same-other = omega (arith, x .second)
 
     heads : slice (a + i) e text ≡ getD text (a + i) 0 ∷ slice (a + (i + 1)) e text
@@ -51,15 +53,15 @@ module _ (text : List ℕ) (a e b f n : ℕ) where
         let z : suc (a + i) ≡ a + (i + 1) = omega arith in
         slice-cons (a + i) e text 0 (omega (arith, x .first)) l ∙ ap (λ (j : ℕ). getD text (a + i) 0 ∷ slice j e text) z
 
-    heads′ : slice (b + i) f text ≡ getD text (b + i) 0 ∷ slice (b + (i + 1)) f text
+    heads′ : slice (b + i) f words ≡ getD words (b + i) 0 ∷ slice (b + (i + 1)) f words
     heads′ =
         let z : suc (b + i) ≡ b + (i + 1) = omega arith in
-        slice-cons (b + i) f text 0 (omega (arith, x .second)) m ∙ ap (λ (j : ℕ). getD text (b + i) 0 ∷ slice j f text) z
+        slice-cons (b + i) f words 0 (omega (arith, x .second)) m ∙ ap (λ (j : ℕ). getD words (b + i) 0 ∷ slice j f words) z
 
-    pub same-no : (getD text (a + i) 0 ≡ getD text (b + i) 0 → ⊥) → Tells (slice a e text ≡ slice b f text) false
+    pub same-no : (getD text (a + i) 0 ≡ getD words (b + i) 0 → ⊥) → Tells (slice a e text ≡ slice b f words) false
     same-no k z = let y = x .to z in let u = heads in let v = heads′ in k (cc)
 
-    pub same-more : getD text (a + i) 0 ≡ getD text (b + i) 0 → Same text a e b f n (i + 1)
+    pub same-more : getD text (a + i) 0 ≡ getD words (b + i) 0 → Same text a e words b f n (i + 1)
     same-more k =
         record {
           few = omega arith;
@@ -73,21 +75,11 @@ pub ruleset comparing = (same-uneven, same-first, same-yes, same-at, same-other,
 
 -- ---- the keys of two rows
 
-module _ (table text : List ℕ) (stop r : ℕ) (w : Rowed table text stop r) where
-  pub rowed-inside : (j : ℕ) → j < width → width * r + j < length table
-  rowed-inside j l = omega (arith, w .whole, w .keyed .onward, w .keyed .below)
+pub keys-told : (table text : List ℕ) (q : ℕ) (other words : List ℕ) (r a e b f : ℕ) → a ≡ getD table (width * q + 3) 0 → e ≡ getD table (width * q + 4) 0
+    → b ≡ getD other (width * r + 3) 0 → f ≡ getD other (width * r + 4) 0 → (y : Bool) → Tells (slice a e text ≡ slice b f words) y → Tells (textAt table text q ≡ textAt other words r) y
+keys-told table text q other words r a e b f h i j k y t = rw (h, i, j, k) at t
 
-  pub rowed-order : (a e : ℕ) → a ≡ getD table (width * r + 3) 0 → e ≡ getD table (width * r + 4) 0 → a ≤ e
-  rowed-order a e h g = omega (arith, w .keyed .order)
-
-  pub rowed-fits : (e : ℕ) → e ≡ getD table (width * r + 4) 0 → e ≤ length text
-  rowed-fits e g = omega (arith, w .keyed .fits)
-
-pub keys-told : (table text : List ℕ) (q r a e b f : ℕ) → a ≡ getD table (width * q + 3) 0 → e ≡ getD table (width * q + 4) 0 → b ≡ getD table (width * r + 3) 0 → f ≡ getD table (width * r + 4) 0
-    → (y : Bool) → Tells (slice a e text ≡ slice b f text) y → Tells (textAt table text q ≡ textAt table text r) y
-keys-told table text q r a e b f h i j k y t = rw (h, i, j, k) at t
-
-pub ruleset keying = (rowed-inside, rowed-order, rowed-fits, keys-told, needs)
+pub ruleset keying = (named-inside, named-order, named-fits, keys-told, needs)
 
 -- ---- a walk over the keys
 
@@ -117,8 +109,8 @@ module _ (table text : List ℕ) (q from stop : ℕ) where
     pub sought-keys : Keys table text stop r
     sought-keys = w .keys
 
-    pub sought-row : r < stop → Rowed table text stop r
-    sought-row l = keys-row table text (w .keys) l
+    pub sought-row : r < stop → Named table text r
+    sought-row l = rowed-named (keys-row table text (w .keys) l)
 
     pub sought-over : stop ≤ r → AmongTold table text q from stop false
     sought-over l = seek-over table text q stop from r (w .comes) l

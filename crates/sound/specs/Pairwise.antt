@@ -29,7 +29,7 @@ module _ (table text : List ℕ) where
     pub behind : List ℕ
     pub walks : Walks table text stop (beyond table r) behind
 
-  walks-next : {stop r : ℕ} {rs : List ℕ} → Walks table text stop r rs → r < stop → (us : List ℕ) × (rs ≡ r ∷ us) × Keyed table text stop r × Walks table text stop (beyond table r) us
+  pub walks-next : {stop r : ℕ} {rs : List ℕ} → Walks table text stop r rs → r < stop → (us : List ℕ) × (rs ≡ r ∷ us) × Keyed table text stop r × Walks table text stop (beyond table r) us
   walks-next walks-end l = absurd (omega arith)
   walks-next (walks-on {rs = us} k w) l = (us, refl, k, w)
 

@@ -12,7 +12,11 @@ ghost use Rattle.sound.specs.Tested.{Lies, Tests};
 ghost use Rattle.sound.specs.Rows.{kindAt, parentAt, Words};
 ghost use Rattle.sound.specs.Contract.{Whole, Row, TextTests, Went, Closing};
 
+mod chains;
+mod names;
 mod once;
+mod ranks;
+mod windows;
 
 use language::DEEPEST;
 use language::Kind;
@@ -139,7 +143,7 @@ fn closed(
     let end = word(&*table, r, 6);
     if row_is(&*table, r, 0, n, end) {
         if object {
-            if apart(&*table, &*text, r + 1, end) {
+            if apart(&*table, &*text, r + 1, end, n) {
                 return Tested::Good(end, y);
             }
             return Tested::Bad;

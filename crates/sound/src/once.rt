@@ -1,45 +1,11 @@
-// The keys of an object, each sought among those behind it.
-ghost use mathlib.Core.Path.{_≡_};
-ghost use Prim.Native.Nat.{_≤_, _<_};
-ghost use lib.ListN.{length};
-ghost use lib.Seq.{slice};
-ghost use Rattle.exact.specs.Tells.{Tells};
-ghost use Rattle.sound.specs.Keys.{textAt};
+// Whether no two keys of an object have one text: few keys are each sought among those behind them, many in windows.
 ghost use Rattle.sound.specs.Pairwise.{Rowed, Keys, AmongTold, ApartTold};
+use super::names::same_key;
+use super::windows::windows;
 use super::word;
 
-// Whether the bytes from a to e are those from b to f.
-fn same_text(text: &[u8], a: usize, e: usize, b: usize, f: usize) -> bool
-    requires { ⌜ (a ≤ e) × (e ≤ length (now text)) × (b ≤ f) × (f ≤ length (now text)) ⌝ }
-    ensures { λ r. ⌜ Tells (slice a e (now (text .entry)) ≡ slice b f (now (text .entry))) r ⌝ }
-{
-    let n = e - a;
-    let mut i = 0;
-    if f - b != n {
-        return false;
-    }
-    while i < n {
-        if text[a + i] != text[b + i] {
-            return false;
-        }
-        i += 1;
-    }
-    true
-}
-
-// Whether the keys of two rows have one text.
-fn same_key(table: &[u32], text: &[u8], q: usize, r: usize, stop: usize) -> bool
-    requires { ⌜ Rowed (now table) (now text) stop q × Rowed (now table) (now text) stop r ⌝ }
-    ensures { λ b. ⌜ Tells (textAt (now (table .entry)) (now (text .entry)) q ≡ textAt (now (table .entry)) (now (text .entry)) r) b ⌝ }
-{
-    same_text(
-        &*text,
-        word(&*table, q, 3),
-        word(&*table, q, 4),
-        word(&*table, r, 3),
-        word(&*table, r, 4),
-    )
-}
+// So few keys are asked pair by pair, since clearing rooms takes longer.
+const PAIRS: usize = 16;
 
 // Whether a key in the rows from `from` up to `stop` has the text of row q.
 fn among(table: &[u32], text: &[u8], q: usize, from: usize, stop: usize) -> bool
@@ -48,7 +14,7 @@ fn among(table: &[u32], text: &[u8], q: usize, from: usize, stop: usize) -> bool
 {
     let mut r = from;
     while r < stop {
-        if same_key(&*table, &*text, q, r, stop) {
+        if same_key(&*table, &*text, q, &*table, &*text, r) {
             return true;
         }
         r = word(&*table, r + 1, 6);
@@ -56,8 +22,8 @@ fn among(table: &[u32], text: &[u8], q: usize, from: usize, stop: usize) -> bool
     false
 }
 
-// Whether no two keys in the rows from `from` up to `stop` have one text.
-pub fn apart(table: &[u32], text: &[u8], from: usize, stop: usize) -> bool
+// Whether no two keys in the rows from `from` up to `stop` have one text, pair by pair.
+fn pairwise(table: &[u32], text: &[u8], from: usize, stop: usize) -> bool
     requires { ⌜ Keys (now table) (now text) stop from ⌝ }
     ensures { λ b. ⌜ ApartTold (now (table .entry)) (now (text .entry)) from stop b ⌝ }
 {
@@ -70,4 +36,15 @@ pub fn apart(table: &[u32], text: &[u8], from: usize, stop: usize) -> bool
         r = next;
     }
     true
+}
+
+// Whether no two keys in the rows from `from` up to `stop` have one text; n says how many they are, and picks the way.
+pub fn apart(table: &[u32], text: &[u8], from: usize, stop: usize, n: usize) -> bool
+    requires { ⌜ Keys (now table) (now text) stop from ⌝ }
+    ensures { λ b. ⌜ ApartTold (now (table .entry)) (now (text .entry)) from stop b ⌝ }
+{
+    if n <= PAIRS {
+        return pairwise(&*table, &*text, from, stop);
+    }
+    windows(&*table, &*text, from, stop, n)
 }

@@ -13,7 +13,7 @@ use Rattle.language.specs.Document.{RootLine, Root, Whole, Document}
 use Rattle.spans.specs.Onward.{onward-length}
 use Rattle.spans.specs.Every.{Every, ret-every, byte-every, byte-then, bind-every, alt-every}
 use Rattle.spans.specs.Placed.{Placed, Child, Siblings, Within, Inside, span-some, child-inside, siblings-ordered, within-placed, within-inside}
-use Rattle.spans.specs.Formed.{Formed, Sound, formed-sound}
+use Rattle.spans.specs.Formed.{Formed, LeafKeys, formed-leaf-keys}
 use Rattle.spans.specs.Keys.{keysIn}
 use Rattle.spans.specs.Kinds.{Contains, Tells, within-either, either-contains, either-tells}
 use Rattle.spans.specs.Lies.{LiesIn, lies-from, lies-to, lies-line}
@@ -88,17 +88,17 @@ module _ (k : ℕ) (doc : List ℕ) (t : Tree) (d : Document k doc t) where
   in-document w = omega (arith, document-lies .ends, within-inside placed w .ends)
 
   -- the whole tree is that of a value, by its kinds, its counts and the texts that are empty
-  pub sound : Formed t
-  sound = document-lies .formed
+  pub document-formed : Formed t
+  document-formed = document-lies .formed
 
   -- at any depth: a container is an array of values or an object of pairs of a key and a value, with their number for its count
   pub containers : {q a e c : ℕ} {ts : Forest} → Within (node q a e c ts) t → Contains c ts q
-  containers w = either-contains (within-either (inl sound) w)
+  containers w = either-contains (within-either (inl document-formed) w)
 
   -- and a leaf is of a kind from 1 to 7, with no text up to 3, or a key
   pub leaves : {q a e : ℕ} {s : Decoded} → Within (leaf q a e s) t → Tells s q
-  leaves w = either-tells (within-either (inl sound) w)
+  leaves w = either-tells (within-either (inl document-formed) w)
 
   -- no container is a key
-  pub document-sound : Sound t
-  document-sound = formed-sound sound
+  pub document-leaf-keys : LeafKeys t
+  document-leaf-keys = formed-leaf-keys document-formed

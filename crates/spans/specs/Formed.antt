@@ -51,18 +51,18 @@ pub pairs-count : {c : ℕ} {ts : Forest} → Pairs c ts → trees ts ≡ c + c
 pairs-count no-pair = refl
 pairs-count (pair x y z) = let h = pairs-count z in omega arith
 
--- no container is a key
+-- no container is a key: keys are leaves
 mutual
-  pub data Sound : Tree → Type 0 where
-    sound-leaf : {k a e : ℕ} {s : Decoded} → Sound (leaf k a e s)
-    sound-node : {k a e c : ℕ} {ts : Forest} → (k ≡ KEY → ⊥) → Sounds ts → Sound (node k a e c ts)
+  pub data LeafKeys : Tree → Type 0 where
+    leaf-keys-leaf : {k a e : ℕ} {s : Decoded} → LeafKeys (leaf k a e s)
+    leaf-keys-node : {k a e c : ℕ} {ts : Forest} → (k ≡ KEY → ⊥) → LeafKeysIn ts → LeafKeys (node k a e c ts)
 
-  pub data Sounds : Forest → Type 0 where
-    sound-none : Sounds none
-    sound-more : {t : Tree} {ts : Forest} → Sound t → Sounds ts → Sounds (more t ts)
+  pub data LeafKeysIn : Forest → Type 0 where
+    leaf-keys-none : LeafKeysIn none
+    leaf-keys-more : {t : Tree} {ts : Forest} → LeafKeys t → LeafKeysIn ts → LeafKeysIn (more t ts)
 
-key-sound : {t : Tree} → IsKey t → Sound t
-key-sound is-key = sound-leaf
+key-leaf-keys : {t : Tree} → IsKey t → LeafKeys t
+key-leaf-keys is-key = leaf-keys-leaf
 
 array-no-key : ARRAY ≡ KEY → ⊥
 array-no-key h = omega arith
@@ -71,16 +71,16 @@ object-no-key : OBJECT ≡ KEY → ⊥
 object-no-key h = omega arith
 
 mutual
-  pub formed-sound : {t : Tree} → Formed t → Sound t
-  formed-sound (formed-word h k l) = sound-leaf
-  formed-sound (formed-text h k) = sound-leaf
-  formed-sound (formed-array x) = sound-node array-no-key (elements-sound x)
-  formed-sound (formed-object x) = sound-node object-no-key (pairs-sound x)
+  pub formed-leaf-keys : {t : Tree} → Formed t → LeafKeys t
+  formed-leaf-keys (formed-word h k l) = leaf-keys-leaf
+  formed-leaf-keys (formed-text h k) = leaf-keys-leaf
+  formed-leaf-keys (formed-array x) = leaf-keys-node array-no-key (elements-leaf-keys x)
+  formed-leaf-keys (formed-object x) = leaf-keys-node object-no-key (pairs-leaf-keys x)
 
-  elements-sound : {c : ℕ} {ts : Forest} → Elements c ts → Sounds ts
-  elements-sound no-element = sound-none
-  elements-sound (element x y) = sound-more (formed-sound x) (elements-sound y)
+  elements-leaf-keys : {c : ℕ} {ts : Forest} → Elements c ts → LeafKeysIn ts
+  elements-leaf-keys no-element = leaf-keys-none
+  elements-leaf-keys (element x y) = leaf-keys-more (formed-leaf-keys x) (elements-leaf-keys y)
 
-  pairs-sound : {c : ℕ} {ts : Forest} → Pairs c ts → Sounds ts
-  pairs-sound no-pair = sound-none
-  pairs-sound (pair x y z) = sound-more (key-sound x) (sound-more (formed-sound y) (pairs-sound z))
+  pairs-leaf-keys : {c : ℕ} {ts : Forest} → Pairs c ts → LeafKeysIn ts
+  pairs-leaf-keys no-pair = leaf-keys-none
+  pairs-leaf-keys (pair x y z) = leaf-keys-more (key-leaf-keys x) (leaf-keys-more (formed-leaf-keys y) (pairs-leaf-keys z))

@@ -1,10 +1,13 @@
 -- `in_chain` tells whether a key of a chain is the same as the i-th, or breaks off. The loop's invariant: one is if one of the rest is.
-use Rattle.places.specs.Walks.{Walking, walking}
+use Rattle.repeats.specs.Numbering.{Same}
+use Rattle.repeats.specs.Walk.{Walking}
+use Rattle.places.specs.Places.{placeKeys}
+use Rattle.places.specs.Walks.{walking}
 use Rattle.places.proofs.in_chain.Statement.{statement}
 use Rattle.places.proofs.in_chain.Tie as tie
 
 abbrev Inv-loop : tie.InvT-loop
-Inv-loop doc keys marks links head i h₀ steps₀ h steps = Walking doc keys links head i h steps
+Inv-loop doc keys marks links head i h₀ steps₀ h steps = Walking (placeKeys doc keys) (Same (placeKeys doc keys) i) links head i h steps
 
 abbrev μ-loop : tie.MeasureT-loop
 μ-loop doc keys marks links head i h₀ steps₀ h steps = h

@@ -2,6 +2,7 @@
 use mathlib.Core.Path.{refl}
 use Prim.Native.Nat.{_+_, _-_, _/_}
 use borrow.Author.Needs.{needs}
+use Rattle.repeats.specs.Order.{nameOf}
 use Rattle.repeats.specs.Sorted.{Sought}
 use Rattle.places.specs.Places.{placeKeys}
 use Rattle.places.specs.Joins.{find-above, finding}
@@ -9,7 +10,7 @@ use Rattle.places.proofs.sorted.find.Statement.{statement}
 use Rattle.places.proofs.sorted.find.Tie as tie
 
 abbrev Inv-loop : tie.InvT-loop
-Inv-loop doc keys marks order i lo₀ hi₀ lo hi = Sought (placeKeys doc keys) order i lo hi
+Inv-loop doc keys marks order i lo₀ hi₀ lo hi = Sought (nameOf (placeKeys doc keys)) (nameOf (placeKeys doc keys) i) order i lo hi
 
 abbrev μ-loop : tie.MeasureT-loop
 μ-loop doc keys marks order i lo₀ hi₀ lo hi = hi - lo

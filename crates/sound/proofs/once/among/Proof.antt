@@ -1,6 +1,8 @@
 -- `among` tells whether a key has the text of a row. The loop's invariant: one has it exactly if one from here on has.
-use Rattle.sound.proofs.KeyLaws.{seeking, Sought}
+use native.Mathlib.Omega.{arith}
+use Rattle.sound.proofs.KeyLaws.{seeking, keys-value, Sought}
 use Prim.Native.Nat.{_-_}
+use Rattle.sound.specs.Window.{rowed-named}
 use Rattle.sound.proofs.once.among.Statement.{statement}
 use Rattle.sound.proofs.once.among.Tie as tie
 
@@ -14,7 +16,7 @@ loop-holds : tie.Need-loop-holds Inv-loop μ-loop
 loop-holds c = search seeking
 
 same-key-requires : tie.Need-same-key-requires Inv-loop μ-loop
-same-key-requires c κs = search seeking
+same-key-requires c κs = search (rowed-named, seeking)
 
 returns : tie.Need-returns Inv-loop μ-loop
 returns c = search seeking
@@ -23,7 +25,10 @@ add-word : tie.Need-add-word Inv-loop μ-loop
 add-word c = search seeking
 
 word-requires : tie.Need-word-requires Inv-loop μ-loop
-word-requires c κs = search seeking
+word-requires c κs =
+    let s = c .before .before .before .before .before .before in
+    let l = c .before .before .before .loop in
+    keys-value (s .args .table .now) (s .args .text .now) (s .args .stop) (l .r) (l .inv .keys) (c .before .before .loop-test .taken) 6 (omega arith)
 
 loop-less : tie.Need-loop-less Inv-loop μ-loop
 loop-less c = search seeking

@@ -1,8 +1,8 @@
 -- `insert` puts a key between others. The loop's invariant: those behind j are moved.
 use borrow.Author.Needs.{needs}
 use Rattle.repeats.specs.Sorted.{Moved, move-first, move-more, move-done}
-use Rattle.places.proofs.sorted.insert.Statement.{statement}
-use Rattle.places.proofs.sorted.insert.Tie as tie
+use Rattle.repeats.proofs.insert.Statement.{statement}
+use Rattle.repeats.proofs.insert.Tie as tie
 
 abbrev Inv-loop : tie.InvT-loop
 Inv-loop order₀ p i j₀ order j = Moved order₀ order p i j

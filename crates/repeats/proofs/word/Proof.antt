@@ -1,8 +1,8 @@
 -- `word` gives a word of the chains or of the order.
 use native.Mathlib.Omega.{arith}
 use borrow.Author.Needs.{needs}
-use Rattle.places.proofs.names.word.Statement.{statement}
-use Rattle.places.proofs.names.word.Tie as tie
+use Rattle.repeats.proofs.word.Statement.{statement}
+use Rattle.repeats.proofs.word.Tie as tie
 
 mul-result : tie.Need-mul-result
 mul-result c = search needs

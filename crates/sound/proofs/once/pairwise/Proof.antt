@@ -1,8 +1,8 @@
--- `apart` tells whether no two keys have one text. The loop's invariant: none have exactly if none from here on have.
+-- `pairwise` tells whether no two keys have one text. The loop's invariant: none have exactly if none from here on have.
 use Rattle.sound.proofs.KeyLaws.{sifting, Sifted}
 use Prim.Native.Nat.{_-_}
-use Rattle.sound.proofs.once.apart.Statement.{statement}
-use Rattle.sound.proofs.once.apart.Tie as tie
+use Rattle.sound.proofs.once.pairwise.Statement.{statement}
+use Rattle.sound.proofs.once.pairwise.Tie as tie
 
 abbrev Inv-loop : tie.InvT-loop
 Inv-loop table text from stop r₀ r = Sifted table text from stop r
@@ -34,8 +34,8 @@ loop-again c = search sifting
 returns-2 : tie.Need-returns-2 Inv-loop μ-loop
 returns-2 c = search sifting
 
-pub apart-spec : {M : Type 1} → statement M
-apart-spec =
+pub pairwise-spec : {M : Type 1} → statement M
+pairwise-spec =
     tie.close
     (tie.spec
     Inv-loop

@@ -1,14 +1,14 @@
--- `same_text` tells whether two parts of the text room are the same. The loop's invariant: they are if what is left of them is.
+-- `same_text` tells whether a part of one text and one of another are the same. The loop's invariant: they are if what is left of them is.
 use Prim.Native.Nat.{_-_}
 use Rattle.sound.proofs.KeyLaws.{comparing, Same}
-use Rattle.sound.proofs.once.same_text.Statement.{statement}
-use Rattle.sound.proofs.once.same_text.Tie as tie
+use Rattle.sound.proofs.names.same_text.Statement.{statement}
+use Rattle.sound.proofs.names.same_text.Tie as tie
 
 abbrev Inv-loop : tie.InvT-loop
-Inv-loop text a e b f n i₀ i = Same text a e b f n i
+Inv-loop text a e words b f n i₀ i = Same text a e words b f n i
 
 abbrev μ-loop : tie.MeasureT-loop
-μ-loop text a e b f n i₀ i = n - i
+μ-loop text a e words b f n i₀ i = n - i
 
 sub-n : tie.Need-sub-n Inv-loop μ-loop
 sub-n c = search comparing

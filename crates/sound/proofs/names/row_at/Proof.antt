@@ -1,0 +1,20 @@
+-- `row_at` gives a row of those in a room.
+use native.Mathlib.Omega.{arith}
+use borrow.Author.Needs.{needs}
+use Rattle.sound.proofs.names.row_at.Statement.{statement}
+use Rattle.sound.proofs.names.row_at.Tie as tie
+
+mul-result : tie.Need-mul-result
+mul-result c = search needs
+
+shared-slice-read-result : tie.Need-shared-slice-read-result
+shared-slice-read-result c = search needs
+
+cast-result : tie.Need-cast-result
+cast-result c = omega (arith, c .shared-slice-known .given (c .before .args .k))
+
+returns : tie.Need-returns
+returns c = search needs
+
+pub row-at-spec : {M : Type 1} → statement M
+row-at-spec = tie.close (tie.spec mul-result shared-slice-read-result cast-result returns)
