@@ -9,20 +9,20 @@ use super::codes::allowed;
 use super::codes::code;
 use characters::is_plain;
 
-// Whether the 16 bytes from `at` on are all plain. They are counted, with no way out of the loop, so that many are tested at once.
-fn all_plain(s: &[u8], at: usize) -> bool
-    requires { ⌜ at + 16 ≤ length (now s) ⌝ }
-    ensures { λ r. ⌜ (r ≡ true → Selfs (now (s .entry)) at (at + 16)) ⌝ }
+// Whether the bytes from `at` on are all plain, so many of them. They are counted, with no way out of the loop, so that many are tested at once.
+fn all_plain(s: &[u8], at: usize, many: usize) -> bool
+    requires { ⌜ at + many ≤ length (now s) ⌝ }
+    ensures { λ r. ⌜ (r ≡ true → Selfs (now (s .entry)) at (at + many)) ⌝ }
 {
-    let mut n: u8 = 0;
+    let mut n = 0;
     let mut i = 0;
-    while i < 16 {
+    while i < many {
         if is_plain(s[at + i], 34) {
             n += 1;
         }
         i += 1;
     }
-    n == 16
+    n == many
 }
 
 // The place behind as many 16 plain bytes as stand at `at`.
@@ -32,7 +32,7 @@ fn plain_blocks(s: &[u8], at: usize) -> usize
 {
     let mut e = at;
     while 16 <= s.len() - e {
-        if all_plain(&*s, e) {
+        if all_plain(&*s, e, 16) {
             e += 16;
         } else {
             return e;
@@ -60,17 +60,32 @@ fn plain_near(s: &[u8], at: usize, n: usize) -> usize
     e
 }
 
-// The place behind the plain bytes that stand at `at`. Most runs are short: the first 8 bytes are read one at a time.
+// The place behind 8 plain bytes, if they stand at `at`; or else `at`.
+fn plain_half(s: &[u8], at: usize) -> usize
+    requires { ⌜ at ≤ length (now s) ⌝ }
+    ensures { λ r. ⌜ Selfs (now (s .entry)) at r ⌝ }
+{
+    if s.len() - at < 8 {
+        return at;
+    }
+    if all_plain(&*s, at, 8) {
+        return at + 8;
+    }
+    at
+}
+
+// The place behind the plain bytes that stand at `at`. Many runs are short: the first 4 bytes are read one at a time.
 fn plain_end(s: &[u8], at: usize) -> usize
     requires { ⌜ at ≤ length (now s) ⌝ }
     ensures { λ r. ⌜ Selfs (now (s .entry)) at r ⌝ }
 {
-    let near = plain_near(&*s, at, 8);
-    if near - at < 8 {
+    let near = plain_near(&*s, at, 4);
+    if near - at < 4 {
         return near;
     }
     let far = plain_blocks(&*s, near);
-    plain_near(&*s, far, s.len())
+    let half = plain_half(&*s, far);
+    plain_near(&*s, half, s.len())
 }
 
 // The place behind the character of several bytes at `at`, if it is shown as it is; or else `at`.
@@ -106,6 +121,22 @@ fn wide_end(s: &[u8], at: usize) -> usize
     rare_end(&*s, at)
 }
 
+// The place behind the characters of several bytes at `at` that are shown as they are: most stand beside others.
+fn wides(s: &[u8], at: usize) -> usize
+    requires { ⌜ Scripted (drop at (now s)) × (at ≤ length (now s)) ⌝ }
+    ensures { λ r. ⌜ Selfs (now (s .entry)) at r ⌝ }
+{
+    let mut e = at;
+    while e < s.len() {
+        let n = wide_end(&*s, e);
+        if n == e {
+            return e;
+        }
+        e = n;
+    }
+    e
+}
+
 // The place behind the characters at `at` that are shown as they are.
 pub fn run(s: &[u8], at: usize) -> usize
     requires { ⌜ Scripted (drop at (now s)) × (at ≤ length (now s)) ⌝ }
@@ -113,7 +144,7 @@ pub fn run(s: &[u8], at: usize) -> usize
 {
     let mut e = plain_end(&*s, at);
     while e < s.len() {
-        let n = wide_end(&*s, e);
+        let n = wides(&*s, e);
         if n == e {
             return e;
         }

@@ -1,4 +1,4 @@
--- `all_plain` tells 16 plain bytes. The loop's invariant: n of the i bytes from `at` on are plain.
+-- `all_plain` tells plain bytes, so many. The loop's invariant: n of the i bytes from `at` on are plain.
 use mathlib.Core.Logic.{⊎-elim}
 use Prim.Native.Nat.{_-_, _≤_}
 use Rattle.characters.specs.Plains.{double}
@@ -9,10 +9,10 @@ use Rattle.writer.proofs.runs.all_plain.Statement.{statement}
 use Rattle.writer.proofs.runs.all_plain.Tie as tie
 
 abbrev Inv-loop : tie.InvT-loop
-Inv-loop s at n₀ i₀ n i = Counted s at n i × (i ≤ 16)
+Inv-loop s at many n₀ i₀ n i = Counted s at n i × (i ≤ many)
 
 abbrev μ-loop : tie.MeasureT-loop
-μ-loop s at n₀ i₀ n i = 16 - i
+μ-loop s at many n₀ i₀ n i = many - i
 
 loop-holds : tie.Need-loop-holds Inv-loop μ-loop
 loop-holds c = (counted-none _ _ (omega arith), omega arith)

@@ -1,4 +1,4 @@
--- `plain_end` passes plain bytes: 8 one at a time, then 16 at a time, then the last ones.
+-- `plain_end` passes plain bytes: 4 one at a time, then 16 at a time, then 8, then the last ones.
 use Rattle.writer.specs.Runs.{selfs-then}
 use borrow.Author.Needs.{needs}
 use Rattle.writer.proofs.runs.plain_end.Statement.{statement}
@@ -16,11 +16,16 @@ returns c = search needs
 plain-blocks-requires : tie.Need-plain-blocks-requires
 plain-blocks-requires c κs = search needs
 
+plain-half-requires : tie.Need-plain-half-requires
+plain-half-requires c κs = search needs
+
 plain-near-requires-2 : tie.Need-plain-near-requires-2
 plain-near-requires-2 c κs = search needs
 
 returns-2 : tie.Need-returns-2
-returns-2 c = selfs-then (c .before .before .before .plain-near .ensures) (selfs-then (c .before .plain-blocks .ensures) (c .plain-near2 .ensures))
+returns-2 c =
+    selfs-then (c .before .before .before .before .plain-near .ensures)
+    (selfs-then (c .before .before .plain-blocks .ensures) (selfs-then (c .before .plain-half .ensures) (c .plain-near2 .ensures)))
 
 pub plain-end-spec : {M : Type 1} → statement M
 plain-end-spec =
@@ -30,5 +35,6 @@ plain-end-spec =
     sub-if1
     returns
     plain-blocks-requires
+    plain-half-requires
     plain-near-requires-2
     returns-2)

@@ -19,8 +19,8 @@ plain-end-requires c κs = search needs
 loop-holds : tie.Need-loop-holds Inv-loop μ-loop
 loop-holds c = c .plain-end .ensures
 
-wide-end-requires : tie.Need-wide-end-requires Inv-loop μ-loop
-wide-end-requires c κs = record { script = c .before .loop .inv .script (c .before .before .before .before .pre .0); inside = c .loop-test .taken }
+wides-requires : tie.Need-wides-requires Inv-loop μ-loop
+wides-requires c κs = (c .before .loop .inv .script (c .before .before .before .before .pre .0), search needs)
 
 returns : tie.Need-returns Inv-loop μ-loop
 returns c = search needs
@@ -29,10 +29,10 @@ plain-end-requires-2 : tie.Need-plain-end-requires-2 Inv-loop μ-loop
 plain-end-requires-2 c κs = search needs
 
 loop-less : tie.Need-loop-less Inv-loop μ-loop
-loop-less c = omega (arith, c .before .before .wide-end .ensures .from, c .plain-end2 .ensures .from, c .before .if1 .left)
+loop-less c = omega (arith, c .before .before .wides .ensures .from, c .plain-end2 .ensures .from, c .before .if1 .left)
 
 loop-again : tie.Need-loop-again Inv-loop μ-loop
-loop-again c = selfs-then (c .before .before .before .before .loop .inv) (selfs-then (c .before .before .wide-end .ensures) (c .plain-end2 .ensures))
+loop-again c = selfs-then (c .before .before .before .before .loop .inv) (selfs-then (c .before .before .wides .ensures) (c .plain-end2 .ensures))
 
 returns-2 : tie.Need-returns-2 Inv-loop μ-loop
 returns-2 c = search needs
@@ -45,7 +45,7 @@ run-spec =
     μ-loop
     plain-end-requires
     loop-holds
-    wide-end-requires
+    wides-requires
     returns
     plain-end-requires-2
     loop-less
