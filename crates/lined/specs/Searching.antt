@@ -1,7 +1,7 @@
 -- COUNTING AND SEARCHING bytes of a class, by blocks and one by one. Assumes nothing.
 use mathlib.Core.Path.{_≡_, sym, ap, subst, _∙_}
 use mathlib.Core.List.{List}
-use Prim.Native.Nat.{ℕ, _+_, _-_, _≤_, _<_, min}
+use Prim.Native.Nat.{ℕ, _+_, _-_, _≤_, _<_, min, max}
 use native.Mathlib.Nat.{add-zero}
 use native.Mathlib.Omega.{arith}
 use native.Mathlib.Decide.{decLe}
@@ -29,16 +29,22 @@ pub record Next (c : Class) (doc : List ℕ) (a r : ℕ) : Type 0 where
   pub none : Clear c doc a r
   pub found : r < length doc → hit c (getD doc r 0) ≡ 1
 
--- i for a byte of the class, and 64 for any other
-pub record Spot (c : Class) (b i r : ℕ) : Type 0 where
+-- i for a byte of the class, and o for any other
+pub record Spot (c : Class) (b i o r : ℕ) : Type 0 where
   pub there : hit c b ≡ 1 → r ≡ i
-  pub other : hit c b ≡ 0 → r ≡ 64
+  pub other : hit c b ≡ 0 → r ≡ o
 
 -- of the i bytes from a on the one at r is the first of the class, or none is, and r is 64
 pub record First (c : Class) (doc : List ℕ) (a i r : ℕ) : Type 0 where
   pub most : r ≤ 64
   pub all : 64 ≤ r → between c doc a (a + i) ≡ 0
   pub some : r < 64 → (r < i) × (between c doc a (a + r) ≡ 0) × (hit c (getD doc (a + r) 0) ≡ 1)
+
+-- of the i bytes from a on the one just before the r-th is the last of the class, or none is, and r is 0
+pub record Last (c : Class) (doc : List ℕ) (a i r : ℕ) : Type 0 where
+  pub most : r ≤ i
+  pub all : r ≤ 0 → between c doc a (a + i) ≡ 0
+  pub some : 0 < r → (between c doc (a + r) (a + i) ≡ 0) × (hit c (getD doc (a + r - 1) 0) ≡ 1)
 
 -- an LF just before r, and none from r up to e
 pub record Behind (doc : List ℕ) (a e r : ℕ) : Type 0 where
@@ -94,7 +100,7 @@ module _ (c : Class) (doc : List ℕ) where
   pub first-none : (a : ℕ) → First c doc a 0 64
   first-none a = record { most = omega arith; all = λ _. rw (add-zero a) (between-none c doc a); some = λ h. absurd (omega arith) }
 
-  pub first-byte : (a i m s r : ℕ) → First c doc a i m → i < 64 → a + i < length doc → Spot c (getD doc (a + i) 0) i s → r ≡ min s m → First c doc a (i + 1) r
+  pub first-byte : (a i m s r : ℕ) → First c doc a i m → i < 64 → a + i < length doc → Spot c (getD doc (a + i) 0) i 64 s → r ≡ min s m → First c doc a (i + 1) r
   first-byte a i m s r x h l y t = by (decLe 64 m) (decLe 1 (hit c (getD doc (a + i) 0)))
     where
       b : ℕ
@@ -119,6 +125,36 @@ module _ (c : Class) (doc : List ℕ) where
           let w : between c doc a (a + (i + 1)) ≡ 0 = omega (arith, between-more c doc a (a + i) (omega arith) l, ap (between c doc a) z, x .all n) in
           is 64 (omega (arith, x .most)) (record { most = omega arith; all = λ _. w; some = λ k. absurd (omega arith) })
 
+  pub last-none : (a : ℕ) → Last c doc a 0 0
+  last-none a = record { most = omega arith; all = λ _. rw (add-zero a) (between-none c doc a); some = λ h. absurd (omega arith) }
+
+  pub last-byte : (a i m s r : ℕ) → Last c doc a i m → a + i < length doc → Spot c (getD doc (a + i) 0) (i + 1) 0 s → r ≡ max s m → Last c doc a (i + 1) r
+  last-byte a i m s r x l y t = by (decLe 1 (hit c (getD doc (a + i) 0)))
+    where
+      z : a + i + 1 ≡ a + (i + 1)
+      z = omega arith
+
+      is : (q : ℕ) → q ≡ max s m → Last c doc a (i + 1) q → Last c doc a (i + 1) r
+      is q e f = subst (Last c doc a (i + 1)) (e ∙ sym t) f
+
+      by : Dec (1 ≤ hit c (getD doc (a + i) 0)) → Last c doc a (i + 1) r
+      by (yes q) =
+          let g : hit c (getD doc (a + i) 0) ≡ 1 = omega (arith, hit-one c (getD doc (a + i) 0)) in
+          let e = y .there g in
+          let u : a + i ≡ a + (i + 1) - 1 = omega arith in
+          is (i + 1) (omega (arith, x .most)) (record { most = omega arith; all = λ k. absurd (omega arith); some = λ _. (between-none c doc (a + (i + 1)), ap (λ (j : ℕ). hit c (getD doc j 0)) (sym u) ∙ g) })
+      by (no q) =
+          let e = y .other (omega arith) in
+          let v : (b : ℕ) → b ≤ a + i → between c doc b (a + (i + 1)) ≡ between c doc b (a + i) = λ b h. omega (arith, between-more c doc b (a + i) h l, ap (between c doc b) z) in
+          is m (omega arith) (record {
+            most = omega (arith, x .most);
+            all = λ k. v a (omega arith) ∙ x .all k;
+            some = λ k. let f = x .some k in (v (a + m) (omega (arith, x .most)) ∙ f .0, f .1);
+          })
+
+  pub last-all : (a i m : ℕ) → Last c doc a i m → i ≤ 64 → 64 ≤ i → Last c doc a 64 m
+  last-all a i m x h k = subst (λ (j : ℕ). Last c doc a j m) (let z : i ≡ 64 = omega arith in z) x
+
   pub first-all : (a i m : ℕ) → First c doc a i m → i ≤ 64 → 64 ≤ i → First c doc a 64 m
   first-all a i m x h k = subst (λ (j : ℕ). First c doc a j m) (let z : i ≡ 64 = omega arith in z) x
 
@@ -141,10 +177,16 @@ module _ (c : Class) (doc : List ℕ) where
       record { none = record { ahead = omega (arith, x .ahead, n .ahead); inside = n .inside; clear = omega (arith, x .clear, n .clear, between-cut c doc a b r (x .ahead) (n .ahead) (n .inside)) }; found = y .found }
 
   -- from a later place on
-  pub next-later : (a b r : ℕ) → Next c doc a r → a ≤ b → b ≤ r → Next c doc b r
-  next-later a b r x h k =
-      let n = x .none in
-      record { none = record { ahead = k; inside = n .inside; clear = omega (arith, n .clear, between-cut c doc a b r h k (n .inside)) }; found = x .found }
+  pub clear-later : (a b r : ℕ) → Clear c doc a r → a ≤ b → b ≤ r → Clear c doc b r
+  clear-later a b r n h k = record { ahead = k; inside = n .inside; clear = omega (arith, n .clear, between-cut c doc a b r h k (n .inside)) }
+
+  -- where none stands, the one at a is before
+  pub before-clear : (a b e : ℕ) → a < e → e ≤ length doc → b ≤ e → hit c (getD doc a 0) ≡ 1 → between c doc b e ≡ 0 → a < b
+  before-clear a b e h l k g z = by (decLe b a)
+    where
+      by : Dec (b ≤ a) → a < b
+      by (yes m) = absurd (omega (arith, between-cut c doc b a e m (omega arith) l, between-less c doc a e h l))
+      by (no m) = omega arith
 
 module _ (doc : List ℕ) where
   -- backwards to an LF; one stands at a
@@ -156,13 +198,38 @@ module _ (doc : List ℕ) where
       let u : i - 1 + 1 ≡ i = omega arith in
       omega (arith, between-less (only 10) doc (i - 1) e (omega arith) m, ap (λ (j : ℕ). between (only 10) doc j e) u)
 
+  -- by blocks: found in one, or none there, or further back
+  pub block-here : (a e i k : ℕ) → a < i → i ≤ e → e ≤ length doc → 64 ≤ i → hit (only 10) (getD doc a 0) ≡ 1 → between (only 10) doc i e ≡ 0 → Last (only 10) doc (i - 64) 64 k → 0 < k
+      → Behind doc a e (i - 64 + k)
+  block-here a e i k h l m n g z x y =
+      let f = x .some y in
+      let u : i - 64 + 64 ≡ i = omega arith in
+      let w : between (only 10) doc (i - 64 + k) i ≡ 0 = subst (λ (j : ℕ). between (only 10) doc (i - 64 + k) j ≡ 0) u (f .0) in
+      let b : i - 64 + k ≤ i = omega (arith, x .most) in
+      record {
+        later = before-clear (only 10) doc a (i - 64 + k) i h (omega arith) b g w;
+        before = omega arith;
+        feed = f .1;
+        clear = omega (arith, between-cut (only 10) doc (i - 64 + k) i e b l m);
+      }
+
+  pub block-more : (e i k : ℕ) → i ≤ e → e ≤ length doc → 64 ≤ i → between (only 10) doc i e ≡ 0 → Last (only 10) doc (i - 64) 64 k → k ≤ 0 → between (only 10) doc (i - 64) e ≡ 0
+  block-more e i k l m n z x y =
+      let u : i - 64 + 64 ≡ i = omega arith in
+      let w : between (only 10) doc (i - 64) i ≡ 0 = subst (λ (j : ℕ). between (only 10) doc (i - 64) j ≡ 0) u (x .all y) in
+      omega (arith, between-cut (only 10) doc (i - 64) i e (omega arith) l m)
+
+  pub behind-on : (a e i r : ℕ) → i ≤ e → e ≤ length doc → between (only 10) doc i e ≡ 0 → Behind doc a i r → Behind doc a e r
+  behind-on a e i r l m z x =
+      record {
+        later = x .later;
+        before = omega (arith, x .before);
+        feed = x .feed;
+        clear = omega (arith, x .clear, between-cut (only 10) doc r i e (x .before) l m);
+      }
+
   -- one LF alone
   pub lines-one : (a e r : ℕ) → a < e → e ≤ length doc → hit (only 10) (getD doc a 0) ≡ 1 → Behind doc a e r → r ≡ a + 1 → 1 ≡ between (only 10) doc a e
   lines-one a e r h l g b z = omega (arith, between-less (only 10) doc a e h l, ap (λ (j : ℕ). between (only 10) doc j e) z, b .clear)
 
-  pub back-end : (a e i : ℕ) → a < i → i ≤ a + 1 → i ≤ e → between (only 10) doc i e ≡ 0 → hit (only 10) (getD doc a 0) ≡ 1 → Behind doc a e i
-  back-end a e i k l m z y =
-      let u : a ≡ i - 1 = omega arith in
-      record { later = k; before = m; feed = sym (ap (λ (j : ℕ). hit (only 10) (getD doc j 0)) u) ∙ y; clear = z }
-
-pub ruleset searching = (hit-below, hit-above, hit-within, counting-rest, clear-first, next-end, back-here, back-end, needs)
+pub ruleset searching = (hit-below, hit-above, hit-within, counting-rest, clear-first, next-end, needs)

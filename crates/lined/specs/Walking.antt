@@ -11,7 +11,7 @@ use Rattle.lined.specs.declared.Walk.{Walk}
 use Rattle.lined.specs.Counted.{hit}
 use Rattle.lined.specs.Between.{between, between-none, between-cut, between-most}
 use Rattle.lined.specs.Places.{Begins, begins-first, begins-behind, line-at, column-at}
-use Rattle.lined.specs.Searching.{Next, Behind, next-later}
+use Rattle.lined.specs.Searching.{Clear, Next, Behind, clear-later}
 
 -- the walk, on its way to p: the line begins at `begin`, and the tails in it are counted up to `from`
 pub record Stands (doc : List ℕ) (p : ℕ) (w : Walk) : Type 0 where
@@ -26,7 +26,7 @@ pub record Stands (doc : List ℕ) (p : ℕ) (w : Walk) : Type 0 where
   pub line : w .line ≡ 1 + between (only 10) doc 0 begin
   pub start : w .start ≡ begin + between tail doc begin (w .tail)
   pub feeds : Next (only 10) doc begin (w .feed)
-  pub tails : Next tail doc from (w .tail)
+  pub tails : Clear tail doc from (w .tail)
 
 -- the walk at p: its line and its column are told
 pub record At (doc : List ℕ) (p : ℕ) (w : Walk) : Type 0 where
@@ -50,7 +50,7 @@ module _ (doc : List ℕ) where
         line = omega (arith, between-none (only 10) doc 0);
         start = omega (arith, y .none .clear);
         feeds = x;
-        tails = y;
+        tails = y .none;
       }
 
   -- on its way to a later place
@@ -90,7 +90,7 @@ module _ (doc : List ℕ) where
             between-most (only 10) doc (w .feed) p (s .inside),
           )
 
-      pub stands-down : (n b f t : ℕ) → n ≡ between (only 10) doc (w .feed) p → Behind doc (w .feed) p b → Next (only 10) doc p f → Next tail doc b t
+      pub stands-down : (n b f t : ℕ) → n ≡ between (only 10) doc (w .feed) p → Behind doc (w .feed) p b → Next (only 10) doc p f → Clear tail doc b t
           → Stands doc p (record { line = w .line + n; start = b; feed = f; tail = t }) × (p ≤ f)
       stands-down n b f t e h x y =
           let a = s .begin in
@@ -112,7 +112,7 @@ module _ (doc : List ℕ) where
               reached = h .before;
               in-line = omega (arith, h .before, x .none .ahead);
               line = omega (arith, s .line, k .clear, h .clear);
-              start = omega (arith, y .none .clear);
+              start = omega (arith, y .clear);
               feeds = record { none = record { ahead = omega (arith, h .before, x .none .ahead); inside = x .none .inside; clear = omega (arith, h .clear, x .none .clear) }; found = x .found };
               tails = y;
             },
@@ -123,7 +123,7 @@ module _ (doc : List ℕ) where
       pub stands-under : (n b f : ℕ) → n ≡ between (only 10) doc (w .feed) p → Behind doc (w .feed) p b → Next (only 10) doc p f → b ≤ w .tail
           → Stands doc p (record { line = w .line + n; start = b; feed = f; tail = w .tail }) × (p ≤ f)
       stands-under n b f e h x g =
-          stands-down n b f (w .tail) e h x (next-later tail doc (s .from) b (w .tail) (s .tails) (omega (arith, s .in-line, h .later)) g)
+          stands-down n b f (w .tail) e h x (clear-later tail doc (s .from) b (w .tail) (s .tails) (omega (arith, s .in-line, h .later)) g)
 
     -- in the same line
     module _ (l : p ≤ w .feed) where
@@ -132,7 +132,7 @@ module _ (doc : List ℕ) where
           let b = s .begin in
           let g : b ≤ p = omega (arith, s .ahead, s .reached) in
           let k = s .feeds .none in
-          let t = s .tails .none in
+          let t = s .tails in
           let first = between-cut (only 10) doc b p (w .feed) g l (k .inside) in
           let second = between-cut (only 10) doc 0 b p (omega arith) g (s .inside) in
           let third = between-cut tail doc b p (w .tail) g m (t .inside) in
@@ -150,16 +150,16 @@ module _ (doc : List ℕ) where
         pub start-fits : w .start + n ≤ limit
         start-fits =
             let b = s .begin in
-            let t = s .tails .none in
+            let t = s .tails in
             omega
             (arith, s .start, s .small, s .inside, s .ahead, t .ahead, between-most tail doc b (w .tail) (t .inside), between-most tail doc (w .tail) p (s .inside))
 
-        along : (t : ℕ) → Next tail doc p t → Stands doc p (record { line = w .line; start = w .start + n; feed = w .feed; tail = t })
+        along : (t : ℕ) → Clear tail doc p t → Stands doc p (record { line = w .line; start = w .start + n; feed = w .feed; tail = t })
         along t x =
             let b = s .begin in
-            let g : b ≤ w .tail = omega (arith, s .ahead, s .tails .none .ahead) in
-            let first = between-cut tail doc b (w .tail) t g (omega (arith, x .none .ahead)) (x .none .inside) in
-            let second = between-cut tail doc (w .tail) p t (omega arith) (x .none .ahead) (x .none .inside) in
+            let g : b ≤ w .tail = omega (arith, s .ahead, s .tails .ahead) in
+            let first = between-cut tail doc b (w .tail) t g (omega (arith, x .ahead)) (x .inside) in
+            let second = between-cut tail doc (w .tail) p t (omega arith) (x .ahead) (x .inside) in
             record {
               small = s .small;
               inside = s .inside;
@@ -170,11 +170,11 @@ module _ (doc : List ℕ) where
               reached = omega arith;
               in-line = l;
               line = s .line;
-              start = omega (arith, s .start, x .none .clear);
+              start = omega (arith, s .start, x .clear);
               feeds = s .feeds;
               tails = x;
             }
 
-  pub stands-along : (p n t : ℕ) (w : Walk) → Stands doc p w → p ≤ w .feed → w .tail < p → n ≡ between tail doc (w .tail) p → Next tail doc p t
+  pub stands-along : (p n t : ℕ) (w : Walk) → Stands doc p w → p ≤ w .feed → w .tail < p → n ≡ between tail doc (w .tail) p → Clear tail doc p t
       → At doc p (record { line = w .line; start = w .start + n; feed = w .feed; tail = t })
-  stands-along p n t w s l m e x = stands-here p (record { line = w .line; start = w .start + n; feed = w .feed; tail = t }) (along p w s l m n e t x) l (x .none .ahead)
+  stands-along p n t w s l m e x = stands-here p (record { line = w .line; start = w .start + n; feed = w .feed; tail = t }) (along p w s l m n e t x) l (x .ahead)

@@ -1,17 +1,17 @@
 // Lines and columns, told in one walk over the document beside its rows. Where neither an LF nor a tail byte of a character lies before the next row, that row costs two tests.
 ghost use mathlib.Core.Path.{_≡_};
-ghost use Prim.Native.Nat.{_+_, _≤_, _<_, min};
+ghost use Prim.Native.Nat.{_+_, _≤_, _<_, min, max};
 ghost use lib.ListN.{length, getD};
 ghost use Rattle.language.specs.Answered.{limit};
 ghost use Rattle.language.specs.Lines.{linesOf};
 ghost use Rattle.lined.specs.Counted.{range, hit};
 ghost use Rattle.lined.specs.Between.{between};
-ghost use Rattle.lined.specs.Searching.{Spot, First, Next, Behind};
+ghost use Rattle.lined.specs.Searching.{Spot, First, Last, Next, Behind};
 ghost use Rattle.lined.specs.Walking.{Stands, At};
 ghost use Rattle.lined.specs.Lined.{lined, Ranked};
 use language::WIDTH;
 
-// Where the walk stands: the line; its begin and as many more as tail bytes were passed in it, so that the column of p is p + 1 - start; the next LF and the next tail byte, or the end.
+// Where the walk stands: the line; its begin and as many more as tail bytes were passed in it, so that the column of p is p + 1 - start; the next LF, or the end; a place up to which no tail byte comes.
 struct Walk {
     line: u32,
     start: usize,
@@ -37,6 +37,13 @@ fn less(a: u8, b: u8) -> u8
     ensures { λ r. ⌜ r ≡ min a b ⌝ }
 {
     if a < b { a } else { b }
+}
+
+// The more of two.
+fn more(a: u8, b: u8) -> u8
+    ensures { λ r. ⌜ r ≡ max a b ⌝ }
+{
+    if a < b { b } else { a }
 }
 
 // How many of at most 64 bytes are from lo to hi. The loop has no exit, so that it becomes vector code.
@@ -67,12 +74,12 @@ fn count(doc: &[u8], a: usize, e: usize, lo: u8, hi: u8) -> u32
     n + few(&*doc, i, e - i, lo, hi) as u32
 }
 
-// i for a byte from lo to hi, and 64 for any other.
-fn spot(b: u8, i: u8, lo: u8, hi: u8) -> u8
-    ensures { λ r. ⌜ Spot (range lo hi) b i r ⌝ }
+// i for a byte from lo to hi, and `other` for any other.
+fn spot(b: u8, i: u8, other: u8, lo: u8, hi: u8) -> u8
+    ensures { λ r. ⌜ Spot (range lo hi) b i other r ⌝ }
 {
     if hit(b, lo, hi) == 0 {
-        return 64;
+        return other;
     }
     i
 }
@@ -85,7 +92,7 @@ fn first(doc: &[u8], a: usize, lo: u8, hi: u8) -> u8
     let mut m = 64;
     let mut i = 0;
     while i < 64 {
-        m = less(spot(doc[a + i], i as u8, lo, hi), m);
+        m = less(spot(doc[a + i], i as u8, 64, lo, hi), m);
         i += 1;
     }
     m
@@ -122,19 +129,49 @@ fn next(doc: &[u8], at: usize, lo: u8, hi: u8) -> usize
     rest(&*doc, a, lo, hi)
 }
 
-// The place behind the last LF before e; one stands at a.
-fn behind(doc: &[u8], a: usize, e: usize) -> usize
+// How many of 64 bytes it is to behind the last from lo to hi, or 0. The loop has no exit, so that it becomes vector code.
+fn last(doc: &[u8], a: usize, lo: u8, hi: u8) -> u8
+    requires { ⌜ a + 64 ≤ length (now doc) ⌝ }
+    ensures { λ r. ⌜ Last (range lo hi) (now (doc .entry)) a 64 r ⌝ }
+{
+    let mut m = 0;
+    let mut i = 0;
+    while i < 64 {
+        m = more(spot(doc[a + i], i as u8 + 1, 0, lo, hi), m);
+        i += 1;
+    }
+    m
+}
+
+// The place behind the last LF before e; one stands at a. Byte by byte: the loop ends there at the latest.
+fn back(doc: &[u8], a: usize, e: usize) -> usize
     requires { ⌜ (a < e) × (e ≤ length (now doc)) × (hit (range 10 10) (getD (now doc) a 0) ≡ 1) ⌝ }
     ensures { λ r. ⌜ Behind (now (doc .entry)) a e r ⌝ }
 {
     let mut i = e;
-    while a + 1 < i {
-        if 0 < hit(doc[i - 1], 10, 10) {
-            return i;
-        }
+    while hit(doc[i - 1], 10, 10) == 0 {
         i -= 1;
     }
     i
+}
+
+// The same by blocks of 64 bytes, where the LF that is known is not near.
+fn behind(doc: &[u8], a: usize, e: usize) -> usize
+    requires { ⌜ (a < e) × (e ≤ length (now doc)) × (hit (range 10 10) (getD (now doc) a 0) ≡ 1) ⌝ }
+    ensures { λ r. ⌜ Behind (now (doc .entry)) a e r ⌝ }
+{
+    if e - a <= 9 {
+        return back(&*doc, a, e);
+    }
+    let mut i = e;
+    while 64 <= i {
+        let k = last(&*doc, i - 64, 10, 10);
+        if 0 < k {
+            return i - 64 + k as usize;
+        }
+        i -= 64;
+    }
+    back(&*doc, a, i)
 }
 
 // How many LFs stand from a up to e; one stands at a, and the last of them before `start`. Mostly it is the same one.
@@ -176,7 +213,7 @@ impl Walk {
         }
     }
 
-    // On to p, which is in the same line.
+    // On to p, which is in the same line. Where tails were passed the next one is near, and is not looked for.
     fn along(self, doc: &[u8], p: usize) -> Walk
         requires { ⌜ Stands (now doc) p self × (p ≤ self .feed) ⌝ }
         ensures { λ r. ⌜ At (now (doc .entry)) p r ⌝ }
@@ -186,10 +223,19 @@ impl Walk {
             return self;
         }
         let more = count(&*doc, from, p, 128, 191);
+        let start = self.start + more as usize;
+        if 0 < more {
+            return Walk {
+                line: self.line,
+                start,
+                feed: self.feed,
+                tail: p,
+            };
+        }
         let tail = next(&*doc, p, 128, 191);
         Walk {
             line: self.line,
-            start: self.start + more as usize,
+            start,
             feed: self.feed,
             tail,
         }

@@ -1,9 +1,9 @@
--- `behind` goes back to an LF. The loop's invariant: none stands from i on. Assumes nothing.
+-- `behind` goes back to an LF by blocks. The loop's invariant: none stands from i on. Assumes nothing.
 use native.Mathlib.Omega.{arith}
 use Rattle.lined.specs.Between.{between-none, between}
-use Rattle.lined.specs.Searching.{back-more, searching}
+use Rattle.lined.specs.Searching.{before-clear, block-here, block-more, behind-on, searching}
 use mathlib.Core.Path.{_≡_}
-use Prim.Native.Nat.{_≤_, _<_}
+use Prim.Native.Nat.{_-_, _≤_, _<_}
 use Rattle.lined.specs.Counted.{range}
 use Rattle.lined.proofs.behind.Statement.{statement}
 use Rattle.lined.proofs.behind.Tie as tie
@@ -14,38 +14,53 @@ Inv-loop doc a e i₀ i = (between (range 10 10) doc i e ≡ 0) × (a < i) × (i
 abbrev μ-loop : tie.MeasureT-loop
 μ-loop doc a e i₀ i = i
 
-loop-holds : tie.Need-loop-holds Inv-loop μ-loop
-loop-holds c = let s = c .before .args in (between-none (range 10 10) (s .doc .now) (s .e), omega arith, omega arith)
+sub-if1 : tie.Need-sub-if1 Inv-loop μ-loop
+sub-if1 c = search searching
 
-add-loop : tie.Need-add-loop Inv-loop μ-loop
-add-loop c = search searching
-
-sub-hit : tie.Need-sub-hit Inv-loop μ-loop
-sub-hit c = search searching
-
-shared-slice-read-hit : tie.Need-shared-slice-read-hit Inv-loop μ-loop
-shared-slice-read-hit c = search searching
-
-hit-requires : tie.Need-hit-requires Inv-loop μ-loop
-hit-requires c κs = search searching
+back-requires : tie.Need-back-requires Inv-loop μ-loop
+back-requires c κs = search searching
 
 returns : tie.Need-returns Inv-loop μ-loop
 returns c = search searching
 
-sub-i : tie.Need-sub-i Inv-loop μ-loop
-sub-i c = search searching
+loop-holds : tie.Need-loop-holds Inv-loop μ-loop
+loop-holds c = let s = c .before .before .args in (between-none (range 10 10) (s .doc .now) (s .e), omega arith, omega arith)
+
+last-requires : tie.Need-last-requires Inv-loop μ-loop
+last-requires c κs = search searching
+
+cast-result : tie.Need-cast-result Inv-loop μ-loop
+cast-result c = search searching
+
+add-result : tie.Need-add-result Inv-loop μ-loop
+add-result c = search searching
+
+returns-2 : tie.Need-returns-2 Inv-loop μ-loop
+returns-2 c =
+    let s = c .before .before .before .before .before .before in
+    let l = c .before .before .before .loop in
+    let k = c .before .last in
+    block-here (s .args .doc .now) (s .args .a) (s .args .e) (l .i) (k .result) (l .inv .1) (l .inv .2) (s .pre .1) (omega arith) (s .pre .2) (l .inv .0) (k .ensures) (c .if2 .taken)
 
 loop-less : tie.Need-loop-less Inv-loop μ-loop
 loop-less c = search searching
 
 loop-again : tie.Need-loop-again Inv-loop μ-loop
 loop-again c =
-    let s = c .before .before .before .before .before .before .args in
-    let l = c .before .before .before .before .loop in
-    (back-more (s .doc .now) (s .e) (l .i) (c .before .hit .result) (omega arith) (omega arith) (omega arith) (l .inv .0) (c .before .hit .ensures) (c .if1 .left), omega arith, omega arith)
+    let s = c .before .before .before .before .before .before in
+    let l = c .before .before .before .loop in
+    let k = c .before .last in
+    let z = block-more (s .args .doc .now) (s .args .e) (l .i) (k .result) (l .inv .2) (s .pre .1) (omega arith) (l .inv .0) (k .ensures) (c .if2 .left) in
+    (z, before-clear (range 10 10) (s .args .doc .now) (s .args .a) (l .i - 64) (s .args .e) (omega arith) (omega arith) (omega arith) (s .pre .2) z, omega arith)
 
-returns-2 : tie.Need-returns-2 Inv-loop μ-loop
-returns-2 c = search searching
+back-requires-2 : tie.Need-back-requires-2 Inv-loop μ-loop
+back-requires-2 c κs = search searching
+
+returns-3 : tie.Need-returns-3 Inv-loop μ-loop
+returns-3 c =
+    let s = c .before .before .before .before .before in
+    let l = c .before .before .loop in
+    behind-on (s .args .doc .now) (s .args .a) (s .args .e) (l .i) (c .back2 .result) (l .inv .2) (s .pre .1) (l .inv .0) (c .back2 .ensures)
 
 pub behind-spec : {M : Type 1} → statement M
 behind-spec =
@@ -53,13 +68,15 @@ behind-spec =
     (tie.spec
     Inv-loop
     μ-loop
-    loop-holds
-    add-loop
-    sub-hit
-    shared-slice-read-hit
-    hit-requires
+    sub-if1
+    back-requires
     returns
-    sub-i
+    loop-holds
+    last-requires
+    cast-result
+    add-result
+    returns-2
     loop-less
     loop-again
-    returns-2)
+    back-requires-2
+    returns-3)

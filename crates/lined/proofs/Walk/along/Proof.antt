@@ -1,5 +1,7 @@
 -- `Walk::along` goes on in the line. Assumes nothing.
 use native.Mathlib.Omega.{arith}
+use Rattle.language.specs.Lines.{tail}
+use Rattle.lined.specs.Searching.{clear-first}
 use Rattle.lined.specs.Walking.{stands-here, start-fits, stands-along}
 use borrow.Author.Needs.{needs}
 use Rattle.lined.proofs.Walk.along.Statement.{statement}
@@ -11,24 +13,31 @@ returns c = let s = c .before .before in stands-here (s .args .doc .now) (s .arg
 count-requires : tie.Need-count-requires
 count-requires c κs = search needs
 
+cast-start : tie.Need-cast-start
+cast-start c = search needs
+
+add-start : tie.Need-add-start
+add-start c =
+    let s = c .before .before .before .before in
+    let n = c .before .count in
+    omega (arith, start-fits (s .args .doc .now) (s .args .p) (s .args .self) (s .pre .0) (s .pre .1) (c .before .before .if1 .left) (n .result) (n .ensures))
+
 next-requires : tie.Need-next-requires
 next-requires c κs = search needs
-
-cast-t12 : tie.Need-cast-t12
-cast-t12 c = search needs
-
-add-t13 : tie.Need-add-t13
-add-t13 c =
-    let s = c .before .before .before .before .before in
-    let n = c .before .before .count in
-    omega (arith, start-fits (s .args .doc .now) (s .args .p) (s .args .self) (s .pre .0) (s .pre .1) (c .before .before .before .if1 .left) (n .result) (n .ensures))
 
 returns-2 : tie.Need-returns-2
 returns-2 c =
     let s = c .before .before .before .before .before in
     let n = c .before .before .count in
-    let t = c .before .next in
-    stands-along (s .args .doc .now) (s .args .p) (n .result) (t .result) (s .args .self) (s .pre .0) (s .pre .1) (c .before .before .before .if1 .left) (n .ensures) (t .ensures)
+    let t = clear-first tail (s .args .doc .now) (s .args .p) (s .pre .0 .inside) in
+    stands-along (s .args .doc .now) (s .args .p) (n .result) (s .args .p) (s .args .self) (s .pre .0) (s .pre .1) (c .before .before .before .if1 .left) (n .ensures) t
+
+returns-3 : tie.Need-returns-3
+returns-3 c =
+    let s = c .before .before .before .before .before .before in
+    let n = c .before .before .before .count in
+    let t = c .next in
+    stands-along (s .args .doc .now) (s .args .p) (n .result) (t .result) (s .args .self) (s .pre .0) (s .pre .1) (c .before .before .before .before .if1 .left) (n .ensures) (t .ensures .none)
 
 pub along-spec : {M : Type 1} → statement M
-along-spec = tie.close (tie.spec returns count-requires next-requires cast-t12 add-t13 returns-2)
+along-spec = tie.close (tie.spec returns count-requires cast-start add-start returns-2 next-requires returns-3)

@@ -31,7 +31,7 @@ returns c =
     let n = c .before .before .before .before .lines in
     let k = c .before .before .before .before .before .behind in
     let f = c .before .before .next in
-    stands-down (s .args .doc .now) (s .args .p) (s .args .self) (s .pre .0) (s .pre .1) (n .result) (k .result) (f .result) (c .next2 .result) (n .ensures) (k .ensures) (f .ensures) (c .next2 .ensures)
+    stands-down (s .args .doc .now) (s .args .p) (s .args .self) (s .pre .0) (s .pre .1) (n .result) (k .result) (f .result) (c .next2 .result) (n .ensures) (k .ensures) (f .ensures) (c .next2 .ensures .none)
 
 returns-2 : tie.Need-returns-2
 returns-2 c =
