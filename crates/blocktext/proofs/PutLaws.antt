@@ -21,7 +21,7 @@ use Rattle.rooms.specs.Laws.{take-next, take-byte, take-place, take-other}
 use Rattle.characters.specs.Runs.{Fed}
 use Rattle.blocktext.specs.Spaces.{slice-front}
 use Rattle.blocktext.specs.Placed.{Text, lineAt, Placed, First, first, first-none, first-blank, first-text, lower-self, lower-le, trim-none, text-ahead, text-least, length-line}
-use Rattle.blocktext.specs.Contract.{bodyLines, Known, Stored, One, one-blank, one-text, Lined, LinePut}
+use Rattle.blocktext.specs.Contract.{bodyLines, Known, Stored, Laid, One, one-blank, one-text, Lined, LinePut}
 
 -- ---- one line
 spaced-first : {doc : List ℕ} {c a s e : ℕ} → Text doc c a s e → peek doc a ≡ 32
@@ -43,8 +43,8 @@ same-feed {doc} {c} {a} {s} {e} r t f = by (decLe (suc r) e) (decLe (suc e) r)
     by (no h) (no k) = omega arith
 
 module _ (doc : List ℕ) (col m : ℕ) (n : Cursor) (a : Ans) (t : Takes doc n 10 a) (T : List ℕ) where
-  pub put-blank : (n' : Cursor) → a ≡ Ok n' → (x : ℕ) (T' : List ℕ) → x ≡ spot (n .text) → T' ≡ set T x 10 → LinePut doc col m n (record { at = n' .at; row = n' .row; text = n .text + 1 }) T T'
-  put-blank n' y x T' q r = rw (take-next doc n 10 a t n' y) (record { at = at; stored = stored })
+  pub put-blank : (n' : Cursor) → a ≡ Ok n' → (T' : List ℕ) → T' ≡ set T (n .text) 10 → LinePut doc col m n (record { at = n' .at; row = n' .row; text = n .text + 1 }) T T'
+  put-blank n' y T' r = rw (take-next doc n 10 a t n' y) (record { at = at; stored = stored })
     where
       h : peek doc (n .at) ≡ 10
       h = sym (take-byte doc n 10 a t n' y)
@@ -56,8 +56,8 @@ module _ (doc : List ℕ) (col m : ℕ) (n : Cursor) (a : Ans) (t : Takes doc n 
       at _ _ (one-blank x) = refl
       at _ _ (one-text t x) = absurd (no t)
 
-      stored : (l : Line) (z : ℕ) → One doc col m (n .at) l z → Stored (n .text) (n .text + 1) (unlines m (l ∷ [])) T T'
-      stored _ _ (one-blank _) = record { end = omega arith; room = rw q at r }
+      stored : (l : Line) (z : ℕ) → One doc col m (n .at) l z → Laid (n .text) (n .text + 1) (unlines m (l ∷ [])) T T'
+      stored _ _ (one-blank _) = record { end = omega arith; room = r }
       stored _ _ (one-text t x) = absurd (no t)
 
   pub put-place : (p : ℕ) → a ≡ No p → Lined doc col m n → p ≤ length doc
@@ -83,7 +83,7 @@ module _ (doc : List ℕ) (col m : ℕ) (n : Cursor) (a : Ans) (t : Takes doc n 
     pub put-inside : e ≤ length doc
     put-inside = f .dried .inside
 
-    put-from : (from : ℕ) → from ≡ p + col + 1 + m → (T₁ T' : List ℕ) → T₁ ≡ sets T (spot (n .text)) (slice from e doc) → T' ≡ set T₁ (spot (n .text) + (e - from)) 10
+    put-from : (from : ℕ) → from ≡ p + col + 1 + m → (T₁ T' : List ℕ) → T₁ ≡ sets T (n .text) (slice from e doc) → T' ≡ set T₁ (n .text + (e - from)) 10
         → LinePut doc col m n (record { at = e + 1; row = n .row; text = n .text + (e - from) + 1 }) T T'
     put-from from o T₁ T' r r' = record { at = at; stored = stored }
       where
@@ -94,7 +94,7 @@ module _ (doc : List ℕ) (col m : ℕ) (n : Cursor) (a : Ans) (t : Takes doc n 
         at _ _ (one-blank x) = absurd (h (x .feed))
         at _ _ (one-text t x) = ap (_+ 1) (same-feed e t f)
 
-        go : {s d : ℕ} → Text doc col (n .at) s d → d ≡ e → m ≤ s - (n .at + suc col) → Stored (n .text) (n .text + (e - from) + 1) (unlines m (lineAt doc col (n .at) s d ∷ [])) T T'
+        go : {s d : ℕ} → Text doc col (n .at) s d → d ≡ e → m ≤ s - (n .at + suc col) → Laid (n .text) (n .text + (e - from) + 1) (unlines m (lineAt doc col (n .at) s d ∷ [])) T T'
         go {s} {d} t z x =
             let i : from + (s - (n .at + suc col) - m) ≡ s = let y = t .deep in let k = q in omega arith in
             let w : slice from e doc ≡ spaces (s - (n .at + suc col) - m) ++ slice s e doc =
@@ -103,21 +103,21 @@ module _ (doc : List ℕ) (col m : ℕ) (n : Cursor) (a : Ans) (t : Takes doc n 
             let len : length (slice from e doc) ≡ e - from = length-slice from e doc (f .dried .inside) in
             record {
               end = rw u (let y = length-append (slice from e doc) (10 ∷ []) in omega arith);
-              room = rw u (r' ∙ (ap (λ l. set l (spot (n .text) + (e - from)) 10) r ∙ (ap (λ j. set (sets T (spot (n .text)) (slice from e doc)) (spot (n .text) + j) 10) (sym len) ∙ sym (sets-append T (spot (n .text)) (slice from e doc) (10 ∷ [])))));
+              room = rw u (r' ∙ (ap (λ l. set l (n .text + (e - from)) 10) r ∙ (ap (λ j. set (sets T (n .text) (slice from e doc)) (n .text + j) 10) (sym len) ∙ sym (sets-append T (n .text) (slice from e doc) (10 ∷ [])))));
             }
 
-        stored : (l : Line) (z : ℕ) → One doc col m (n .at) l z → Stored (n .text) (n .text + (e - from) + 1) (unlines m (l ∷ [])) T T'
+        stored : (l : Line) (z : ℕ) → One doc col m (n .at) l z → Laid (n .text) (n .text + (e - from) + 1) (unlines m (l ∷ [])) T T'
         stored _ _ (one-blank x) = absurd (h (x .feed))
         stored _ _ (one-text t x) = go t (sym (same-feed e t f)) x
 
-    pub put-text : (x : ℕ) (T₁ T' : List ℕ) → x ≡ spot (n .text) → T₁ ≡ sets T x (slice (p + col + 1 + m) e doc) → T' ≡ set T₁ (x + (e - (p + col + 1 + m))) 10
+    pub put-text : (T₁ T' : List ℕ) → T₁ ≡ sets T (n .text) (slice (p + col + 1 + m) e doc) → T' ≡ set T₁ (n .text + (e - (p + col + 1 + m))) 10
         → LinePut doc col m n (record { at = e + 1; row = n .row; text = n .text + (e - (p + col + 1 + m)) + 1 }) T T'
-    put-text x T₁ T' q r r' = put-from (p + col + 1 + m) refl T₁ T' (rw q at r) (rw q at r')
+    put-text T₁ T' r r' = put-from (p + col + 1 + m) refl T₁ T' r r'
 
 -- the text word has room for a line
 module _ (doc : List ℕ) (col m : ℕ) (n : Cursor) (i : Lined doc col m n) where
-  small : n .text < ample * ESCAPE
-  small = let h = word-is (n .text) in omega (arith, i .small, i .inside, i .few, i .scant)
+  small : n .text < ample
+  small = omega (arith, i .small, i .inside, i .few)
 
   pub put-one : n .text + 1 < 2 ^ 64
   put-one = omega (arith, small)
@@ -139,18 +139,18 @@ pub record Putting (doc : List ℕ) (col m last stop : ℕ) (goal : List ℕ) (n
   pub passed : before < n .at
   pub ends : last ≡ bodyEnd before rest
   pub lowest : lower m rest ≡ m
-  pub store : goal ≡ sets T (spot (n .text)) (unlines m (trim rest))
+  pub store : goal ≡ sets T (n .text) (unlines m (trim rest))
   pub total : stop ≡ n .text + length (unlines m (trim rest))
   pub bound : m ≤ length doc
   pub small : length doc ≤ limit
-  pub few : spot (n .text) ≤ n .at
-  pub scant : tally (n .text) ≤ n .at
+  pub few : n .text ≤ n .at
+  pub inside : n .at ≤ length doc
   pub low : col ≤ columns
 
-pub put-first : (doc : List ℕ) (e col last least x : ℕ) (T : List ℕ) → Known doc e col last least x
-    → Putting doc col least last (x + length (bodyText (bodyLines doc e col))) (sets T (spot x) (bodyText (bodyLines doc e col))) (record { at = e + 1; row = 0; text = x }) T
+pub put-first : (doc : List ℕ) (e col last least x from : ℕ) (T : List ℕ) → Known doc e col last least x → from ≡ spot x
+    → Putting doc col least last (from + length (bodyText (bodyLines doc e col))) (sets T from (bodyText (bodyLines doc e col))) (record { at = e + 1; row = 0; text = from }) T
 unfolding bodyLines
-put-first doc e col last least x T k =
+put-first doc e col last least x from T k y =
     let d = k .body in
     let u : bodyText (bodyLines doc e col) ≡ unlines least (trim (d .lines)) =
     ap (λ o. bodyText (Rattle.blocktext.specs.Contract.linesOf o)) (d .is) ∙ (text-least (d .placed) ∙ ap (λ q. unlines q (trim (d .lines))) (sym (d .lowest))) in
@@ -162,12 +162,12 @@ put-first doc e col last least x T k =
       passed = omega arith;
       ends = d .ends;
       lowest = ap (λ q. lower q (d .lines)) (d .lowest) ∙ (lower-self (length doc) (d .lines) ∙ sym (d .lowest));
-      store = ap (sets T (spot x)) u;
-      total = ap (λ s. x + length s) u;
+      store = ap (sets T from) u;
+      total = ap (λ s. from + length s) u;
       bound = omega (arith, d .lowest, lower-le (length doc) (d .lines));
       small = k .small;
       few = omega (arith, k .few);
-      scant = omega (arith, k .scant);
+      inside = omega (arith, k .inside);
       low = k .low;
     }
 
@@ -191,7 +191,7 @@ module _ (doc : List ℕ) (col m last stop : ℕ) (goal : List ℕ) (n : Cursor)
     where
       go : First doc col (n .at) (p .end) (p .rest) → Lined doc col m n
       go (first-none z) = let e = p .ends ∙ ap (bodyEnd (p .before)) z in absurd (omega (arith, p .passed))
-      go (first-blank rs z x q) = record { line = blank; end = n .at + 1; one = one-blank x; inside = x .inside; bound = p .bound; small = p .small; few = p .few; scant = p .scant; low = p .low }
+      go (first-blank rs z x q) = record { line = blank; end = n .at + 1; one = one-blank x; inside = x .inside; bound = p .bound; small = p .small; few = p .few; low = p .low }
       go (first-text s f rs z x q) =
           let h = sym (ap (lower m) z) ∙ p .lowest in
           record {
@@ -202,7 +202,6 @@ module _ (doc : List ℕ) (col m last stop : ℕ) (goal : List ℕ) (n : Cursor)
             bound = p .bound;
             small = p .small;
             few = p .few;
-            scant = p .scant;
             low = p .low;
           }
 
@@ -213,9 +212,6 @@ module _ (doc : List ℕ) (col m last stop : ℕ) (goal : List ℕ) (n : Cursor)
     next r rs z b o q k e h u f i =
         let a = w .at r z o in
         let s = w .stored r z o in
-        let d : spot (n .text) + length (unlines m (r ∷ [])) < ESCAPE = omega (arith, p .few, p .small) in
-        let sx : spot (n' .text) ≡ spot (n .text) + length (unlines m (r ∷ [])) = ap spot (s .end) ∙ spot-plain (n .text) (length (unlines m (r ∷ []))) d in
-        let sy : tally (n' .text) ≡ tally (n .text) = ap tally (s .end) ∙ tally-plain (n .text) (length (unlines m (r ∷ []))) d in
         record {
           rest = rs;
           end = p .end;
@@ -226,14 +222,14 @@ module _ (doc : List ℕ) (col m last stop : ℕ) (goal : List ℕ) (n : Cursor)
           lowest = h;
           store =
               p .store
-              ∙ (ap (sets T (spot (n .text))) u
-              ∙ (sets-append T (spot (n .text)) (unlines m (r ∷ [])) (unlines m (trim rs))
-              ∙ (ap (λ t. sets t (spot (n .text) + length (unlines m (r ∷ []))) (unlines m (trim rs))) (sym (s .room)) ∙ ap (λ i. sets T' i (unlines m (trim rs))) (sym sx))));
+              ∙ (ap (sets T (n .text)) u
+              ∙ (sets-append T (n .text) (unlines m (r ∷ [])) (unlines m (trim rs))
+              ∙ (ap (λ t. sets t (n .text + length (unlines m (r ∷ []))) (unlines m (trim rs))) (sym (s .room)) ∙ ap (λ i. sets T' i (unlines m (trim rs))) (sym (s .end)))));
           total = p .total ∙ (ap (λ t. n .text + length t) u ∙ (let y = length-append (unlines m (r ∷ [])) (unlines m (trim rs)) in let v = s .end in omega arith));
           bound = p .bound;
           small = p .small;
-          few = omega (arith, p .few);
-          scant = omega (arith, p .scant);
+          few = omega (arith, p .few, s .end);
+          inside = omega arith;
           low = p .low;
         }
 
@@ -291,12 +287,18 @@ module _ (doc : List ℕ) (col m last stop : ℕ) (goal : List ℕ) (n : Cursor)
       go (inl z) =
           let u : unlines m (trim (p .rest)) ≡ [] = ap (unlines m) z in
           let k = ap length u in
-          (sym (p .store ∙ ap (sets T (spot (n .text))) u), omega (arith, p .total))
+          (sym (p .store ∙ ap (sets T (n .text)) u), omega (arith, p .total))
       go (inr z) = absurd (omega (arith, p .ends))
 
-pub put-stored : (doc : List ℕ) (e col last least x : ℕ) (T T' : List ℕ) (n : Cursor)
-    → Putting doc col least last (x + length (bodyText (bodyLines doc e col))) (sets T (spot x) (bodyText (bodyLines doc e col))) n T' → last ≤ n .at
-    → Stored x (n .text) (bodyText (bodyLines doc e col)) T T'
-put-stored doc e col last least x T T' n p l = let z = put-done doc col least last _ _ n T' p l in record { end = z .1; room = z .0 }
+module _ (doc : List ℕ) (e col last least x from : ℕ) (T T' : List ℕ) (n : Cursor) (y : from ≡ spot x) (p : Putting doc col least last (from + length (bodyText (bodyLines doc e col))) (sets T from (bodyText (bodyLines doc e col))) n T') where
+  -- the word goes on by what was written
+  pub put-past : last ≤ n .at → from ≤ n .text
+  put-past l = omega (arith, put-done doc col least last _ _ n T' p l .1)
 
-pub ruleset putting = (put-first, put-lined, put-on, put-stored, needs)
+  pub put-word : Known doc e col last least x → x + (n .text - from) < 2 ^ 64
+  put-word k = let h = word-is x in omega (arith, k .few, k .scant, k .inside, k .small, p .few, p .inside)
+
+  pub put-stored : last ≤ n .at → Stored x (x + (n .text - from)) (bodyText (bodyLines doc e col)) T T'
+  put-stored l = let z = put-done doc col least last _ _ n T' p l in record { end = omega (arith, z .1); room = z .0 ∙ ap (λ i. sets T i (bodyText (bodyLines doc e col))) y }
+
+pub ruleset putting = (put-first, put-lined, put-on, needs)

@@ -117,6 +117,11 @@ pub record Stored (x y : ℕ) (s text text' : List ℕ) : Type 0 where
   pub end : y ≡ x + length s
   pub room : text' ≡ sets text (spot x) s
 
+-- the same, where no escapes stand in the word
+pub record Laid (x y : ℕ) (s text text' : List ℕ) : Type 0 where
+  pub end : y ≡ x + length s
+  pub room : text' ≡ sets text x s
+
 -- one line of it, where the least indentation is m past the first column
 pub data One (doc : List ℕ) (col m a : ℕ) : Line → ℕ → Type 0 where
   one-blank : Blank doc a → One doc col m a blank (a + 1)
@@ -129,13 +134,12 @@ pub record Lined (doc : List ℕ) (col m : ℕ) (n : Cursor) : Type 0 where
   pub inside : n .at < length doc
   pub bound : m ≤ length doc
   pub small : length doc ≤ limit
-  pub few : spot (n .text) ≤ n .at
-  pub scant : tally (n .text) ≤ n .at
+  pub few : n .text ≤ n .at
   pub low : col ≤ columns
 
 pub record LinePut (doc : List ℕ) (col m : ℕ) (n n' : Cursor) (text text' : List ℕ) : Type 0 where
   pub at : (l : Line) (z : ℕ) → One doc col m (n .at) l z → n' .at ≡ z
-  pub stored : (l : Line) (z : ℕ) → One doc col m (n .at) l z → Stored (n .text) (n' .text) (unlines m (l ∷ [])) text text'
+  pub stored : (l : Line) (z : ℕ) → One doc col m (n .at) l z → Laid (n .text) (n' .text) (unlines m (l ∷ [])) text text'
 
 -- ASKED of a cursor at an open block string whose leader has a space, and its text from a on
 pub record Led (doc : List ℕ) (c : Cursor) (col a : ℕ) : Type 0 where

@@ -82,19 +82,19 @@ pub fn body(doc: &[u8], e: usize, col: usize) -> Extent
     }
 }
 
-// The line at the cursor, less the column and the least indentation, and its LF.
+// The line at the cursor, whose text word has no escapes, less the column and the least indentation, and its LF.
 fn put_line(doc: &[u8], text: &mut [u8], n: Cursor, col: usize, least: usize) -> Cursor
     requires { ⌜ Lined (now doc) col least n ⌝ }
     ensures { λ r. ⌜ LinePut (now (doc .entry)) col least n r (now (text .entry)) (now (text .exit)) ⌝ }
 {
-    let x = n.spot();
+    let x = n.text;
     match n.take(&*doc, 10) {
         Ans::Ok(m) => {
             put_byte(text, x, 10);
             Cursor {
                 at: m.at,
                 row: m.row,
-                text: n.text + 1,
+                text: x + 1,
             }
         }
         Ans::No(a) => {
@@ -106,7 +106,7 @@ fn put_line(doc: &[u8], text: &mut [u8], n: Cursor, col: usize, least: usize) ->
             Cursor {
                 at: e + 1,
                 row: n.row,
-                text: n.text + (e - from) + 1,
+                text: x + (e - from) + 1,
             }
         }
     }
@@ -125,13 +125,18 @@ pub fn put_body(
     requires { ⌜ Known (now doc) e col last least x ⌝ }
     ensures { λ r. ⌜ Stored x r (bodyText (bodyLines (now (doc .entry)) e col)) (now (text .entry)) (now (text .exit)) ⌝ }
 {
+    let from = Cursor {
+        at: e,
+        row: 0,
+        text: x,
+    }.spot();
     let mut n = Cursor {
         at: e + 1,
         row: 0,
-        text: x,
+        text: from,
     };
     while n.at < last {
         n = put_line(&*doc, text, n, col, least);
     }
-    n.text
+    x + (n.text - from)
 }

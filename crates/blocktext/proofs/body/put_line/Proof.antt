@@ -3,9 +3,6 @@ use Rattle.blocktext.proofs.PutLaws.{putting-line, put-text}
 use Rattle.blocktext.proofs.body.put_line.Statement.{statement}
 use Rattle.blocktext.proofs.body.put_line.Tie as tie
 
-spot-requires : tie.Need-spot-requires
-spot-requires c κs = search putting-line
-
 take-requires : tie.Need-take-requires
 take-requires c κs = search putting-line
 
@@ -67,13 +64,12 @@ same-length-2 : tie.Need-same-length-2
 same-length-2 c = search putting-line
 
 returns-2 : tie.Need-returns-2
-returns-2 c = put-text _ _ _ _ _ ((c .before .before .before .before .before .before .before .before .before .before .before .before .before .take) .ensures) _ _ ((c .before .before .before .before .before .before .before .before .before .before .before .a) .given .1) _ ((c .before .before .before .before .before .before .before .before .before .line-end) .ensures) _ _ _ ((c .before .before .before .before .before .before .before .before .before .before .before .before .before .before .spot) .ensures) ((c .before .before .before .before .before .before .before .copy) .ensures) ((c .before .before .before .put-byte2) .ensures)
+returns-2 c = put-text _ _ _ _ _ ((c .before .before .before .before .before .before .before .before .before .before .before .before .take) .ensures) _ _ ((c .before .before .before .before .before .before .before .before .before .before .a) .given .1) _ ((c .before .before .before .before .before .before .before .before .line-end) .ensures) _ _ ((c .before .before .before .before .before .before .copy) .ensures) ((c .before .before .put-byte2) .ensures)
 
 pub put-line-spec : {M : Type 1} → statement M
 put-line-spec =
     tie.close
     (tie.spec
-    spot-requires
     take-requires
     enum-known-m
     put-byte-requires
