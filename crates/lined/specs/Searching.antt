@@ -83,6 +83,13 @@ module _ (c : Class) (doc : List ℕ) where
   pub counting-all : (a i n m : ℕ) → Counting c doc a (a + i) m → i ≤ n → n ≤ i → m ≡ between c doc a (a + n)
   counting-all a i n m x h k = x .is ∙ ap (λ (j : ℕ). between c doc a (a + j)) (let z : i ≡ n = omega arith in z)
 
+  -- of two parts
+  pub halves : (a b e m n : ℕ) → a ≤ b → b ≤ e → e ≤ length doc → m ≡ between c doc a b → n ≡ between c doc b e → m + n ≡ between c doc a e
+  halves a b e m n h k l y z = omega (arith, between-cut c doc a b e h k l)
+
+  pub halves-fit : (a b e m n : ℕ) → a ≤ b → b ≤ e → e ≤ length doc → m ≡ between c doc a b → n ≡ between c doc b e → m + n ≤ length doc
+  halves-fit a b e m n h k l y z = omega (arith, between-most c doc a b (omega arith), between-most c doc b e l)
+
   pub clear-first : (a : ℕ) → a ≤ length doc → Clear c doc a a
   clear-first a h = record { ahead = omega arith; inside = h; clear = between-none c doc a }
 

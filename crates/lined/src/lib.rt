@@ -174,6 +174,20 @@ fn behind(doc: &[u8], a: usize, e: usize) -> usize
     back(&*doc, a, i)
 }
 
+// How many LFs stand from a up to e. It calls itself for a long way, so that it is put into no caller: those stay small.
+fn many(doc: &[u8], a: usize, e: usize) -> u32
+    requires { ⌜ (a ≤ e) × (e ≤ length (now doc)) × (length (now doc) ≤ limit) ⌝ }
+    ensures { λ r. ⌜ r ≡ between (range 10 10) (now (doc .entry)) a e ⌝ }
+{
+    let n = e - a;
+    if n <= 4096 {
+        return count(&*doc, a, e, 10, 10);
+    }
+    let m = a + n / 2;
+    let early = many(&*doc, a, m);
+    early + many(&*doc, m, e)
+}
+
 // How many LFs stand from a up to e; one stands at a, and the last of them before `start`. Mostly it is the same one.
 fn lines(doc: &[u8], a: usize, start: usize, e: usize) -> u32
     requires { ⌜ (a < e) × (e ≤ length (now doc)) × (length (now doc) ≤ limit) × (hit (range 10 10) (getD (now doc) a 0) ≡ 1) × Behind (now doc) a e start ⌝ }
@@ -182,7 +196,7 @@ fn lines(doc: &[u8], a: usize, start: usize, e: usize) -> u32
     if start == a + 1 {
         return 1;
     }
-    count(&*doc, a, e, 10, 10)
+    many(&*doc, a, e)
 }
 
 impl Walk {

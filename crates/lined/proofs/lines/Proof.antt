@@ -10,11 +10,11 @@ add-if1 c = search needs
 returns : tie.Need-returns
 returns c = search (lines-one, needs)
 
-count-requires : tie.Need-count-requires
-count-requires c κs = search needs
+many-requires : tie.Need-many-requires
+many-requires c κs = search needs
 
 returns-2 : tie.Need-returns-2
 returns-2 c = search needs
 
 pub lines-spec : {M : Type 1} → statement M
-lines-spec = tie.close (tie.spec add-if1 returns count-requires returns-2)
+lines-spec = tie.close (tie.spec add-if1 returns many-requires returns-2)
