@@ -8,6 +8,7 @@ pub mod forms;
 pub mod places;
 pub mod run;
 pub mod stream;
+mod streams;
 pub mod writing;
 
 use crate::documents::grow::Meant;

@@ -1,16 +1,12 @@
 //! A run over streams of documents, each in a thread of its own, until one differs or the limits are reached.
 
 use super::stream::{Document, Stream};
+use super::streams::{each_stream, PARTS};
 use super::{forms, places, Comparer, Reader, Tally};
 use crate::vectors::Vector;
 use std::sync::atomic::{AtomicBool, AtomicUsize, Ordering::Relaxed};
-use std::thread;
 use std::time::{Duration, Instant};
 
-/// Streams, however many processors there are, so that a seed gives the same documents everywhere.
-const PARTS: usize = 2;
-/// The proved reader keeps its rooms on the stack.
-const STACK: usize = 16 << 20;
 /// After so many documents a thread looks at the clock and at the other threads.
 const TURN: usize = 1024;
 
@@ -46,29 +42,16 @@ pub fn run<R: Reader>(
 ) -> Result<Tally, Difference> {
     let until = limits.seconds.map(|seconds| Instant::now() + Duration::from_secs(seconds));
     let shared = Shared { limits, until, documents: AtomicUsize::new(0), stop: AtomicBool::new(false) };
-    thread::scope(|scope| {
-        let start = |part| {
-            let (shared, make, watch) = (&shared, &make, &watch);
-            let work = move || {
-                one_stream(&mut make(), part, shared, |count| {
-                    if part == 0 {
-                        watch(count)
-                    }
-                })
-            };
-            thread::Builder::new().stack_size(STACK).spawn_scoped(scope, work).expect("a thread")
-        };
-        let threads: Vec<_> = (0..PARTS).map(start).collect();
-        let mut all = Tally::default();
-        let mut differs = None;
-        for thread in threads {
-            match thread.join().expect("no panic") {
-                Ok(tally) => all.add(&tally),
-                Err(difference) => differs = Some(difference),
+    let tallies = each_stream(|part| {
+        one_stream(&mut make(), part, &shared, |count| {
+            if part == 0 {
+                watch(count)
             }
-        }
-        differs.map_or(Ok(all), Err)
-    })
+        })
+    })?;
+    let mut all = Tally::default();
+    tallies.iter().for_each(|tally| all.add(tally));
+    Ok(all)
 }
 
 fn one_stream(

@@ -1,17 +1,12 @@
 //! A run over streams of tables, each in a thread of its own, until one differs or all were tried.
 
 use super::{Comparer, Tally, Writer};
+use crate::compare::streams::{each_stream, PARTS};
 use crate::documents::Rng;
 use crate::tables::borders::borders;
 use crate::tables::stream::Stream;
 use crate::tables::Table;
 use std::sync::atomic::{AtomicBool, Ordering::Relaxed};
-use std::thread;
-
-/// Streams, however many processors there are.
-const PARTS: usize = 2;
-/// The library's functions keep rooms on the stack.
-const STACK: usize = 16 << 20;
 
 /// A table that differs.
 pub struct Difference {
@@ -24,24 +19,13 @@ pub struct Difference {
 /// The tally of all tables, or one that differs.
 pub fn run<W: Writer>(make: impl Fn() -> W + Sync, seed: u64, tables: usize) -> Result<Tally, Difference> {
     let stop = AtomicBool::new(false);
-    thread::scope(|scope| {
-        let start = |part: usize| {
-            let (make, stop) = (&make, &stop);
-            let seed = seed.wrapping_mul(PARTS as u64).wrapping_add(part as u64);
-            let work = move || one_stream(&mut make(), seed, part, tables.div_ceil(PARTS), stop);
-            thread::Builder::new().stack_size(STACK).spawn_scoped(scope, work).expect("a thread")
-        };
-        let threads: Vec<_> = (0..PARTS).map(start).collect();
-        let mut all = Tally::default();
-        let mut differs = None;
-        for thread in threads {
-            match thread.join().expect("no panic") {
-                Ok(tally) => all.add(&tally),
-                Err(difference) => differs = Some(difference),
-            }
-        }
-        differs.map_or(Ok(all), Err)
-    })
+    let tallies = each_stream(|part| {
+        let seed = seed.wrapping_mul(PARTS as u64).wrapping_add(part as u64);
+        one_stream(&mut make(), seed, part, tables.div_ceil(PARTS), &stop)
+    })?;
+    let mut all = Tally::default();
+    tallies.iter().for_each(|tally| all.add(tally));
+    Ok(all)
 }
 
 /// The borders first, in the first stream.
