@@ -35,6 +35,13 @@ static struct room make_room(void) {
     return (struct room){all + page, all + page + ROOM};
 }
 
+static void protect(struct room room, int how) {
+    if (mprotect(room.low, ROOM, how) != 0) {
+        perror("boundary");
+        exit(2);
+    }
+}
+
 static struct room doc_room, table_room, text_room, out_room;
 
 /* The part of a room of so many bytes that touches its end, or its beginning. */
@@ -174,6 +181,83 @@ static void try_document(const uint8_t *doc, size_t len) {
     }
 }
 
+/* Decides on two tables, each between pages that may not be touched, and which may only be read from. */
+static uint32_t decide_in(const uint32_t *sheet, size_t sheet_words, size_t sheet_rows, const uint8_t *sheet_text,
+                          size_t sheet_len, const uint32_t *installed, size_t installed_words, size_t installed_rows,
+                          const uint8_t *installed_text, size_t installed_len) {
+    uint32_t decision = 77;
+    struct room *rooms[] = {&table_room, &text_room, &doc_room, &out_room};
+    for (size_t i = 0; i < 4; i++) protect(*rooms[i], PROT_READ);
+    uint32_t number = yay_decide(sheet, sheet_words, sheet_rows, sheet_text, sheet_len, installed, installed_words,
+                                 installed_rows, installed_text, installed_len, &decision);
+    for (size_t i = 0; i < 4; i++) protect(*rooms[i], PROT_READ | PROT_WRITE);
+    if (number == YAY_OK) {
+        expect(decision == YAY_INSTALL || decision == YAY_KEEP || decision == YAY_BLOCKED, "a decision", decision);
+        return decision;
+    }
+    expect((number == YAY_BADSHEET || number == YAY_BADINST) && decision == 0, "a refusal's decision", decision);
+    return number;
+}
+
+/* Reads a sheet and an installed version, and decides in rooms that end, or begin, where their rows and texts do. The
+ * decision, or the number of a refusal. */
+static uint32_t decided(const char *sheet, const char *installed, int at_end) {
+    static uint32_t words[2][YAY_TABLE_ROOM(4096)];
+    static uint8_t text[2][YAY_TEXT_ROOM(4096)];
+    const char *docs[2] = {sheet, installed};
+    size_t rows[2], bytes[2], escapes;
+    uint32_t *tables[2];
+    uint8_t *texts[2];
+    for (int i = 0; i < 2; i++) {
+        uint32_t number = yay_read((const uint8_t *)docs[i], strlen(docs[i]), words[i], YAY_TABLE_ROOM(4096), text[i],
+                                   YAY_TEXT_ROOM(4096), &rows[i], &bytes[i], &escapes);
+        expect(number == YAY_OK, docs[i], number);
+        tables[i] = (uint32_t *)(void *)part(i ? out_room : table_room, rows[i] * YAY_WORDS * 4, at_end);
+        texts[i] = part(i ? doc_room : text_room, bytes[i], at_end);
+        memcpy(tables[i], words[i], rows[i] * YAY_WORDS * 4);
+        memcpy(texts[i], text[i], bytes[i]);
+    }
+    for (size_t less = 1; less <= rows[0] * YAY_WORDS; less++) {
+        uint32_t number = decide_in(tables[0] + (at_end ? less : 0), rows[0] * YAY_WORDS - less, rows[0], texts[0],
+                                    bytes[0], tables[1], rows[1] * YAY_WORDS, rows[1], texts[1], bytes[1]);
+        expect(number == YAY_BADSHEET || number == YAY_BADINST, "a table that is too short", less);
+    }
+    return decide_in(tables[0], rows[0] * YAY_WORDS, rows[0], texts[0], bytes[0], tables[1], rows[1] * YAY_WORDS,
+                     rows[1], texts[1], bytes[1]);
+}
+
+#define IMAGE "image: <9f86d081884c7d659a2feaa0c55ad015a3bf4f1b2b0b822cd15d6c15b0f00a08>\n"
+
+/* What document 02 says of sheets and installed versions. */
+static void try_decisions(void) {
+    static const struct {
+        const char *sheet, *installed;
+        uint32_t wanted;
+    } cases[] = {
+        {"version: [10]\nfloor: [0]\n" IMAGE, "[9]\n", YAY_INSTALL},
+        {"version: [9]\nfloor: [0]\n" IMAGE, "[10]\n", YAY_KEEP},
+        {"version: [10]\nfloor: [0]\n" IMAGE, "[10, 0]\n", YAY_KEEP},
+        {"version: [10]\nfloor: [9, 5]\n" IMAGE, "[9, 4]\n", YAY_BLOCKED},
+        {IMAGE "floor: [-0]\n\"\\u{76}ersion\": [0, 0, 0, 0, 0, 0, 0, 01]\n", "[0]\n", YAY_INSTALL},
+        {"version: [-1]\nfloor: [0]\n" IMAGE, "[9]\n", YAY_BADSHEET},
+        {"version: []\nfloor: [0]\n" IMAGE, "[9]\n", YAY_BADSHEET},
+        {"version: [1, 2, 3, 4, 5, 6, 7, 8, 0]\nfloor: [0]\n" IMAGE, "[9]\n", YAY_BADSHEET},
+        {"version: [10]\nfloor: [0]\nimage: <00>\n", "[9]\n", YAY_BADSHEET},
+        {"version: [10]\nfloor: [0]\nimages: 1\n" IMAGE, "[9]\n", YAY_BADSHEET},
+        {"version: [10]\n" IMAGE, "[9]\n", YAY_BADSHEET},
+        {"[[10], [0]]\n", "[9]\n", YAY_BADSHEET},
+        {"[[10], [0]]\n", "[]\n", YAY_BADINST},
+        {"version: [10]\nfloor: [0]\n" IMAGE, "[-9]\n", YAY_BADINST},
+        {"version: [10]\nfloor: [0]\n" IMAGE, "9\n", YAY_BADINST},
+    };
+    for (size_t i = 0; i < sizeof cases / sizeof *cases; i++) {
+        for (int at_end = 0; at_end < 2; at_end++) {
+            uint32_t got = decided(cases[i].sheet, cases[i].installed, at_end);
+            expect(got == cases[i].wanted, cases[i].sheet, got);
+        }
+    }
+}
+
 /* Tables that no reader made: small random words, and fewer of them than the rows say. */
 static void try_broken_tables(void) {
     uint32_t seed = 1;
@@ -187,6 +271,7 @@ static void try_broken_tables(void) {
         ask(table, words, rows, part(text_room, 5, 1), 5);
         size_t count;
         write_in(table, words, rows, part(text_room, 5, 1), 5, round % 40, 1, &count);
+        decide_in(table, words, rows, part(text_room, 5, 1), 5, table, words, rows, part(text_room, 5, 1), 5);
     }
 }
 
@@ -299,6 +384,7 @@ int main(int count, char **args) {
     try_escapes();
     try_places();
     try_soundness();
+    try_decisions();
     try_broken_tables();
     memset(doc, ' ', sizeof doc);
     expect(read_in(doc, sizeof doc, 9, 9, 1).number == YAY_LONG, "a document too long", sizeof doc);

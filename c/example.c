@@ -1,4 +1,5 @@
-/* Reads a profile, prints which image a tablet installs, and writes the profile back: `example FILE`. */
+/* Reads a profile, prints which image a tablet installs, writes the profile back, and decides on an upgrade:
+ * `example FILE`. */
 #include <stdio.h>
 #include <string.h>
 #include "yay_help.h"
@@ -58,6 +59,36 @@ static void print_written(void) {
     printf("written back: %zu bytes, from %.*s\n", count, (int)line, (const char *)out);
 }
 
+/* A short document's table and text. */
+#define SHORT 256
+struct read {
+    uint32_t table[YAY_TABLE_ROOM(SHORT)];
+    uint8_t text[YAY_TEXT_ROOM(SHORT)];
+    size_t rows, bytes, escapes;
+};
+
+static uint32_t read_short(const char *document, struct read *to) {
+    return yay_read((const uint8_t *)document, strlen(document), to->table, sizeof to->table / sizeof *to->table,
+                    to->text, sizeof to->text, &to->rows, &to->bytes, &to->escapes);
+}
+
+/* Prints whether to install what a release sheet names over what is installed. */
+static void print_decision(const char *sheet, const char *installed) {
+    static const char *const words[] = {"", "install", "keep", "blocked"};
+    static struct read s, i;
+    uint32_t decision = 0, number = read_short(sheet, &s);
+    if (number == YAY_OK) number = read_short(installed, &i);
+    if (number == YAY_OK) {
+        number = yay_decide(s.table, sizeof s.table / sizeof *s.table, s.rows, s.text, s.bytes, i.table,
+                            sizeof i.table / sizeof *i.table, i.rows, i.text, i.bytes, &decision);
+    }
+    if (number == YAY_OK) {
+        printf("decided: %s\n", words[decision]);
+    } else {
+        printf("not decided: %s (%u): %s\n", yay_number_name(number), (unsigned)number, yay_number_sentence(number));
+    }
+}
+
 int main(int count, char **args) {
     FILE *file = count == 2 ? fopen(args[1], "rb") : NULL;
     if (file == NULL) {
@@ -83,5 +114,11 @@ int main(int count, char **args) {
         print_numbers(version, "9");
     }
     print_written();
+    static const char sheet[] = "version: [10]\nfloor: [9, 5]\n"
+                                "image: <9f86d081884c7d659a2feaa0c55ad015a3bf4f1b2b0b822cd15d6c15b0f00a08>\n";
+    print_decision(sheet, "[9, 5, 2]\n");
+    print_decision(sheet, "[10, 0]\n");
+    print_decision(sheet, "[9, 4]\n");
+    print_decision(sheet, "[]\n");
     return 0;
 }

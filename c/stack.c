@@ -1,6 +1,6 @@
-/* Measures the stack that yay_read touches, and yay_sound and yay_write on the tables that it fills: documents of every class of size, good, refused, repeating and hostile, with
- * many rows and with few, each read into large rooms and into none, in a thread whose stack is painted first. Fails where
- * a class takes more than yay.h says. */
+/* Measures the stack that yay_read touches, and yay_sound, yay_write and yay_decide on the tables that it fills:
+ * documents of every class of size, good, refused, repeating and hostile, with many rows and with few, each read into
+ * large rooms and into none, in a thread whose stack is painted first. Fails where a class takes more than yay.h says. */
 #define _DEFAULT_SOURCE
 #include <pthread.h>
 #include <stdio.h>
@@ -28,6 +28,24 @@ static void *writes(void *nothing) {
     if (yay_sound(table, words, rows, text, bytes) == YAY_OK) {
         number = yay_write(table, words, rows, text, bytes, out, sizeof out, &count);
     }
+    return nothing;
+}
+
+/* The installed version that sheets are tried with, and what was decided. */
+static uint8_t installed_text[YAY_TEXT_ROOM(YAY_LONGEST)];
+static uint32_t installed_table[YAY_TABLE_ROOM(YAY_LONGEST)];
+static size_t installed_rows, installed_bytes;
+static uint32_t decision;
+
+static void *decides(void *nothing) {
+    number = yay_decide(table, words, rows, text, bytes, installed_table, sizeof installed_table / sizeof *installed_table,
+                        installed_rows, installed_text, installed_bytes, &decision);
+    return nothing;
+}
+
+/* With the document as what is installed. */
+static void *refuses(void *nothing) {
+    number = yay_decide(table, words, rows, text, bytes, table, words, rows, text, bytes, &decision);
     return nothing;
 }
 
@@ -64,9 +82,21 @@ static int documents, answers[YAY_TEXT + 1];
 static size_t writing;
 static int written[2];
 
+/* The most that deciding has touched, and how often each decision was met. */
+static size_t deciding;
+static int decisions[YAY_BLOCKED + 1];
+
+/* What a thread touches that does nothing. */
+static size_t rest;
+
+static void measure_decision(void *(*work)(void *)) {
+    size_t took = touched(work) - rest;
+    if (took > deciding) deciding = took;
+    if (number == YAY_OK) decisions[decision]++;
+}
+
 /* The document in large rooms, in no table, and in no text room. */
 static void measure(void) {
-    static size_t rest;
     struct class *c = classes;
     if (!rest) rest = touched(rests);
     while (len > c->bytes) c++;
@@ -81,6 +111,8 @@ static void measure(void) {
         took = touched(writes) - rest;
         if (took > writing) writing = took;
         if (number == YAY_OK || number == YAY_LONG) written[number]++;
+        measure_decision(decides);
+        measure_decision(refuses);
     }
     documents++;
 }
@@ -148,6 +180,36 @@ static void long_keys(size_t n) {
     measure();
 }
 
+/* A list of eight numbers of n digits each; the last digit of the last is given. */
+static size_t numbers(uint8_t *to, size_t n, char last) {
+    size_t at = 0;
+    to[at++] = '[';
+    for (int i = 0; i < 8; i++) {
+        memset(to + at, '7', n);
+        at += n;
+        to[at++] = ',';
+        to[at++] = ' ';
+    }
+    to[at - 3] = (uint8_t)last;
+    to[at - 2] = ']';
+    to[at - 1] = '\n';
+    return at;
+}
+
+/* A sheet with numbers of n digits, and what is installed with such numbers. */
+static void sheet(size_t n, char version, char floor, char installed) {
+    static const char image[] = "image: <9f86d081884c7d659a2feaa0c55ad015a3bf4f1b2b0b822cd15d6c15b0f00a08>\n";
+    len = numbers(doc, n, installed);
+    if (yay_read(doc, len, installed_table, sizeof installed_table / sizeof *installed_table, installed_text,
+                 sizeof installed_text, &installed_rows, &installed_bytes, &escapes) != YAY_OK) exit(2);
+    len = (size_t)sprintf((char *)doc, "version: ");
+    len += numbers(doc + len, n, version);
+    len += (size_t)sprintf((char *)doc + len, "floor: ");
+    len += numbers(doc + len, n, floor);
+    len += (size_t)sprintf((char *)doc + len, "%s", image);
+    measure();
+}
+
 static void of_size(size_t n) {
     static const char *const shapes[][3] = {
         {"", "key%zu: \"a value of the key\"\n", ""},
@@ -183,7 +245,13 @@ static void of_size(size_t n) {
 
 int main(void) {
     static const size_t sizes[] = {200, 1000, 1024, 1025, 4000, 8192, 16384, 16385, 24000, 32768, 32769};
+    static const size_t digits[] = {1, 20, 1000, 1900};
     int wrong = 0;
+    for (size_t i = 0; i < sizeof digits / sizeof *digits; i++) {
+        sheet(digits[i], '3', '1', '2');
+        sheet(digits[i], '2', '1', '2');
+        sheet(digits[i], '3', '3', '2');
+    }
     for (size_t i = 0; i < sizeof sizes / sizeof *sizes; i++) of_size(sizes[i]);
     for (size_t i = 0; i < sizeof classes / sizeof *classes; i++) {
         struct class *c = &classes[i];
@@ -197,6 +265,11 @@ int main(void) {
     printf("stack: writing touches %zu KB%s\n", (writing + 1023) / 1024, writing > YAY_STACK ? ": TOO MUCH" : "");
     wrong += writing > YAY_STACK;
     if (!written[YAY_OK] || !written[YAY_LONG]) wrong++, printf("stack: too little was written\n");
+    printf("stack: deciding touches %zu KB%s\n", (deciding + 1023) / 1024, deciding > YAY_STACK ? ": TOO MUCH" : "");
+    wrong += deciding > YAY_STACK;
+    for (int i = YAY_INSTALL; i <= YAY_BLOCKED; i++) {
+        if (!decisions[i]) wrong++, printf("stack: nothing was decided as %d\n", i);
+    }
     printf("stack: %d documents, %d faults\n", documents, wrong);
     return wrong != 0;
 }

@@ -1,4 +1,4 @@
-/* A reader and writer of YAY documents, proved in Rattle. Link with -lyay.
+/* A reader and writer of YAY documents, and a decision on upgrades, proved in Rattle. Link with -lyay.
  *
  * Every function works on lent memory alone: none allocates, keeps a pointer, or keeps anything between calls, so
  * threads may call at once. A `const` pointer is only read from. What is written (the table, the text room, the
@@ -31,10 +31,14 @@ extern "C" {
 #define YAY_MOST 16777216
 
 /* The stack that a call of yay_read touches at most, in bytes, as c/stack.c measures it: for a document of at most
- * 1,024 bytes, and for any. So a thread of 128 KB reads every document. yay_sound and yay_write touch no more than
- * YAY_STACK, whatever the table. */
+ * 1,024 bytes, and for any. So a thread of 128 KB reads every document. yay_sound, yay_write and yay_decide touch no
+ * more than YAY_STACK, whatever the tables. */
 #define YAY_STACK_FEW (48 * 1024)
 #define YAY_STACK (112 * 1024)
+
+/* The most places of a version, and the bytes of an image. */
+#define YAY_PLACES 8
+#define YAY_IMAGE 32
 
 /* Words and text bytes that are enough for any document of so many bytes: rows and text are each fewer. */
 #define YAY_TABLE_ROOM(doc_len) ((doc_len) * YAY_WORDS)
@@ -54,6 +58,13 @@ extern "C" {
                          table is not sound */
 #define YAY_NONE 10   /* the key isn't in the object */
 #define YAY_NOTINT 11 /* a text compared isn't an integer's text */
+#define YAY_BADSHEET 14 /* the table isn't a sound one of a release sheet */
+#define YAY_BADINST 15  /* the table isn't a sound one of an installed version */
+
+/* Decisions. */
+#define YAY_INSTALL 1 /* the sheet's version is above the installed one, which is not below the sheet's floor */
+#define YAY_KEEP 2    /* the sheet's version is not above the installed one */
+#define YAY_BLOCKED 3 /* it is above, but the installed one is below the floor */
 
 /* Words of row r: table[YAY_WORDS * r + one of these]. */
 #define YAY_KIND 0       /* one of the ten kinds */
@@ -116,6 +127,18 @@ uint32_t yay_sound(const uint32_t *table, size_t words, size_t rows, const uint8
  * YAY_TEXT: *count bytes are needed, and out_len is less. */
 uint32_t yay_write(const uint32_t *table, size_t words, size_t rows, const uint8_t *text, size_t text_len,
                    uint8_t *out, size_t out_len, size_t *count);
+
+/* Whether to install what a release sheet names over what is installed; both tables and text rooms stay as they are.
+ * A sheet is a root object with exactly the keys `version`, `floor` and `image`, in any order: the first two arrays of 1
+ * to YAY_PLACES integers not below zero, of any length, the last bytes of length YAY_IMAGE. An installed version is a
+ * root array like the first two. Versions compare place by place as numbers, and a missing place counts as zero, so [10]
+ * equals [10, 0]. No decision ever installs a version that is not above the one installed, whatever the tables hold.
+ * YAY_OK: *decision is YAY_INSTALL, YAY_KEEP or YAY_BLOCKED.
+ * YAY_BADINST, tested first: the installed table isn't a sound one of an installed version. YAY_BADSHEET: the other isn't
+ * a sound one of a sheet. *decision is 0. */
+uint32_t yay_decide(const uint32_t *sheet, size_t sheet_words, size_t sheet_rows, const uint8_t *sheet_text,
+                    size_t sheet_text_len, const uint32_t *installed, size_t installed_words, size_t installed_rows,
+                    const uint8_t *installed_text, size_t installed_text_len, uint32_t *decision);
 
 #ifdef __cplusplus
 }

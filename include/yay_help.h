@@ -9,8 +9,8 @@
 
 /* The name of a number, as "SYNTAX"; "" for one that yay.h does not have. */
 static inline const char *yay_number_name(uint32_t number) {
-    static const char *const names[] = {"OK",   "LONG", "CHAR", "SYNTAX", "DEEP", "END",
-                                        "REPEAT", "ROWS", "TEXT", "BADROW", "NONE", "NOTINT"};
+    static const char *const names[] = {"OK",   "LONG",   "CHAR", "SYNTAX", "DEEP", "END",      "REPEAT", "ROWS",
+                                        "TEXT", "BADROW", "NONE", "NOTINT", "",     "", "BADSHEET", "BADINST"};
     return number < sizeof names / sizeof *names ? names[number] : "";
 }
 
@@ -29,6 +29,10 @@ static inline const char *yay_number_sentence(uint32_t number) {
         "the table is not sound, or has no such row that could be asked this",
         "the key isn't in the object",
         "a text compared isn't an integer's text",
+        "",
+        "",
+        "this is no release sheet",
+        "this is no installed version",
     };
     return number < sizeof sentences / sizeof *sentences ? sentences[number] : "";
 }

@@ -39,6 +39,22 @@ expect 'a full disk leaves the file' "2 $(cksum < build/house.yay)" \
     "$(ulimit -f 0; trap '' XFSZ; "$yay" write examples/tablet.yay -o build/house.yay 2> /dev/null; echo $? "$(cksum < build/house.yay)")"
 expect 'and nothing beside it' '' "$(find build -maxdepth 1 -name '.house.yay*')"
 
+# A script goes by the exit status of a decision, and 0 is install alone.
+sheet=examples/release.yay
+decided() { "$yay" decide "$sheet" --installed "$1" > /dev/null 2>&1; echo $?; }
+for pair in '[9]:0' '[10, 1, 99]:0' '[10, 2]:4' '[10, 10]:4' '[8, 99]:5' '[]:1' '[-9]:1' '9:1' '[9:1'; do
+    expect "the decision over ${pair%:*}" "${pair##*:}" "$(decided "${pair%:*}")"
+done
+expect 'one word' install "$("$yay" decide "$sheet" examples/installed.yay | cut -d: -f1)"
+expect 'an installed version on standard input' keep "$(echo '[11]' | "$yay" decide "$sheet" - | cut -d: -f1)"
+expect 'a profile is no sheet' 'examples/tablet.yay:2:1: BADSHEET (14)' \
+    "$("$yay" decide examples/tablet.yay examples/installed.yay 2>&1 | sed -n '1s/: the key.*//p')"
+expect 'a full disk is no install' 2 "$("$yay" decide "$sheet" examples/installed.yay > /dev/full 2> /dev/null; echo $?)"
+expect 'a sheet that is not there' 2 "$("$yay" decide build/none.yay examples/installed.yay 2> /dev/null; echo $?)"
+# shellcheck disable=SC2216
+expect 'a decision that nobody reads' 4 "$({ sleep 0.2; "$yay" decide "$sheet" --installed '[11]'; } | true; echo "${PIPESTATUS[0]}")"
+expect 'a decision in a stack of 128 KB' 0 "$(ulimit -s 128; "$yay" decide "$sheet" examples/installed.yay > /dev/null; echo $?)"
+
 # 128 KB of stack is enough for any document, with all that the command itself takes of it; the reader's part is YAY_STACK.
 keys() { for ((i = 0; i < $1; i++)); do echo "k$i: $i"; done; }
 keys 90 > build/few.yay

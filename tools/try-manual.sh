@@ -31,7 +31,7 @@ try_examples < <(sed -e 's/\\-/-/g' -e 's/\\e/\\/g' "$manual")
 of_manual=$passed
 expect 'examples of the manual' 1 "$((of_manual > 8))"
 try_examples < README.md
-expect 'four examples of README.md' 4 "$((passed - of_manual - 1))"
+expect 'five examples of README.md' 5 "$((passed - of_manual - 1))"
 sed -n '/^```yay$/,/^```$/{/^```/!p}' README.md > build/readme.yay
 expect "README's profile" 'build/readme.yay: ok, 26 rows, 116 bytes of text' "$(yay check build/readme.yay 2>&1)"
 expect "the manual's version" 1 "$(grep -c "^.TH YAY 1 .*\"$(yay --version)\"" "$manual")"
@@ -47,7 +47,7 @@ entry() {
         inside'
 }
 for command in $commands; do
-    expect "the manual has $command" 1 "$(grep -cE "^yay $command( |\$)" <<< "$plain")"
+    expect "the manual has $command" 1 "$(($(grep -cE "^yay $command( |\$)" <<< "$plain") > 0))"
     expect "the manual tells of $command" 1 "$(($(entry "$command" | wc -l) > 1))"
     for option in $(yay "$command" --help | grep -oE '^  .{0,24}' | grep -oE -- '--?[a-z]+'); do
         case $option in -h | --help) where=$plain ;; *) where=$(entry "$command") ;; esac

@@ -3,6 +3,7 @@
 //! interesting sizes.
 
 mod asked;
+pub mod deciding;
 pub mod faults;
 pub mod forms;
 pub mod places;

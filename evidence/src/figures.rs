@@ -1,5 +1,8 @@
 //! Times of the proved reader and of the second reader on a document.
 
+#[cfg(feature = "decided")]
+pub mod deciding;
+
 use crate::clock::{Clock, Machine, Shortest};
 #[cfg(feature = "written")]
 use crate::compare::writing::Writer;

@@ -1,5 +1,5 @@
-//! Evidence at scale: a second reader and writer of YAY documents, a slow checker of its
-//! refusal places, documents and tables to try, and the comparison with what is under test.
+//! Evidence at scale: a second reader and writer of YAY documents and a second decision on upgrades, a slow checker of
+//! refusal places, documents, tables and sheets to try, and the comparison with what is under test.
 
 pub mod clock;
 pub mod compare;
@@ -10,6 +10,7 @@ pub mod hex;
 #[cfg(feature = "proved")]
 pub mod proved;
 pub mod second;
+pub mod sheets;
 pub mod slow;
 pub mod tables;
 pub mod vectors;

@@ -1,5 +1,7 @@
 //! The proved library behind its C interface, include/yay.h (feature `proved`).
 
+#[cfg(feature = "decided")]
+use crate::compare::deciding::Decider;
 #[cfg(feature = "written")]
 use crate::compare::writing::Writer;
 use crate::compare::{Questions, Reader, Said};
@@ -52,6 +54,20 @@ extern "C" {
         out: *mut u8,
         out_len: usize,
         count: *mut usize,
+    ) -> u32;
+    #[cfg(feature = "decided")]
+    fn yay_decide(
+        sheet: *const u32,
+        sheet_words: usize,
+        sheet_rows: usize,
+        sheet_text: *const u8,
+        sheet_text_len: usize,
+        installed: *const u32,
+        installed_words: usize,
+        installed_rows: usize,
+        installed_text: *const u8,
+        installed_text_len: usize,
+        decision: *mut u32,
     ) -> u32;
 }
 
@@ -133,6 +149,30 @@ impl Writer for Proved {
         // answer is apart from all of them.
         let number = unsafe { yay_write(table, words, rows, text, bytes, out, room, &mut count) };
         (number, count)
+    }
+}
+
+#[cfg(feature = "decided")]
+impl Decider for Proved {
+    fn decide(&self, sheet: &Lent, installed: &Lent) -> (u32, u32) {
+        let mut decision = UNSET as u32;
+        // SAFETY: every pointer and length is that of a live slice, and the answer is apart from them.
+        let number = unsafe {
+            yay_decide(
+                sheet.table.as_ptr(),
+                sheet.table.len(),
+                sheet.rows,
+                sheet.text.as_ptr(),
+                sheet.text.len(),
+                installed.table.as_ptr(),
+                installed.table.len(),
+                installed.rows,
+                installed.text.as_ptr(),
+                installed.text.len(),
+                &mut decision,
+            )
+        };
+        (number, decision)
     }
 }
 

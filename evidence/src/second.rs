@@ -5,6 +5,7 @@
 
 mod blocks;
 mod bytes;
+pub mod decide;
 mod inline;
 mod items;
 mod keys;

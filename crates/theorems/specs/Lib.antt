@@ -2,3 +2,4 @@ pub mod Proved
 pub mod Borders
 pub mod WrongReaders
 pub mod Writing
+pub mod Upgrading

@@ -24,6 +24,8 @@ use Rattle.integers.specs.declared.Compared.the-variants.{Less, Equal, Greater,
 use Rattle.integers.specs.Order.{Verdict, compared, comparedVerdict}
 use Rattle.language.specs.declared.Wrote.{Wrote}
 use Rattle.language.specs.declared.Wrote.the-variants.{Done, BadRow as BadTable, TooLong, TooShort}
+use Rattle.upgrade.specs.declared.Decision.{Decision}
+use Rattle.upgrade.specs.Decides.{Decides}
 use Rattle.language.specs.Written.{Sounded, Written, wroteNumber, wroteCount}
 use Rattle.exports.specs.Exports.{FoundAt, ComparedTo, TextAt}
 
@@ -135,3 +137,10 @@ module _ (table : List ℕ) (rows : ℕ) (text out out′ : List ℕ) (w : Wrote
 
   pub wrote-short : (n : ℕ) → w ≡ TooShort n → Written table rows text out 8 n out′
   wrote-short n e = told (TooShort n) e
+
+-- ---- `yay_decide`
+
+module _ (sheet : List ℕ) (rows : ℕ) (text installed : List ℕ) (rows′ : ℕ) (text′ : List ℕ) (a : Decision) where
+  pub decides-as : Decides sheet rows text installed rows′ text′ (Rattle.upgrade.specs.Decides.number a) (Rattle.upgrade.specs.Decides.value a) → (n d : ℕ)
+      → n ≡ Rattle.upgrade.specs.Decides.number a → d ≡ Rattle.upgrade.specs.Decides.value a → Decides sheet rows text installed rows′ text′ n d
+  decides-as x n d e f = rw (e, f) x

@@ -2,6 +2,7 @@
 ghost use Rattle.exports.specs.Exports.{FoundAt, ComparedTo, TextAt};
 ghost use Rattle.language.specs.Answered.{Answered, Totals};
 ghost use Rattle.language.specs.Written.{Sounded, Written};
+ghost use Rattle.upgrade.specs.Decides.{Decides};
 ghost use mathlib.Core.Path.{_≡_};
 ghost use Prim.Native.Nat.{_+_, _*_, _<_};
 ghost use lib.ListN.{length, getD};
@@ -155,4 +156,29 @@ pub extern "C" fn yay_write(
             8
         }
     }
+}
+
+// 0 with 1 to install, 2 to keep or 3 where the floor blocks it; or 14 or 15 with 0.
+#[no_mangle]
+pub extern "C" fn yay_decide(
+    sheet: &[u32],
+    sheet_rows: usize,
+    sheet_text: &[u8],
+    installed: &[u32],
+    installed_rows: usize,
+    installed_text: &[u8],
+    decision: &mut u32,
+) -> u32
+    ensures { λ r. ⌜ Decides (now (sheet .entry)) «sheet_rows» (now («sheet_text» .entry)) (now (installed .entry)) «installed_rows» (now («installed_text» .entry)) r (now (decision .exit)) ⌝ }
+{
+    let answer = decide::decide(
+        &*sheet,
+        sheet_rows,
+        &*sheet_text,
+        &*installed,
+        installed_rows,
+        &*installed_text,
+    );
+    *decision = answer.value();
+    answer.number()
 }

@@ -185,6 +185,36 @@ fn written(_: &mut Bench) -> usize {
     0
 }
 
+/// What the upgrade decision costs; how many cases the two decisions differ on, or a byte of which costs more than one
+/// of a smaller case.
+#[cfg(feature = "decided")]
+fn decided(bench: &mut Bench) -> usize {
+    println!("| Decided | Bytes of text | ns | ns a byte | Second, ns |");
+    println!("|---|---:|---:|---:|---:|");
+    let mut bad = 0;
+    let mut costs = Vec::new();
+    for case in evidence::figures::deciding::cases() {
+        let most = case.smaller.map_or(f64::MAX, |smaller: usize| GROWTH.1 * costs[smaller]);
+        let tries: Vec<_> = (0..TIMES).map_while(|_| bench.decided(&case)).collect();
+        let Some(best) = tries.into_iter().min_by(|one, other| one.proved.total_cmp(&other.proved)) else {
+            println!("| {} | THE DECISIONS DIFFER |", case.name);
+            return bad + 1;
+        };
+        let good = best.a_byte() <= most;
+        bad += usize::from(!good);
+        costs.push(best.a_byte());
+        print!("| {} | {} | {:.0} | {:.2}", case.name, best.bytes, best.proved * 1e9, best.a_byte());
+        println!("{} | {:.0} |", mark(good), best.second * 1e9);
+    }
+    println!();
+    bad
+}
+
+#[cfg(not(feature = "decided"))]
+fn decided(_: &mut Bench) -> usize {
+    0
+}
+
 /// The document of a shape by its name.
 fn named(name: &str) -> Option<Vec<u8>> {
     let shape =
@@ -217,6 +247,7 @@ fn main() -> ExitCode {
     let mut bad = shapes(&mut bench);
     println!();
     bad += written(&mut bench);
+    bad += decided(&mut bench);
     bad += hostile(&mut bench);
     println!();
     bad += repeats(&mut bench);

@@ -1,7 +1,8 @@
 //! Compares the proved reader with the second reader, and shows that deliberate faults are found:
-//! `compare [--seed N] [--documents N] [--tables N] [--vectors FILE]`. As long as one likes, with a count every ten
-//! seconds, and without the faults: `compare --soak [--seconds N] [--seed N] [--tables N] [--vectors FILE]`.
-//! With the feature `written`, the writer and the test of soundness too, on tables.
+//! `compare [--seed N] [--documents N] [--tables N] [--pairs N] [--vectors FILE]`. As long as one likes, with a count
+//! every ten seconds, and without the faults: `compare --soak [--seconds N] [--seed N] [--tables N] [--pairs N]
+//! [--vectors FILE]`. With the feature `written`, the writer and the test of soundness too, on tables; with `decided`,
+//! the upgrade decision, on pairs of a sheet and an installed version.
 
 use evidence::compare::run::{run, Difference, Limits};
 use evidence::compare::{faults, forms, places, Comparer, Tally};
@@ -18,6 +19,8 @@ const KINDS: [&str; 10] = ["null", "false", "true", "integer", "float", "string"
 const DOCUMENTS: usize = 1_100_000;
 /// And how many tables.
 const TABLES: usize = 600_000;
+/// And how many pairs of a sheet and an installed version.
+const PAIRS: usize = 2_200_000;
 /// From so many documents on, it must have met every number, kind and place of rows and form of backslash thousands of times.
 const ENOUGH: usize = 1_000_000;
 const THOUSANDS: usize = 2_000;
@@ -25,12 +28,13 @@ const THOUSANDS: usize = 2_000;
 struct Options {
     limits: Limits,
     tables: usize,
+    pairs: usize,
     soak: bool,
 }
 
 fn options() -> Result<Options, String> {
     let limits = Limits { seed: 1, vectors: Vec::new(), documents: DOCUMENTS, seconds: None };
-    let mut options = Options { limits, tables: TABLES, soak: false };
+    let mut options = Options { limits, tables: TABLES, pairs: PAIRS, soak: false };
     let mut words = std::env::args().skip(1);
     while let Some(word) = words.next() {
         if word == "--soak" {
@@ -44,6 +48,7 @@ fn options() -> Result<Options, String> {
             "--seed" => options.limits.seed = number?,
             "--documents" => options.limits.documents = number? as usize,
             "--tables" => options.tables = number? as usize,
+            "--pairs" => options.pairs = number? as usize,
             "--seconds" => options.limits.seconds = Some(number?),
             "--vectors" => options.limits.vectors = vectors::load(&value)?,
             _ => return Err(format!("{word} is no option")),
@@ -126,8 +131,22 @@ fn written(_: u64, tables: usize, _: bool) -> bool {
     true
 }
 
+/// Whether the upgrade decision differs nowhere on so many pairs, and every fault in it is found.
+#[cfg(feature = "decided")]
+fn decided(seed: u64, pairs: usize, soak: bool) -> bool {
+    use evidence::compare::deciding::told;
+    let found = soak || told::finds_faults(seed, pairs);
+    told::differs_nowhere(|| Proved, seed, pairs) && found
+}
+
+#[cfg(not(feature = "decided"))]
+fn decided(_: u64, pairs: usize, _: bool) -> bool {
+    println!("no upgrade decision yet: {pairs} pairs are not tried");
+    true
+}
+
 fn main() -> ExitCode {
-    let Options { limits, tables, soak } = match options() {
+    let Options { limits, tables, pairs, soak } = match options() {
         Ok(options) => options,
         Err(error) => {
             eprintln!("compare: {error}");
@@ -136,6 +155,7 @@ fn main() -> ExitCode {
     };
     println!("seed {}", limits.seed);
     let wrote = written(limits.seed, tables, soak);
+    let decided = decided(limits.seed, pairs, soak);
     let found = soak || finds_faults(&limits);
     let watch = |count| {
         if soak {
@@ -149,5 +169,5 @@ fn main() -> ExitCode {
             false
         }
     };
-    ExitCode::from(u8::from(!wrote || !found || !same))
+    ExitCode::from(u8::from(!wrote || !decided || !found || !same))
 }

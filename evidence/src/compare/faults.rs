@@ -1,5 +1,6 @@
 //! Deliberate faults in copies of the second reader, each of which the comparison has to find.
 
+pub mod deciding;
 mod escapes;
 mod places;
 mod soundness;

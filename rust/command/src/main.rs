@@ -1,8 +1,9 @@
-//! `yay`: reads and writes YAY documents for people and scripts.
+//! `yay`: reads and writes YAY documents for people and scripts, and decides on upgrades.
 
 mod accepted;
 mod batch;
 mod check;
+mod decide;
 mod get;
 mod input;
 mod integers;
@@ -56,6 +57,7 @@ fn run_command(words: &Words, out: &mut dyn Write) -> Done {
         "json" => json::run(words, out),
         "write" => write::run(words, out),
         "fmt" => write::format(words, out),
+        "decide" => decide::run(words, out),
         "compare" => integers::run(words, out),
         "batch" if words.plain.is_empty() => batch::run(&mut io::stdin().lock(), out),
         "batch" => Err(words.wrong("takes its documents from standard input alone")),

@@ -35,7 +35,7 @@ has no number, are strings. With --numbers=text every number is a string of its 
 Bytes are an object of one pair, {\"$bytes\": \"00ff\"}.
 ";
 
-pub const PAGES: [Page; 9] = [
+pub const PAGES: [Page; 10] = [
     Page {
         name: "check",
         words: "FILE..",
@@ -122,6 +122,25 @@ it names each file that is not in the house style, as no file with comments is, 
         integers: false,
     },
     Page {
+        name: "decide",
+        words: "SHEET [INSTALLED]",
+        short: "whether to install what a release sheet names, and why",
+        text: "
+Writes install, keep or blocked, and why, on one line. The sheet is an object with exactly the keys
+version, floor and image: two arrays of 1 to 8 integers not below zero, and 32 bytes. INSTALLED is such
+an array. Versions compare place by place as numbers, and missing places count as zero.
+install (exit status 0) if version is above what is installed and that is not below floor; keep (4) if
+version is not above it; else blocked (5). What is no sheet or no installed version is refused (1).
+",
+        options: &[Opt {
+            short: "",
+            long: "--installed",
+            value: "ARRAY",
+            what: "this, as '[10, 2]', in the place of INSTALLED",
+        }],
+        integers: false,
+    },
+    Page {
         name: "compare",
         words: "A B",
         short: "-1, 0 or 1: how the integer A stands to B, of any length",
@@ -143,13 +162,14 @@ writes a line for each: 'no NUMBER PLACE', or 'ok ROWS TEXTBYTES ESCAPES', the w
 ];
 
 const STATUS: &str =
-    "Exit status: 0 good; 1 refused or not in the house style; 2 wrong words, or a file that cannot be\nread or written; 3 not there.\n";
+    "Exit status: 0 good, of decide install; 1 refused, or not in the house style; 2 wrong words, or a file\nthat cannot be read or written; 3 not there; 4 keep; 5 blocked.\n";
 
 /// What `yay --help` prints.
 pub fn all() -> String {
-    let mut text = String::from("yay: reads and writes YAY documents by a proved reader and writer\n\n");
+    let mut text =
+        String::from("yay: reads and writes YAY documents, and decides on upgrades, by proved functions\n\n");
     for page in &PAGES {
-        text += &format!("  yay {:<20} {}\n", format!("{} {}", page.name, page.words), page.short);
+        text += &format!("  yay {:<24} {}\n", format!("{} {}", page.name, page.words), page.short);
     }
     text += "  yay --help, --version\n\n";
     text += "'yay COMMAND --help' tells of a command and its options; -- ends the options.\n";

@@ -18,14 +18,36 @@ const COLOURS: Ink = Ink { bold: "\x1b[1m", red: "\x1b[1;31m", off: "\x1b[0m" };
 
 /// Says on standard error why a document is refused.
 pub fn say(input: &Input, refusal: Refusal) {
+    print(&report(input, refusal, &ink()));
+}
+
+/// Says on standard error what is wrong at a place of a document that was read.
+pub fn say_wrong(input: &Input, number: Number, place: Place, sentence: &str) {
+    let ink = ink();
+    let mut report = headline(input, number, place, sentence, &ink);
+    show(&mut report, &input.bytes, place, "", &ink);
+    print(&report);
+}
+
+fn ink() -> Ink {
     let wanted = std::env::var_os("NO_COLOR").is_none_or(|value| value.is_empty());
-    let ink = if io::stderr().is_terminal() && wanted { COLOURS } else { PLAIN };
-    // Where standard error is closed there is nobody to tell.
-    let _ = io::Write::write_all(&mut io::stderr(), report(input, refusal, &ink).as_bytes());
+    if io::stderr().is_terminal() && wanted {
+        COLOURS
+    } else {
+        PLAIN
+    }
+}
+
+/// Where standard error is closed there is nobody to tell.
+fn print(report: &str) {
+    let _ = io::Write::write_all(&mut io::stderr(), report.as_bytes());
 }
 
 fn report(input: &Input, refusal: Refusal, ink: &Ink) -> String {
-    let mut report = headline(input, refusal, ink);
+    let sentence = refusal.sentence(&input.bytes);
+    let known = input.length.filter(|length| refusal.number == Number::Long && *length > LONGEST as u64);
+    let length = known.map_or(String::new(), |length| format!("; the file has {length}"));
+    let mut report = headline(input, refusal.number, refusal.place, &(sentence + &length), ink);
     match refusal.number {
         Number::Long => {}
         Number::Repeat => {
@@ -39,14 +61,10 @@ fn report(input: &Input, refusal: Refusal, ink: &Ink) -> String {
     report
 }
 
-fn headline(input: &Input, refusal: Refusal, ink: &Ink) -> String {
+fn headline(input: &Input, number: Number, place: Place, sentence: &str, ink: &Ink) -> String {
     let Ink { bold, red, off } = ink;
-    let (name, code) = (refusal.number.name(), refusal.number.code());
-    let position = position(&input.bytes, refusal.place);
-    let sentence = refusal.sentence(&input.bytes);
-    let known = input.length.filter(|length| refusal.number == Number::Long && *length > LONGEST as u64);
-    let length = known.map_or(String::new(), |length| format!("; the file has {length}"));
-    format!("{bold}{}:{position}:{off} {red}{name} ({code}){off}: {sentence}{length}\n", input.name)
+    let position = position(&input.bytes, place);
+    format!("{bold}{}:{position}:{off} {red}{} ({}){off}: {sentence}\n", input.name, number.name(), number.code())
 }
 
 fn show(report: &mut String, doc: &[u8], place: Place, label: &str, ink: &Ink) {

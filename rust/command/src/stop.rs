@@ -13,6 +13,10 @@ pub enum Stop {
     Refused,
     /// The document has not what was asked for; said already.
     Missing,
+    /// The decision is to keep what is installed; said already.
+    Keep,
+    /// The decision is blocked by the floor; said already.
+    Blocked,
     /// Standard output could not be written.
     Output(io::Error),
 }
@@ -32,6 +36,8 @@ pub fn status(done: Done) -> u8 {
         Err(Stop::Refused) => 1,
         Err(Stop::Unread) => 2,
         Err(Stop::Missing) => 3,
+        Err(Stop::Keep) => 4,
+        Err(Stop::Blocked) => 5,
         // Whoever reads has seen enough.
         Err(Stop::Output(error)) if error.kind() == ErrorKind::BrokenPipe => 0,
         Err(Stop::Output(error)) => complain(&format!("standard output: {error}")),

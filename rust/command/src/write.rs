@@ -1,13 +1,13 @@
 //! `yay write` and `yay fmt`: a document written back in the house style, and which files are in it.
 
+use crate::accepted::accept;
+use crate::input;
 use crate::output;
 use crate::stop::{complain, Done, Stop};
 use crate::told::Told;
 use crate::words::Words;
-use crate::{input, refused};
 use std::ffi::OsStr;
 use std::io::Write;
-use yay::Document;
 
 /// A file's bytes, and those of the house style.
 struct Both {
@@ -19,11 +19,7 @@ struct Both {
 /// Reads a file and writes it back; says why it is refused.
 fn both(file: &OsStr) -> Result<Both, Stop> {
     let input = input::open(file)?;
-    let document = Document::read(&input.bytes).map_err(|refusal| {
-        refused::say(&input, refusal);
-        Stop::Refused
-    })?;
-    let new = document.written().map_err(|no| {
+    let new = accept(&input)?.written().map_err(|no| {
         complain(&format!("{}: {no}", input.name));
         Stop::Refused
     })?;

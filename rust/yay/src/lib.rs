@@ -1,4 +1,4 @@
-//! Reads and writes YAY documents by the reader and the writer proved in Rattle (`libyay.a`, include/yay.h).
+//! Reads and writes YAY documents, and decides on upgrades, by functions proved in Rattle (`libyay.a`, include/yay.h).
 //!
 //! [`read`] fills rooms that the caller lends and allocates nothing; [`Document`] is the same with rooms of its
 //! own. A [`Tree`] answers questions, and knows each row's line and column; both tell how many escapes a document
@@ -34,6 +34,16 @@
 //! # Ok::<(), Box<dyn std::error::Error>>(())
 //! ```
 //!
+//! [`decide`] tells whether what a release sheet names is to be installed over what is there:
+//!
+//! ```
+//! let image = "9f86d081884c7d659a2feaa0c55ad015a3bf4f1b2b0b822cd15d6c15b0f00a08";
+//! let sheet = yay::Document::read(format!("version: [10]\nfloor: [9]\nimage: <{image}>\n").as_bytes())?;
+//! let installed = yay::Document::read(b"[9, 4]\n")?;
+//! assert_eq!(yay::decide(&sheet.tree(), &installed.tree())?, yay::Decision::Install);
+//! # Ok::<(), Box<dyn std::error::Error>>(())
+//! ```
+//!
 //! A refusal says why and where, and with the document at hand in a sentence that helps:
 //!
 //! ```
@@ -44,7 +54,9 @@
 //! assert_eq!(refusal.sentence(doc), "\"2\" may not stand here; one space must follow \",\"");
 //! ```
 
+mod deciding;
 mod document;
+mod fault;
 mod limits;
 mod path;
 mod place;
@@ -58,8 +70,10 @@ mod tree;
 mod values;
 mod writing;
 
+pub use deciding::{decide, Decision, Undecided};
 pub use document::Document;
-pub use limits::{LONGEST, MOST, NAMES, NESTING, WORDS};
+pub use fault::{installed_fault, sheet_fault, Fault};
+pub use limits::{IMAGE, LONGEST, MOST, NAMES, NESTING, PLACES, WORDS};
 pub use path::Missing;
 pub use place::{line_around, position, Place, Position};
 pub use reading::{compare, read, Accepted};

@@ -24,3 +24,7 @@ pub const MOST: usize = 16_777_216;
 pub const NAMES: [&str; 9] = ["kind", "from", "to", "start", "end", "parent", "next", "line", "column"];
 /// Words of a row.
 pub const WORDS: usize = NAMES.len();
+/// A version has 1 to so many places.
+pub const PLACES: usize = 8;
+/// How many bytes an image has.
+pub const IMAGE: usize = 32;

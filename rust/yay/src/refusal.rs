@@ -31,9 +31,13 @@ pub enum Number {
     None,
     /// A text compared isn't an integer's text.
     NotInt,
+    /// The table isn't a sound one of a release sheet.
+    BadSheet = 14,
+    /// The table isn't a sound one of an installed version.
+    BadInst,
 }
 
-const NUMBERS: [(Number, &str, &str); 11] = [
+const NUMBERS: [(Number, &str, &str); 13] = [
     (Number::Long, "LONG", concat!("the document has more than ", longest!(), " bytes")),
     (Number::Char, "CHAR", "this byte belongs to no allowed character"),
     (Number::Syntax, "SYNTAX", "no document goes on like this"),
@@ -45,13 +49,14 @@ const NUMBERS: [(Number, &str, &str); 11] = [
     (Number::BadRow, "BADROW", "the table is not sound, or has no such row that could be asked this"),
     (Number::None, "NONE", "the key isn't in the object"),
     (Number::NotInt, "NOTINT", "a text compared isn't an integer's text"),
+    (Number::BadSheet, "BADSHEET", "this is no release sheet"),
+    (Number::BadInst, "BADINST", "this is no installed version"),
 ];
 
 impl Number {
-    /// The number 1 to 11 as given by the C interface.
+    /// The number as given by the C interface: 1 to 11, 14 or 15.
     pub fn from_code(code: u32) -> Option<Number> {
-        let index = usize::try_from(code).ok()?.checked_sub(1)?;
-        NUMBERS.get(index).map(|(number, _, _)| *number)
+        NUMBERS.iter().map(|(number, _, _)| *number).find(|number| number.code() == code)
     }
 
     pub fn code(self) -> u32 {
@@ -60,12 +65,16 @@ impl Number {
 
     /// Its name in capitals, as `SYNTAX`.
     pub fn name(self) -> &'static str {
-        NUMBERS[self as usize - 1].1
+        self.entry().1
     }
 
     /// What it means, in one plain sentence without a full stop.
     pub fn meaning(self) -> &'static str {
-        NUMBERS[self as usize - 1].2
+        self.entry().2
+    }
+
+    fn entry(self) -> &'static (Number, &'static str, &'static str) {
+        NUMBERS.iter().find(|entry| entry.0 == self).expect("every number is in the table")
     }
 
     /// A code outside the header's list would be a broken library: there is nothing to go on with.

@@ -52,6 +52,19 @@ mod linked {
             out_len: usize,
             count: *mut usize,
         ) -> u32;
+        pub fn yay_decide(
+            sheet: *const u32,
+            sheet_words: usize,
+            sheet_rows: usize,
+            sheet_text: *const u8,
+            sheet_text_len: usize,
+            installed: *const u32,
+            installed_words: usize,
+            installed_rows: usize,
+            installed_text: *const u8,
+            installed_text_len: usize,
+            decision: *mut u32,
+        ) -> u32;
     }
 }
 
@@ -140,4 +153,29 @@ pub fn write(table: &[u32], rows: usize, text: &[u8], out: &mut [u8]) -> (u32, u
         )
     };
     (number, count)
+}
+
+/// A table, its row count and its text room.
+pub type Lent<'a> = (&'a [u32], usize, &'a [u8]);
+
+/// 0 and the decision, 1 to 3; or the number and 0.
+pub fn decide(sheet: Lent, installed: Lent) -> (u32, u32) {
+    let mut decision = 0;
+    // SAFETY: each pointer and length is that of a live slice, and the answer is apart from them.
+    let number = unsafe {
+        linked::yay_decide(
+            sheet.0.as_ptr(),
+            sheet.0.len(),
+            sheet.1,
+            sheet.2.as_ptr(),
+            sheet.2.len(),
+            installed.0.as_ptr(),
+            installed.0.len(),
+            installed.1,
+            installed.2.as_ptr(),
+            installed.2.len(),
+            &mut decision,
+        )
+    };
+    (number, decision)
 }

@@ -1,6 +1,6 @@
 //! The two C headers and the crate say the same: limits, numbers, names, sentences, kinds and parameters.
 
-use yay::{Kind, Number, LONGEST, MOST, NAMES, NESTING, WORDS};
+use yay::{Decision, Kind, Number, IMAGE, LONGEST, MOST, NAMES, NESTING, PLACES, WORDS};
 
 fn header(name: &str) -> String {
     let path = format!("{}/../../include/{name}", env!("CARGO_MANIFEST_DIR"));
@@ -28,6 +28,8 @@ fn limits() {
     assert_eq!(defined(&header, "YAY_NESTING"), NESTING as u64);
     assert_eq!(defined(&header, "YAY_WORDS"), WORDS as u64);
     assert_eq!(defined(&header, "YAY_MOST"), MOST as u64);
+    assert_eq!(defined(&header, "YAY_PLACES"), PLACES as u64);
+    assert_eq!(defined(&header, "YAY_IMAGE"), IMAGE as u64);
 }
 
 #[test]
@@ -47,12 +49,27 @@ fn words_of_a_row() {
 fn numbers() {
     let (proved, help) = (header("yay.h"), header("yay_help.h"));
     let (names, sentences) = (strings(&help, "yay_number_name"), strings(&help, "yay_number_sentence"));
-    let numbers: Vec<_> = (1..).map_while(Number::from_code).collect();
-    assert_eq!((names.len(), sentences.len()), (numbers.len() + 1, numbers.len() + 1));
+    let numbers: Vec<_> = (0..100).filter_map(Number::from_code).collect();
+    let last = Number::BadInst.code() as usize;
+    assert_eq!((numbers.len(), names.len(), sentences.len()), (13, last + 1, last + 1));
+    for none in [12, 13] {
+        assert_eq!((names[none].as_str(), sentences[none].as_str()), ("", ""));
+    }
     for number in numbers {
         let code = number.code() as usize;
         assert_eq!(defined(&proved, &format!("YAY_{}", number.name())), code as u64);
         assert_eq!((names[code].as_str(), sentences[code].as_str()), (number.name(), number.meaning()));
+    }
+}
+
+#[test]
+fn decisions() {
+    let header = header("yay.h");
+    let decisions: Vec<_> = (0..100).filter_map(Decision::from_code).collect();
+    assert_eq!(decisions, [Decision::Install, Decision::Keep, Decision::Blocked]);
+    for decision in decisions {
+        let name = format!("YAY_{}", decision.name().to_uppercase());
+        assert_eq!(defined(&header, &name), u64::from(decision.code()));
     }
 }
 
@@ -76,8 +93,15 @@ fn parameters(text: &str, function: &str, name: fn(&str) -> Option<&str>) -> Vec
 #[test]
 fn parameters_of_the_functions() {
     let (proved, linked) = (header("yay.h"), include_str!("../src/sys.rs"));
-    let functions =
-        [("yay_read", 9), ("yay_text", 8), ("yay_find", 9), ("yay_compare", 5), ("yay_sound", 5), ("yay_write", 8)];
+    let functions = [
+        ("yay_read", 9),
+        ("yay_text", 8),
+        ("yay_find", 9),
+        ("yay_compare", 5),
+        ("yay_sound", 5),
+        ("yay_write", 8),
+        ("yay_decide", 11),
+    ];
     for (function, count) in functions {
         let in_c = parameters(&proved, function, |parameter| parameter.rsplit([' ', '*']).next());
         let in_rust = parameters(linked, function, |parameter| Some(parameter.split_once(':')?.0));

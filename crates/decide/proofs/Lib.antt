@@ -1,0 +1,3 @@
+-- What several proofs use.
+pub mod VersionLaws
+pub mod SheetLaws
