@@ -32,7 +32,7 @@ use Rattle.strings.specs.Contract.{Texts}
 use Rattle.strings.specs.Keys.{keyS, nameR, keyR}
 use Rattle.strings.specs.Quoted.{quotedS}
 use Rattle.blocks.specs.First.{refuted}
-use Rattle.blocks.specs.KeyLook.{colon, keyed, dashed}
+use Rattle.blocks.specs.KeyLook.{colon, keyed, dashed, key-none, key-end}
 use Rattle.judge.specs.declared.Start.the-variants.{Dash, Key, Line}
 use Rattle.judge.specs.declared.Next.the-variants.{More, Over}
 use Rattle.judge.specs.Members.{firsts}
@@ -187,33 +187,46 @@ module _ (doc : List ℕ) (c : Cursor) (t : Ans) (h : Takes doc c 45 t) where
       go (byte-there z) = rw z (eqb-is 32 y ∙ ap (is (only 32)) (rw add-one at g))
       go (none-there z w) = rw z (eqb-is 32 y ∙ ap (is (only 32)) ((rw add-one at g) ∙ w))
 
-module _ (doc : List ℕ) (c : Cursor) (T T' : List ℕ) (d : Bool) (hd : d ≡ dashed (drop (c .at) doc)) where
+module _ (doc : List ℕ) (c : Cursor) (d : Bool) (hd : d ≡ dashed (drop (c .at) doc)) where
   pub look-dash : d ≡ true → Looked doc (c .at) Dash
   unfolding Looked
   look-dash e = sym hd ∙ e
 
-  module _ (a : Ans) (e : d ≡ false) (w : Texts doc c (nameR (c .at) (drop (c .at) doc)) a T T') where
-    pub look-none : (q : ℕ) → a ≡ No q → Looked doc (c .at) (Line q)
+  pub look-no-dash : d ≡ false → dashed (drop (c .at) doc) ≡ false
+  look-no-dash e = sym hd ∙ e
+
+  -- the first byte tells that no key begins here
+  pub look-no-key : d ≡ false → (b : ℕ) (x : Bool) → b ≡ peek doc (c .at) → x ≡ is (keyS .first) b → x ≡ false → Looked doc (c .at) (Line (c .at))
+  unfolding Looked
+  look-no-key e b x g y z = record { no-dash = sym hd ∙ e; no-key = ap keyed none; stops = sym (ap reach none) }
+    where
+      go : There doc (c .at) → keyR (c .at) (drop (c .at) doc) ≡ bad (c .at)
+      go (byte-there k) = rw k (key-none (c .at) (peek doc (c .at)) (drop (suc (c .at)) doc) (ap (is (keyS .first)) (sym g) ∙ (sym y ∙ z)))
+      go (none-there k _) = rw k (key-end (c .at))
+
+      none : keyR (c .at) (drop (c .at) doc) ≡ bad (c .at)
+      none = go (there doc (c .at))
+
+module _ (doc : List ℕ) (c : Cursor) (T T' : List ℕ) (hd : dashed (drop (c .at) doc) ≡ false) (a : Ans) (w : Texts doc c (nameR (c .at) (drop (c .at) doc)) a T T') where
+  pub look-none : (q : ℕ) → a ≡ No q → Looked doc (c .at) (Line q)
+  unfolding Looked
+  look-none q z = let k = name-bad doc c a T T' w q z in record { no-dash = hd; no-key = ap keyed k; stops = sym (ap reach k) }
+
+  module _ (n : Cursor) (b : ℕ) (z : a ≡ Ok n) (g : b ≡ peek doc (n .at)) where
+    key-there : keyed (keyR (c .at) (drop (c .at) doc)) ≡ is (only 58) b
+    key-there = ap keyed (name-is doc c a T T' w n z) ∙ go (there doc (n .at))
+      where
+        go : There doc (n .at) → colon (drop (n .at) doc) ≡ is (only 58) b
+        go (byte-there y) = rw (y, ← g) refl
+        go (none-there y x) = rw (y, g, x) refl
+
+    pub look-key : b ≡ 58 → Looked doc (c .at) Key
     unfolding Looked
-    look-none q z =
-        let k = name-bad doc c a T T' w q z in
-        record { no-dash = sym hd ∙ e; no-key = ap keyed k; stops = sym (ap reach k) }
+    look-key y = key-there ∙ only-yes 58 b y
 
-    module _ (n : Cursor) (b : ℕ) (z : a ≡ Ok n) (g : b ≡ peek doc (n .at)) where
-      key-there : keyed (keyR (c .at) (drop (c .at) doc)) ≡ is (only 58) b
-      key-there = ap keyed (name-is doc c a T T' w n z) ∙ go (there doc (n .at))
-        where
-          go : There doc (n .at) → colon (drop (n .at) doc) ≡ is (only 58) b
-          go (byte-there y) = rw (y, ← g) refl
-          go (none-there y x) = rw (y, g, x) refl
-
-      pub look-key : b ≡ 58 → Looked doc (c .at) Key
-      unfolding Looked
-      look-key y = key-there ∙ only-yes 58 b y
-
-      pub look-other : (b ≡ 58 → ⊥) → Looked doc (c .at) (Line (n .at))
-      unfolding Looked
-      look-other y = record { no-dash = sym hd ∙ e; no-key = key-there ∙ only-no 58 b y; stops = sym (ap reach (name-is doc c a T T' w n z)) }
+    pub look-other : (b ≡ 58 → ⊥) → Looked doc (c .at) (Line (n .at))
+    unfolding Looked
+    look-other y = record { no-dash = hd; no-key = key-there ∙ only-no 58 b y; stops = sym (ap reach (name-is doc c a T T' w n z)) }
 
 pub ruleset spacing = (gap-none, gap-two, gap-one, needs)
 
@@ -221,4 +234,4 @@ pub ruleset ending = (feed-taken, ends-feed, ends-bad, ends-behind, ends-ok, nee
 
 pub ruleset following = (begins-double, begins-single, begins-bare, begins-object, begins-array, line-short, line-more, line-other, needs)
 
-pub ruleset looking = (dash-none, dash-some, look-dash, look-none, look-key, look-other, needs)
+pub ruleset looking = (dash-none, dash-some, look-dash, look-no-dash, look-no-key, look-none, look-key, look-other, needs)

@@ -106,7 +106,7 @@ pub fn further(doc: &[u8], c: Cursor, col: usize, object: bool) -> Next
     Next::Over(n.at)
 }
 
-// How a block begins at the cursor: a key's name is read into a room of no use.
+// How a block begins at the cursor: a key's name is read into a room of no use. Of most other values the first byte tells that no key begins there.
 pub fn starts(doc: &[u8], c: Cursor) -> Start
     requires { ⌜ Ready (now doc) c ⌝ }
     ensures { λ r. ⌜ Looked (now (doc .entry)) (c .at) r ⌝ }
@@ -114,16 +114,21 @@ pub fn starts(doc: &[u8], c: Cursor) -> Start
     if dash(&*doc, c) {
         return Start::Dash;
     }
-    let mut text = [0u8; 1];
-    match name(&*doc, &mut text, c) {
-        Ans::No(p) => Start::Line(p),
-        Ans::Ok(n) => {
-            if n.look(&*doc) == 58 {
-                return Start::Key;
+    if begins_key(c.look(&*doc)) {
+        let mut text = [0u8; 1];
+        match name(&*doc, &mut text, c) {
+            Ans::No(p) => {
+                return Start::Line(p);
             }
-            Start::Line(n.at)
+            Ans::Ok(n) => {
+                if n.look(&*doc) == 58 {
+                    return Start::Key;
+                }
+                return Start::Line(n.at);
+            }
         }
     }
+    Start::Line(c.at)
 }
 
 // Whether a dash and a space stand at the cursor.

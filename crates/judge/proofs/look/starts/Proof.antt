@@ -10,6 +10,12 @@ dash-requires c κs = search needs
 returns : tie.Need-returns
 returns c = search looking
 
+look-requires : tie.Need-look-requires
+look-requires c κs = search needs
+
+begins-key-requires : tie.Need-begins-key-requires
+begins-key-requires c κs = search needs
+
 slice-aggregate-name : tie.Need-slice-aggregate-name
 slice-aggregate-name c = search needs
 
@@ -22,8 +28,8 @@ enum-known-p c = search needs
 enum-known-n : tie.Need-enum-known-n
 enum-known-n c = search needs
 
-look-requires : tie.Need-look-requires
-look-requires c κs = search needs
+look-requires-2 : tie.Need-look-requires-2
+look-requires-2 c κs = search needs
 
 returns-2 : tie.Need-returns-2
 returns-2 c = search looking
@@ -34,17 +40,23 @@ returns-3 c = search looking
 returns-4 : tie.Need-returns-4
 returns-4 c = search looking
 
+returns-5 : tie.Need-returns-5
+returns-5 c = search looking
+
 pub starts-spec : {M : Type 1} → statement M
 starts-spec =
     tie.close
     (tie.spec
     dash-requires
     returns
+    look-requires
+    begins-key-requires
     slice-aggregate-name
     name-requires
     enum-known-p
-    enum-known-n
-    look-requires
     returns-2
+    enum-known-n
+    look-requires-2
     returns-3
-    returns-4)
+    returns-4
+    returns-5)
