@@ -148,9 +148,10 @@ module _ (doc : List ℕ) (at : ℕ) where
       pub digit-fits : 16 * v + d < 2 ^ 32
       digit-fits = omega (arith, g .top, x .small)
 
-      pub digits-more : e < at + 5 → Digits doc at (m .at) (16 * v + d)
+      pub digits-more : (e ≡ at + 5 → ⊥) → Digits doc at (m .at) (16 * v + d)
       unfolding bound
-      digits-more l =
+      digits-more n =
+          let l : e < at + 5 = omega (arith, g .five, n) in
           let i = hex-in doc e (x .digit) in
           let y : m .at ≡ suc e = omega (arith, x .next) in
           let z : suc e - at ≡ suc (e - at) = omega (arith, g .from) in
@@ -170,8 +171,8 @@ module _ (doc : List ℕ) (at : ℕ) where
                 ∙ (fmap-join (slice at e doc) (peek doc e ∷ []) (runR grow named begins (state (suc (e - at)) (16 * v + hexval (peek doc e))) (suc e) (drop (suc e) doc)) ∙ rw (t, z, x .value) refl));
           })
 
-      pub digits-less : e < at + 5 → at + 5 - m .at < at + 5 - e
-      digits-less l = omega (arith, x .next)
+      pub digits-less : (e ≡ at + 5 → ⊥) → at + 5 - m .at < at + 5 - e
+      digits-less n = omega (arith, x .next, g .five, n)
 
       -- five digits, and a sixth
       module _ (five : e ≡ at + 5) where

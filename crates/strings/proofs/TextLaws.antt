@@ -13,6 +13,7 @@ use Rattle.exact.specs.Out.{Out, ok, bad, Reader}
 use Rattle.exact.specs.Lang.{byteR}
 use Rattle.exact.specs.Comb.{seqR}
 use Rattle.exact.specs.Place.{peek, peek-in, byte-is, byte-not}
+use Rattle.language.specs.Characters.{utf8}
 use Rattle.language.specs.Tree.{Decoded, _then_}
 use Rattle.rooms.specs.Told.{ESCAPE, spot, tally, told, spot-on, tally-on, word-is}
 use Rattle.rooms.specs.declared.Cursor.{Cursor}
@@ -21,7 +22,7 @@ use Rattle.rooms.specs.declared.Ans.the-variants.{Ok, No}
 use Rattle.rooms.specs.Contract.{ample, onward, Takes, Ready}
 use Rattle.language.specs.Answered.{limit}
 use Rattle.rooms.specs.Laws.{take-next, take-byte, take-place, take-other}
-use Rattle.rooms.specs.Stores.{sets-append}
+use Rattle.rooms.specs.Stores.{sets-append, sets-past}
 use Rattle.strings.specs.Contract.{Spelt, Texted, Texts, Stored}
 use Rattle.strings.specs.Joining.{itself}
 use Rattle.strings.specs.Inside.{Copied}
@@ -113,7 +114,15 @@ module _ (T A B C D : List ℕ) (x v : ℕ) where
         room = rw (w, y, z) (four-bytes T A B C D x (240 + v / 262144) (128 + v / 4096 % 64) (128 + v / 64 % 64) (128 + v % 64) h k n m);
       }
 
-pub ruleset stores = (scalar-one, scalar-two, scalar-three, scalar-four, needs)
+  -- no byte of four has room
+  pub scalar-past : 65535 < v → length T ≤ x → Stored T T x v (x + 4)
+  scalar-past l p =
+      let w = lt-leb v 127 (omega arith) in
+      let y = lt-leb v 2047 (omega arith) in
+      let z = lt-leb v 65535 l in
+      record { end = rw (w, y, z) refl; room = sets-past (utf8 v) T x p }
+
+pub ruleset stores = (scalar-one, scalar-two, scalar-three, scalar-four, scalar-past, needs)
 
 -- ---- answers, made and taken apart
 

@@ -15,7 +15,7 @@ pub enum Digit {
     None,
 }
 
-// The value of a hex digit of either case, 16 for another byte.
+// The value of a hex digit of either case, 16 for another byte. Digits are the most, and the brace behind them comes next.
 fn hex_digit(b: u32) -> u32
     ensures { λ r. ⌜ r ≡ digitOf hexdigit b ⌝ }
 {
@@ -25,17 +25,17 @@ fn hex_digit(b: u32) -> u32
     if b <= 57 {
         return b - 48;
     }
+    if 102 < b {
+        return 16;
+    }
+    if 97 <= b {
+        return b - 87;
+    }
     if b < 65 {
         return 16;
     }
     if b <= 70 {
         return b - 55;
-    }
-    if b < 97 {
-        return 16;
-    }
-    if b <= 102 {
-        return b - 87;
     }
     16
 }

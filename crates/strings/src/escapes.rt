@@ -78,7 +78,7 @@ fn code(doc: &[u8], at: Reading) -> Coded
 {
     let mut v: u32 = 0;
     let mut e = at;
-    while e.at < at.at + 5 {
+    while e.at != at.at + 5 {
         match hex(&*doc, e) {
             Digit::None => {
                 return ended(&*doc, at, v, e);
@@ -130,6 +130,9 @@ fn put_scalar(text: &mut [u8], x: usize, v: u32) -> usize
         put_tail(text, x + 1, v / 64);
         put_tail(text, x + 2, v);
         return x + 3;
+    }
+    if text.len() <= x {
+        return x + 4;
     }
     put_four(text, x, v)
 }

@@ -73,14 +73,20 @@ same-length-3 c = search needs
 returns-3 : tie.Need-returns-3
 returns-3 c = search stores
 
+add-result-4 : tie.Need-add-result-4
+add-result-4 c = search needs
+
+returns-4 : tie.Need-returns-4
+returns-4 c = search stores
+
 put-four-requires : tie.Need-put-four-requires
 put-four-requires c κs = search needs
 
 same-length-4 : tie.Need-same-length-4
 same-length-4 c = search needs
 
-returns-4 : tie.Need-returns-4
-returns-4 c = search needs
+returns-5 : tie.Need-returns-5
+returns-5 c = search needs
 
 pub put-scalar-spec : {M : Type 1} → statement M
 put-scalar-spec =
@@ -109,6 +115,8 @@ put-scalar-spec =
     add-result-3
     same-length-3
     returns-3
+    add-result-4
+    returns-4
     put-four-requires
     same-length-4
-    returns-4)
+    returns-5)
