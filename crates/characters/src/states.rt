@@ -170,17 +170,24 @@ fn four(doc: &[u8], at: usize) -> usize
     }
 }
 
-// Where the character of several bytes that begins at `at` ends, 0 if none does.
+// Where the character of several bytes that begins at `at` ends, 0 if none does. Those of two bytes are the most, and are told first.
 pub fn whole(doc: &[u8], at: usize) -> usize
     ensures { λ r. ⌜ Rest (now (doc .entry)) at start r ⌝ }
 {
-    match byte(&*doc, at) {
-        194 => after_c2(&*doc, at + 1),
-        195..=223 => one_more(&*doc, at + 1),
-        224..=239 => three(&*doc, at),
-        240..=244 => four(&*doc, at),
-        _ => 0,
+    let b = byte(&*doc, at);
+    if b < 195 {
+        if b == 194 {
+            return after_c2(&*doc, at + 1);
+        }
+        return 0;
     }
+    if b < 224 {
+        return one_more(&*doc, at + 1);
+    }
+    if b < 240 {
+        return three(&*doc, at);
+    }
+    four(&*doc, at)
 }
 
 impl Reading {

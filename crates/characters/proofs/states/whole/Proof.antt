@@ -1,7 +1,7 @@
 -- `whole` answers where a character of 128 or more ends.
 use Rattle.utf8.specs.Utf8.{start, one-more, after-c2}
 use Rattle.utf8.specs.OverNumbers.{says, through}
-use Rattle.characters.specs.Rest.{rest-by, rest-past}
+use Rattle.characters.specs.Rest.{rest-by, rest-on}
 use Rattle.characters.proofs.Rests.{resting}
 use Rattle.characters.proofs.states.whole.Statement.{statement}
 use Rattle.characters.proofs.states.whole.Tie as tie
@@ -32,20 +32,17 @@ unfolding says through
 returns c = search (rest-by start after-c2 194, resting)
 
 returns-2 : tie.Need-returns-2
-unfolding says through
-returns-2 c = search (rest-past start one-more 194, resting)
+returns-2 c = search resting
 
 returns-3 : tie.Need-returns-3
-returns-3 c = search resting
+unfolding says through
+returns-3 c = search (rest-on start one-more 195 224, resting)
 
 returns-4 : tie.Need-returns-4
 returns-4 c = search resting
 
 returns-5 : tie.Need-returns-5
 returns-5 c = search resting
-
-returns-6 : tie.Need-returns-6
-returns-6 c = search resting
 
 pub whole-spec : {M : Type 1} → statement M
 whole-spec =
@@ -54,13 +51,12 @@ whole-spec =
     byte-requires
     add-after-c2
     after-c2-requires
-    add-one-more
-    one-more-requires
-    three-requires
-    four-requires
     returns
     returns-2
+    add-one-more
+    one-more-requires
     returns-3
+    three-requires
     returns-4
-    returns-5
-    returns-6)
+    four-requires
+    returns-5)
