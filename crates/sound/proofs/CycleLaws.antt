@@ -26,8 +26,9 @@ use Rattle.sound.specs.Walk.{Passed, passed-none, passed-more, passed-ba
 use Rattle.sound.specs.Pairs.{element-tests, keyless-tests, pair-tests}
 use Rattle.sound.specs.Rows.{kindAt, parentAt, Words, Container, container-words, container-stands, other-none}
 use Rattle.sound.specs.Contract.{Whole, Row, Went, Closing}
-use Rattle.sound.specs.Keys.{Rows, pairs-rows}
-use Rattle.sound.specs.Pairwise.{Keys, ApartTold}
+use Rattle.distinct.specs.Roads.{ApartTold}
+use Rattle.distinct.specs.Windows.{Open}
+use Rattle.sound.specs.Keys.{objectKeys, Rows, pairs-rows}
 use Rattle.sound.proofs.RowLaws.{row-past, row-parent}
 
 -- ---- a child: an element, or a key and a value
@@ -189,12 +190,12 @@ module _ (table text : List ℕ) (stop r x k : ℕ) (o : Bool) (n y : ℕ) (w : 
       many = subst (λ (a : Bool). Many (Member a k) n (w .passed .front)) f (w .passed .many)
 
       rows : Rows table text end (r + 1) (w .passed .front)
-      rows = pairs-rows table text end (r + 1) r x (many-pairs many) (w .passed .stand) (omega (arith, w .passed .row))
+      rows = pairs-rows table text end (r + 1) r x (many-pairs many) (w .passed .stand) (omega (arith, w .passed .row)) (closing-lies end e .whole) (closing-lies end e .few)
 
-      pub closing-keys : Keys table text end (r + 1)
-      closing-keys = let z = closing-lies end e in record { whole = z .whole; few = z .few; rows = rows .rows; walks = rows .walks }
+      pub closing-keys : Open (objectKeys table text end) (r + 1)
+      closing-keys = record { rows = rows .rows; walks = rows .walks }
 
-      module _ (c : Bool) (s : ApartTold table text (r + 1) end c) where
+      module _ (c : Bool) (s : ApartTold (objectKeys table text end) (r + 1) c) where
         told : Tells (Distinct (w .passed .front)) c
         told = tells-map (rows .distinct) (rows .apart) c (s (rows .rows) (rows .walks))
 

@@ -1,4 +1,4 @@
--- THE KEYS OF AN OBJECT BY THEIR ROWS (`Walks`): each leads to the next by the row behind its value. No two have one text (`Apart`), exactly if the object's keys are distinct. Assumes nothing.
+-- THE KEYS OF AN OBJECT BY THEIR ROWS (`objectKeys`): each leads to the next by the row behind its value. No two have one text exactly if the object's keys are distinct. Assumes nothing.
 use mathlib.Core.Path.{_≡_, refl, sym, ap, subst, _∙_}
 use mathlib.Core.List.{List, [], _∷_}
 use Prim.Native.Nat.{ℕ, suc, _+_, _*_, _≤_, _<_}
@@ -11,6 +11,7 @@ use Rattle.language.specs.Lent.{bytesIn}
 use Rattle.shaped.specs.Shaped.{Shaped, Pairs, pairs-none, pairs-more}
 use Rattle.shaped.specs.RowsAt.{RowsAt, ForestAt, leaf-row, first-at, rest-at, next-at}
 use Rattle.shaped.specs.Leaves.{part-is, part-fits}
+use Rattle.distinct.specs.Roads.{Road, Walks, walks-end, walks-on, Among, among-here, among-later, Apart, apart-none, apart-more}
 use Rattle.sound.specs.Distinct.{Again, again-here, again-later, Distinct}
 use Rattle.sound.specs.Members.{no-scalar-key, some-size}
 
@@ -29,53 +30,41 @@ abbrev pub beyond : List ℕ → ℕ → ℕ
 beyond table r = getD table (width * (r + 1) + 6) 0
 
 module _ (table text : List ℕ) where
-  -- a key's row: its text is inside the room, and the walk goes on behind its value, in the table
+  -- a key's row: its text is inside the room, and the walk goes on behind its value, up to `stop`, in the table
   pub record Keyed (stop r : ℕ) : Type 0 where
+    pub whole : width * stop ≤ length table
+    pub few : stop < 4294967296
     pub order : fromAt table r ≤ toAt table r
     pub fits : toAt table r ≤ length text
     pub onward : r + 1 < beyond table r
     pub below : beyond table r ≤ stop
 
-  -- the rows of the keys from r up to `stop`
-  pub data Walks (stop : ℕ) : ℕ → List ℕ → Type 0 where
-    walks-end : Walks stop stop []
-    walks-on : {r : ℕ} {rs : List ℕ} → Keyed stop r → Walks stop (beyond table r) rs → Walks stop r (r ∷ rs)
-
-  -- row r has the text of one of these
-  pub data Among (r : ℕ) : List ℕ → Type 0 where
-    among-here : {q : ℕ} {rs : List ℕ} → textAt table text r ≡ textAt table text q → Among r (q ∷ rs)
-    among-later : {q : ℕ} {rs : List ℕ} → Among r rs → Among r (q ∷ rs)
-
-  -- no row has the text of a later one
-  pub data Apart : List ℕ → Type 0 where
-    apart-none : Apart []
-    apart-more : {r : ℕ} {rs : List ℕ} → (Among r rs → ⊥) → Apart rs → Apart (r ∷ rs)
-
-  pub walks-le : {stop r : ℕ} {rs : List ℕ} → Walks stop r rs → r ≤ stop
-  walks-le walks-end = omega arith
-  walks-le (walks-on k w) = omega (arith, k .onward, k .below)
+  -- the keys of an object, whose rows end at `stop`
+  abbrev pub objectKeys : ℕ → Road
+  objectKeys stop = record { stop = stop; next = beyond table; text = textAt table text; Good = Keyed stop; onward = λ r k. omega (arith, k .onward); below = λ r k. k .below }
 
   -- THE KEYS OF A FOREST OF PAIRS, by their rows
   pub record Rows (stop r : ℕ) (ts : Forest) : Type 0 where
     pub rows : List ℕ
-    pub walks : Walks stop r rows
-    pub there : (s : List ℕ) (q : ℕ) → s ≡ textAt table text q → (a : ℕ) → Has s a ts → Among q rows
-    pub back : (s : List ℕ) (q : ℕ) → s ≡ textAt table text q → Among q rows → (a : ℕ) × Has s a ts
-    pub apart : Distinct ts → Apart rows
-    pub distinct : Apart rows → Distinct ts
+    pub walks : Walks (objectKeys stop) r rows
+    pub there : (s : List ℕ) (a : ℕ) → Has s a ts → Among (textAt table text) s rows
+    pub back : (s : List ℕ) → Among (textAt table text) s rows → (a : ℕ) × Has s a ts
+    pub apart : Distinct ts → Apart (textAt table text) rows
+    pub distinct : Apart (textAt table text) rows → Distinct ts
 
   none-rows : (stop r : ℕ) → r ≡ stop → Rows stop r none
   none-rows stop r e =
       record {
         rows = [];
-        walks = subst (λ (i : ℕ). Walks stop i []) (sym e) walks-end;
-        there = λ s q h a x. elim x [ ];
-        back = λ s q h x. elim x [ ];
+        walks = subst (λ (i : ℕ). Walks (objectKeys stop) i []) (sym e) walks-end;
+        there = λ s a x. elim x [ ];
+        back = λ s x. elim x [ ];
         apart = λ d. apart-none;
         distinct = λ x p y. elim y [ ];
       }
 
-  module _ (stop r p x a e : ℕ) (d : Decoded) (v : Tree) (ts : Forest) (k : ℕ) (s : Shaped k v) (h : ForestAt table text r p x (more (leaf KEY a e d) (more v ts))) (g : r + sizes (more (leaf KEY a e d) (more v ts)) ≡ stop) where
+  module _ (stop r p x a e : ℕ) (d : Decoded) (v : Tree) (ts : Forest) (k : ℕ) (s : Shaped k v) (h : ForestAt table text r p x (more (leaf KEY a e d) (more v ts))) (g : r + sizes (more (leaf KEY a e d) (more v ts)) ≡ stop)
+      (i : width * stop ≤ length table) (f : stop < 4294967296) where
     key-at : RowsAt table text r p x (leaf KEY a e d)
     key-at = first-at table text h
 
@@ -97,6 +86,8 @@ module _ (table text : List ℕ) where
     keyed =
         let w = leaf-row table text key-at in
         record {
+          whole = i;
+          few = f;
           order = omega (arith, w .from-is, w .to-is);
           fits = omega (arith, part-fits table text key-at, w .to-is);
           onward = omega (arith, beyond-is, some-size v);
@@ -120,31 +111,31 @@ module _ (table text : List ℕ) where
         record {
           rows = r ∷ w .rows;
           walks = walks-on keyed (w .walks);
-          there = λ u q z b y. there u q z b y;
-          back = λ u q z y. back u q z y;
-          apart = λ f. apart-more (λ y. let z = w .back (d .bytes) r key-text y in f (z .0) (again-here (has-later (z .1)))) (w .apart (λ i y. f i (again-later (again-later y))));
+          there = λ u b y. there u b y;
+          back = λ u y. back u y;
+          apart = λ f. apart-more (λ y. let z = w .back (textAt table text r) y in f (z .0) (again-here (has-later (rw key-text (z .1))))) (w .apart (λ i y. f i (again-later (again-later y))));
           distinct = λ y i z. distinct y i z;
         }
       where
-        there : (u : List ℕ) (q : ℕ) → u ≡ textAt table text q → (b : ℕ) → Has u b (more (leaf KEY a e d) (more v ts)) → Among q (r ∷ w .rows)
-        there u q z b has-here = among-here (sym z ∙ key-text)
-        there u q z b (has-later y) = among-later (w .there u q z b (past-value u b y))
+        there : (u : List ℕ) (b : ℕ) → Has u b (more (leaf KEY a e d) (more v ts)) → Among (textAt table text) u (r ∷ w .rows)
+        there u b has-here = among-here key-text
+        there u b (has-later y) = among-later (w .there u b (past-value u b y))
 
-        back : (u : List ℕ) (q : ℕ) → u ≡ textAt table text q → Among q (r ∷ w .rows) → (b : ℕ) × Has u b (more (leaf KEY a e d) (more v ts))
-        back u q z (among-here y) = (a, rw (z ∙ (y ∙ sym key-text)) has-here)
-        back u q z (among-later y) = let c = w .back u q z y in (c .0, has-later (has-later (c .1)))
+        back : (u : List ℕ) → Among (textAt table text) u (r ∷ w .rows) → (b : ℕ) × Has u b (more (leaf KEY a e d) (more v ts))
+        back u (among-here y) = (a, rw (y ∙ sym key-text) has-here)
+        back u (among-later y) = let c = w .back u y in (c .0, has-later (has-later (c .1)))
 
         no-value : (i : ℕ) (v : Tree) → Shaped k v → Again i (more v ts) → Again i ts
         no-value i v z (again-here y) = absurd (no-scalar-key z)
         no-value i v z (again-later y) = y
 
-        distinct : Apart (r ∷ w .rows) → (i : ℕ) → Again i (more (leaf KEY a e d) (more v ts)) → ⊥
-        distinct (apart-more f z) i (again-here y) = f (w .there (d .bytes) r key-text i (past-value (d .bytes) i y))
+        distinct : Apart (textAt table text) (r ∷ w .rows) → (i : ℕ) → Again i (more (leaf KEY a e d) (more v ts)) → ⊥
+        distinct (apart-more f z) i (again-here y) = f (rw key-text at (w .there (d .bytes) i (past-value (d .bytes) i y)))
         distinct (apart-more f z) i (again-later y) = w .distinct z i (no-value i v s y)
 
-  pub pairs-rows : {k n : ℕ} {ts : Forest} (stop r p x : ℕ) → Pairs k n ts → ForestAt table text r p x ts → r + sizes ts ≡ stop → Rows stop r ts
+  pub pairs-rows : {k n : ℕ} {ts : Forest} (stop r p x : ℕ) → Pairs k n ts → ForestAt table text r p x ts → r + sizes ts ≡ stop → width * stop ≤ length table → stop < 4294967296 → Rows stop r ts
   unfolding sizes
-  pairs-rows stop r p x pairs-none h e = none-rows stop r (omega arith)
-  pairs-rows stop r p x (pairs-more {k = k} {a = a} {e = e} {s = d} {v = v} {ts = ts} y z zs) h g =
-      more-rows stop r p x a e d v ts k z h g
-      (pairs-rows stop (beyond table r) p (x + length (d .bytes) + length (Rattle.language.specs.Tree.textOf v)) zs (rest-stands stop r p x a e d v ts k z h g) (total stop r p x a e d v ts k z h g))
+  pairs-rows stop r p x pairs-none h e i f = none-rows stop r (omega arith)
+  pairs-rows stop r p x (pairs-more {k = k} {a = a} {e = e} {s = d} {v = v} {ts = ts} y z zs) h g i f =
+      more-rows stop r p x a e d v ts k z h g i f
+      (pairs-rows stop (beyond table r) p (x + length (d .bytes) + length (Rattle.language.specs.Tree.textOf v)) zs (rest-stands stop r p x a e d v ts k z h g i f) (total stop r p x a e d v ts k z h g i f) i f)

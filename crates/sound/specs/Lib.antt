@@ -6,9 +6,5 @@ pub mod Pairs
 pub mod Rows
 pub mod Keys
 pub mod Pairwise
-pub mod Window
-pub mod Chains
-pub mod Ranks
-pub mod Windows
 pub mod Contract
 pub mod Sounding

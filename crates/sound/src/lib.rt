@@ -12,10 +12,9 @@ ghost use Rattle.sound.specs.Tested.{Lies, Tests};
 ghost use Rattle.sound.specs.Rows.{kindAt, parentAt, Words};
 ghost use Rattle.sound.specs.Contract.{Whole, Row, TextTests, Went, Closing};
 
-mod chains;
-mod names;
+mod behind;
+mod keys;
 mod once;
-mod ranks;
 mod windows;
 
 use language::DEEPEST;

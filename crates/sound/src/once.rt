@@ -1,6 +1,9 @@
 // Whether no two keys of an object have one text: few keys are each sought among those behind them, many in windows.
-ghost use Rattle.sound.specs.Pairwise.{Rowed, Keys, AmongTold, ApartTold};
-use super::names::same_key;
+ghost use Rattle.distinct.specs.Roads.{AmongTold, ApartTold};
+ghost use Rattle.distinct.specs.Windows.{Open};
+ghost use Rattle.sound.specs.Keys.{textAt, objectKeys};
+ghost use Rattle.sound.specs.Pairwise.{Named};
+use super::keys::same_key;
 use super::windows::windows;
 use super::word;
 
@@ -9,8 +12,8 @@ const PAIRS: usize = 16;
 
 // Whether a key in the rows from `from` up to `stop` has the text of row q.
 fn among(table: &[u32], text: &[u8], q: usize, from: usize, stop: usize) -> bool
-    requires { ⌜ Rowed (now table) (now text) stop q × Keys (now table) (now text) stop from ⌝ }
-    ensures { λ b. ⌜ AmongTold (now (table .entry)) (now (text .entry)) q from stop b ⌝ }
+    requires { ⌜ Named (now table) (now text) q × Open (objectKeys (now table) (now text) stop) from ⌝ }
+    ensures { λ b. ⌜ AmongTold (objectKeys (now (table .entry)) (now (text .entry)) stop) (textAt (now (table .entry)) (now (text .entry)) q) from b ⌝ }
 {
     let mut r = from;
     while r < stop {
@@ -24,8 +27,8 @@ fn among(table: &[u32], text: &[u8], q: usize, from: usize, stop: usize) -> bool
 
 // Whether no two keys in the rows from `from` up to `stop` have one text, pair by pair.
 fn pairwise(table: &[u32], text: &[u8], from: usize, stop: usize) -> bool
-    requires { ⌜ Keys (now table) (now text) stop from ⌝ }
-    ensures { λ b. ⌜ ApartTold (now (table .entry)) (now (text .entry)) from stop b ⌝ }
+    requires { ⌜ Open (objectKeys (now table) (now text) stop) from ⌝ }
+    ensures { λ b. ⌜ ApartTold (objectKeys (now (table .entry)) (now (text .entry)) stop) from b ⌝ }
 {
     let mut r = from;
     while r < stop {
@@ -40,8 +43,8 @@ fn pairwise(table: &[u32], text: &[u8], from: usize, stop: usize) -> bool
 
 // Whether no two keys in the rows from `from` up to `stop` have one text; n says how many they are, and picks the way.
 pub fn apart(table: &[u32], text: &[u8], from: usize, stop: usize, n: usize) -> bool
-    requires { ⌜ Keys (now table) (now text) stop from ⌝ }
-    ensures { λ b. ⌜ ApartTold (now (table .entry)) (now (text .entry)) from stop b ⌝ }
+    requires { ⌜ Open (objectKeys (now table) (now text) stop) from ⌝ }
+    ensures { λ b. ⌜ ApartTold (objectKeys (now (table .entry)) (now (text .entry)) stop) from b ⌝ }
 {
     if n <= PAIRS {
         return pairwise(&*table, &*text, from, stop);

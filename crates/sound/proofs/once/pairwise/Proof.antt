@@ -1,11 +1,14 @@
 -- `pairwise` tells whether no two keys have one text. The loop's invariant: none have exactly if none from here on have.
-use Rattle.sound.proofs.KeyLaws.{sifting, Sifted}
 use Prim.Native.Nat.{_-_}
+use Rattle.distinct.specs.Roads.{Apart}
+use Rattle.distinct.specs.Windows.{Going, sifting}
+use Rattle.sound.specs.Keys.{textAt, objectKeys}
+use Rattle.sound.proofs.KeyLaws.{placing}
 use Rattle.sound.proofs.once.pairwise.Statement.{statement}
 use Rattle.sound.proofs.once.pairwise.Tie as tie
 
 abbrev Inv-loop : tie.InvT-loop
-Inv-loop table text from stop r₀ r = Sifted table text from stop r
+Inv-loop table text from stop r₀ r = Going (objectKeys table text stop) (Apart (textAt table text)) from r
 
 abbrev μ-loop : tie.MeasureT-loop
 μ-loop table text from stop r₀ r = stop - r
@@ -14,19 +17,19 @@ loop-holds : tie.Need-loop-holds Inv-loop μ-loop
 loop-holds c = search sifting
 
 add-word : tie.Need-add-word Inv-loop μ-loop
-add-word c = search sifting
+add-word c = search (placing, sifting)
 
 word-requires : tie.Need-word-requires Inv-loop μ-loop
-word-requires c κs = search sifting
+word-requires c κs = search (placing, sifting)
 
 among-requires : tie.Need-among-requires Inv-loop μ-loop
-among-requires c κs = search sifting
+among-requires c κs = search (placing, sifting)
 
 returns : tie.Need-returns Inv-loop μ-loop
 returns c = search sifting
 
 loop-less : tie.Need-loop-less Inv-loop μ-loop
-loop-less c = search sifting
+loop-less c = search (placing, sifting)
 
 loop-again : tie.Need-loop-again Inv-loop μ-loop
 loop-again c = search sifting

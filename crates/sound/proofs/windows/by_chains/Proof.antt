@@ -1,5 +1,6 @@
 -- `by_chains` tells what clashes with a key of the window, by chains.
-use Rattle.sound.specs.Windows.{by-chains-in, chainwise}
+use Rattle.distinct.specs.Chains.{linked-in}
+use Rattle.distinct.specs.Windows.{chainwise}
 use borrow.Author.Needs.{needs}
 use Rattle.sound.proofs.windows.by_chains.Statement.{statement}
 use Rattle.sound.proofs.windows.by_chains.Tie as tie
@@ -18,8 +19,9 @@ enum-told-3 c = search needs
 
 chained-behind-requires : tie.Need-chained-behind-requires
 chained-behind-requires c κs =
-    let s = c .before .before .before .before .before .before .before .before .before .before .before .before .before .before .before .before in
-    let f = by-chains-in (s .args .table .now) (s .args .text .now) (s .args .rows .now) (s .args .n) (s .args .next) (s .args .stop) _ _ (c .before .before .before .before .before .before .before .before .chained-all .result) (c .before .before .before .before .before .before .before .before .chained-all .ensures) in
+    let s = c .before .before .before .before .before .before .before .before .before .before .before .before .before .before .before .before .before in
+    let a = c .before .before .before .before .before .before .before .before .chained-all in
+    let f = linked-in (s .args .text .now) (s .args .froms .now) (s .args .tos .now) _ _ (s .args .n) (a .result) (a .ensures) (s .args .heads .now) (s .args .links .now) (s .pre .starting) in
     (search (f, needs), s .pre .keys)
 
 same-length : tie.Need-same-length

@@ -1,5 +1,6 @@
 -- `by_ranks` tells what clashes with a key of the window, by the order of texts.
-use Rattle.sound.specs.Windows.{by-ranks-in, rankwise}
+use Rattle.distinct.specs.Ranks.{ranged-in}
+use Rattle.distinct.specs.Windows.{rankwise}
 use borrow.Author.Needs.{needs}
 use Rattle.sound.proofs.windows.by_ranks.Statement.{statement}
 use Rattle.sound.proofs.windows.by_ranks.Tie as tie
@@ -15,8 +16,9 @@ returns c = search rankwise
 
 ranked-behind-requires : tie.Need-ranked-behind-requires
 ranked-behind-requires c κs =
-    let s = c .before .before .before .before .before .before .before .before .before .before in
-    let f = by-ranks-in (s .args .table .now) (s .args .text .now) (s .args .rows .now) (s .args .n) (s .args .next) (s .args .stop) _ (c .before .before .before .before .ranked-all .result) (c .before .before .before .before .ranked-all .ensures) in
+    let s = c .before .before .before .before .before .before .before .before .before .before .before in
+    let a = c .before .before .before .before .ranked-all in
+    let f = ranged-in (s .args .text .now) (s .args .froms .now) (s .args .tos .now) _ (s .args .n) (a .result) (a .ensures) (s .args .order .now) in
     (search (f, needs), s .pre .2)
 
 same-length-2 : tie.Need-same-length-2

@@ -1,7 +1,7 @@
 -- `most_window` starts with rooms that have nothing in them.
 use mathlib.Core.Path.{refl}
 use native.Mathlib.Omega.{arith}
-use Rattle.sound.specs.Windows.{rooms-first}
+use Rattle.distinct.specs.Window.{rooms-first}
 use borrow.Author.Needs.{needs}
 use Rattle.sound.proofs.windows.most_window.Statement.{statement}
 use Rattle.sound.proofs.windows.most_window.Tie as tie
@@ -15,8 +15,11 @@ slice-aggregate-window-2 c = search needs
 slice-aggregate-window-3 : tie.Need-slice-aggregate-window-3
 slice-aggregate-window-3 c = search needs
 
+slice-aggregate-window-4 : tie.Need-slice-aggregate-window-4
+slice-aggregate-window-4 c = search needs
+
 window-requires : tie.Need-window-requires
-window-requires c κs = (search needs, search needs, rooms-first 8192 4096 8192 (omega arith) (omega arith) refl refl)
+window-requires c κs = (search needs, search needs, rooms-first 4096 4096 4096 4096 (omega arith) (omega arith) refl refl refl)
 
 returns : tie.Need-returns
 returns c = search needs
@@ -28,5 +31,6 @@ most-window-spec =
     slice-aggregate-window
     slice-aggregate-window-2
     slice-aggregate-window-3
+    slice-aggregate-window-4
     window-requires
     returns)

@@ -1,11 +1,14 @@
 -- `windows` tells whether no two keys have one text. The loop's invariant: none have exactly if none from here on have.
 use Prim.Native.Nat.{_-_}
-use Rattle.sound.specs.Windows.{Onward, onwards}
+use Rattle.distinct.specs.Roads.{Apart}
+use Rattle.distinct.specs.Windows.{Going, onwards}
+use Rattle.sound.specs.Keys.{textAt, objectKeys}
+use Rattle.sound.proofs.KeyLaws.{placing}
 use Rattle.sound.proofs.windows.windows.Statement.{statement}
 use Rattle.sound.proofs.windows.windows.Tie as tie
 
 abbrev Inv-loop : tie.InvT-loop
-Inv-loop table text from stop n r₀ r = Onward table text from stop r
+Inv-loop table text from stop n r₀ r = Going (objectKeys table text stop) (Apart (textAt table text)) from r
 
 abbrev μ-loop : tie.MeasureT-loop
 μ-loop table text from stop n r₀ r = stop - r
@@ -26,7 +29,7 @@ enum-known-next : tie.Need-enum-known-next Inv-loop μ-loop
 enum-known-next c = search onwards
 
 loop-less : tie.Need-loop-less Inv-loop μ-loop
-loop-less c = search onwards
+loop-less c = search (placing, onwards)
 
 loop-again : tie.Need-loop-again Inv-loop μ-loop
 loop-again c = search onwards
