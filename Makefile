@@ -33,7 +33,8 @@ evidence:
 	nice $(BUILT)/places 2000 7
 
 # The proved reader agrees with the second reader, on a million documents and more; the writer and the test of soundness
-# with the second ones, on hundreds of thousands of tables; the upgrade decision with the second one, on millions of pairs.
+# with the second ones, on hundreds of thousands of tables; the upgrade decision with the second one, on millions of pairs; the overlay
+# with the second one, on hundreds of thousands.
 compare: linked
 	$(BUILT)/compare --vectors $(VECTORS)
 
@@ -54,7 +55,7 @@ figures: linked
 
 # The programs of evidence/ that link the library.
 linked: $(LIBRARY)
-	cargo build $(EVIDENCE) --features decided --bin compare --bin bench
+	cargo build $(EVIDENCE) --features overlaid --bin compare --bin bench
 
 # The tree of an example profile, read by the proved reader.
 run: yay

@@ -1,5 +1,5 @@
-/* Reads a profile, prints which image a tablet installs, writes the profile back, and decides on an upgrade:
- * `example FILE`. */
+/* Reads a profile, prints which image a tablet installs, writes the profile back, decides on an upgrade, and lays a
+ * site's profile over a fleet's: `example FILE`. */
 #include <stdio.h>
 #include <string.h>
 #include "yay_help.h"
@@ -89,6 +89,27 @@ static void print_decision(const char *sheet, const char *installed) {
     }
 }
 
+/* Prints a site's profile laid over a fleet's, in the house style. */
+static void print_overlay(const char *fleet, const char *site) {
+    static struct read f, s, both;
+    const size_t words = sizeof f.table / sizeof *f.table;
+    size_t length;
+    uint32_t number = read_short(fleet, &f);
+    if (number == YAY_OK) number = read_short(site, &s);
+    if (number == YAY_OK) {
+        number = yay_overlay(f.table, words, f.rows, f.text, f.bytes, s.table, words, s.rows, s.text, s.bytes,
+                             both.table, words, both.text, sizeof both.text, &both.rows, &both.bytes);
+    }
+    if (number == YAY_OK) {
+        number = yay_write(both.table, words, both.rows, both.text, both.bytes, out, sizeof out, &length);
+    }
+    if (number == YAY_OK) {
+        printf("laid over:\n%.*s", (int)length, (const char *)out);
+    } else {
+        printf("not laid over: %s (%u): %s\n", yay_number_name(number), (unsigned)number, yay_number_sentence(number));
+    }
+}
+
 int main(int count, char **args) {
     FILE *file = count == 2 ? fopen(args[1], "rb") : NULL;
     if (file == NULL) {
@@ -120,5 +141,7 @@ int main(int count, char **args) {
     print_decision(sheet, "[10, 0]\n");
     print_decision(sheet, "[9, 4]\n");
     print_decision(sheet, "[]\n");
+    print_overlay("battery: {low-at: 0.15}\ndoors: [1, 2]\n", "doors: [3]\nbattery: {spare: true}\nname: 'A'\n");
+    print_overlay("battery: {low-at: 0.15}\n", "battery: null\n");
     return 0;
 }

@@ -1,6 +1,7 @@
-/* Measures the stack that yay_read touches, and yay_sound, yay_write and yay_decide on the tables that it fills:
- * documents of every class of size, good, refused, repeating and hostile, with many rows and with few, each read into
- * large rooms and into none, in a thread whose stack is painted first. Fails where a class takes more than yay.h says. */
+/* Measures the stack that yay_read touches, and yay_sound, yay_write, yay_decide and yay_overlay on the tables that it
+ * fills: documents of every class of size, good, refused, repeating and hostile, with many rows and with few, each read
+ * into large rooms and into none, in a thread whose stack is painted first; and yay_overlay on objects of many keys, 31
+ * levels deep, in both. Fails where a class takes more than yay.h says. */
 #define _DEFAULT_SOURCE
 #include <pthread.h>
 #include <stdio.h>
@@ -49,6 +50,34 @@ static void *refuses(void *nothing) {
     return nothing;
 }
 
+/* What is laid over what, and the targets: twice as much as any source here has. */
+#define DEEP 31
+#define KEYS ((size_t)20000)
+#define MOST_ROWS (2 * KEYS + 2 * DEEP + 1)
+struct made {
+    uint32_t table[MOST_ROWS * YAY_WORDS];
+    uint8_t text[8 * KEYS];
+    size_t rows, bytes;
+};
+static struct made made[2];
+static uint32_t laid_table[2 * MOST_ROWS * YAY_WORDS];
+static uint8_t laid_text[16 * KEYS];
+static size_t laid_rows, laid_bytes;
+
+static void *lays(void *nothing) {
+    number = yay_overlay(made[0].table, made[0].rows * YAY_WORDS, made[0].rows, made[0].text, made[0].bytes,
+                         made[1].table, made[1].rows * YAY_WORDS, made[1].rows, made[1].text, made[1].bytes, laid_table,
+                         sizeof laid_table / sizeof *laid_table, laid_text, sizeof laid_text, &laid_rows, &laid_bytes);
+    return nothing;
+}
+
+/* The document over itself. */
+static void *lays_twice(void *nothing) {
+    number = yay_overlay(table, words, rows, text, bytes, table, words, rows, text, bytes, laid_table,
+                         sizeof laid_table / sizeof *laid_table, laid_text, sizeof laid_text, &laid_rows, &laid_bytes);
+    return nothing;
+}
+
 static void *rests(void *nothing) { return nothing; }
 
 /* The bytes of a painted stack that a thread has touched. */
@@ -86,6 +115,10 @@ static int written[2];
 static size_t deciding;
 static int decisions[YAY_BLOCKED + 1];
 
+/* The most that laying has touched, and how often something was laid. */
+static size_t laying;
+static int laid;
+
 /* What a thread touches that does nothing. */
 static size_t rest;
 
@@ -93,6 +126,12 @@ static void measure_decision(void *(*work)(void *)) {
     size_t took = touched(work) - rest;
     if (took > deciding) deciding = took;
     if (number == YAY_OK) decisions[decision]++;
+}
+
+static void measure_overlay(void *(*work)(void *)) {
+    size_t took = touched(work) - rest;
+    if (took > laying) laying = took;
+    laid += number == YAY_OK;
 }
 
 /* The document in large rooms, in no table, and in no text room. */
@@ -113,8 +152,57 @@ static void measure(void) {
         if (number == YAY_OK || number == YAY_LONG) written[number]++;
         measure_decision(decides);
         measure_decision(refuses);
+        measure_overlay(lays_twice);
     }
     documents++;
+}
+
+/* A row of a made table; its text is put behind the texts before. */
+static size_t put(struct made *m, uint32_t kind, uint32_t parent, const char *written) {
+    size_t row = m->rows++, n = strlen(written);
+    uint32_t *w = m->table + row * YAY_WORDS;
+    memset(w, 0, YAY_WORDS * sizeof *w);
+    memcpy(m->text + m->bytes, written, n);
+    w[YAY_KIND] = kind;
+    w[YAY_TEXT_FROM] = kind == YAY_KEY ? (uint32_t)m->bytes : 0;
+    w[YAY_TEXT_TO] = kind == YAY_KEY ? (uint32_t)(m->bytes + n) : 0;
+    w[YAY_PARENT] = parent;
+    w[YAY_NEXT] = (uint32_t)row + 1;
+    m->bytes += n;
+    return row;
+}
+
+/* Objects inside each other, each with so many keys before the one that leads down, and many in the last. */
+static void make(struct made *m, size_t depth, size_t each, size_t last, size_t first_key, int backwards) {
+    size_t opened[DEEP + 1];
+    m->rows = m->bytes = 0;
+    for (size_t level = 0; level <= depth; level++) {
+        size_t parent = level ? opened[level - 1] : 0, count = level < depth ? each : last;
+        if (level) put(m, YAY_KEY, (uint32_t)parent, "k");
+        opened[level] = put(m, YAY_OBJECT, (uint32_t)parent, "");
+        m->table[opened[level] * YAY_WORDS + YAY_TEXT_TO] = (uint32_t)(count + (level < depth));
+        for (size_t i = 0; i < count; i++) {
+            char key[16];
+            sprintf(key, "a%zu", first_key + (backwards ? count - 1 - i : i));
+            put(m, YAY_KEY, (uint32_t)opened[level], key);
+            put(m, YAY_NULL, (uint32_t)opened[level], "");
+        }
+    }
+    for (size_t i = 0; i <= depth; i++) m->table[opened[i] * YAY_WORDS + YAY_NEXT] = (uint32_t)m->rows;
+}
+
+/* The same keys, in the same order and reversed, and others. */
+static void layers(size_t depth, size_t each, size_t last) {
+    for (int way = 0; way < 3; way++) {
+        make(&made[0], depth, each, last, 0, 0);
+        make(&made[1], depth, each, last, way == 2 ? each + last : 0, way == 1);
+        number = YAY_BADROW;
+        measure_overlay(lays);
+        if (number != YAY_OK) {
+            printf("stack: %zu levels of keys are not laid over each other: %u\n", depth, (unsigned)number);
+            exit(1);
+        }
+    }
 }
 
 /* A document of about n bytes: a beginning, a line again and again with a number in it, and an end. */
@@ -252,6 +340,13 @@ int main(void) {
         sheet(digits[i], '2', '1', '2');
         sheet(digits[i], '3', '3', '2');
     }
+    layers(DEEP, 0, 1);
+    layers(DEEP, 20, 20);
+    layers(DEEP, 600, 600);
+    layers(DEEP, 0, 5000);
+    layers(0, 0, 5000);
+    layers(0, 0, KEYS);
+    layers(DEEP, 0, KEYS);
     for (size_t i = 0; i < sizeof sizes / sizeof *sizes; i++) of_size(sizes[i]);
     for (size_t i = 0; i < sizeof classes / sizeof *classes; i++) {
         struct class *c = &classes[i];
@@ -270,6 +365,9 @@ int main(void) {
     for (int i = YAY_INSTALL; i <= YAY_BLOCKED; i++) {
         if (!decisions[i]) wrong++, printf("stack: nothing was decided as %d\n", i);
     }
+    printf("stack: laying over touches %zu KB%s\n", (laying + 1023) / 1024, laying > YAY_STACK ? ": TOO MUCH" : "");
+    wrong += laying > YAY_STACK;
+    if (laid < 100) wrong++, printf("stack: too little was laid over\n");
     printf("stack: %d documents, %d faults\n", documents, wrong);
     return wrong != 0;
 }

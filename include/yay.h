@@ -1,4 +1,5 @@
-/* A reader and writer of YAY documents, and a decision on upgrades, proved in Rattle. Link with -lyay.
+/* A reader and writer of YAY documents, a decision on upgrades and an overlay of profiles, proved in Rattle. Link with
+ * -lyay.
  *
  * Every function works on lent memory alone: none allocates, keeps a pointer, or keeps anything between calls, so
  * threads may call at once. A `const` pointer is only read from. What is written (the table, the text room, the
@@ -31,8 +32,8 @@ extern "C" {
 #define YAY_MOST 16777216
 
 /* The stack that a call of yay_read touches at most, in bytes, as c/stack.c measures it: for a document of at most
- * 1,024 bytes, and for any. So a thread of 128 KB reads every document. yay_sound, yay_write and yay_decide touch no
- * more than YAY_STACK, whatever the tables. */
+ * 1,024 bytes, and for any. So a thread of 128 KB reads every document. yay_sound, yay_write, yay_decide and
+ * yay_overlay touch no more than YAY_STACK, whatever the tables. */
 #define YAY_STACK_FEW (48 * 1024)
 #define YAY_STACK (112 * 1024)
 
@@ -60,6 +61,7 @@ extern "C" {
 #define YAY_NOTINT 11 /* a text compared isn't an integer's text */
 #define YAY_BADSHEET 14 /* the table isn't a sound one of a release sheet */
 #define YAY_BADINST 15  /* the table isn't a sound one of an installed version */
+#define YAY_CLASH 16    /* a key has an object in one of two tables and another value in the other */
 
 /* Decisions. */
 #define YAY_INSTALL 1 /* the sheet's version is above the installed one, which is not below the sheet's floor */
@@ -139,6 +141,19 @@ uint32_t yay_write(const uint32_t *table, size_t words, size_t rows, const uint8
 uint32_t yay_decide(const uint32_t *sheet, size_t sheet_words, size_t sheet_rows, const uint8_t *sheet_text,
                     size_t sheet_text_len, const uint32_t *installed, size_t installed_words, size_t installed_rows,
                     const uint8_t *installed_text, size_t installed_text_len, uint32_t *decision);
+
+/* Lays the upper table over the lower, both sound with objects as roots, into a third table and text room; the sources
+ * stay as they are, and may be the same memory. A key that one of them has is kept; of one that both have, two objects
+ * are laid over each other in the same way, and two other values, arrays among them, are answered by the upper. Keys
+ * stand in the lower's order, then the upper's new ones in its own. Spans, lines and columns of the result are 0.
+ * YAY_OK: *first is the number of rows, *second that of text bytes; words and bytes past them are as before.
+ * YAY_BADROW, tested first: a table is not sound, or its root is no object. YAY_CLASH: of a key that both have, one value
+ * is an object and the other is none, be it `{}` or null. *first and *second are 0.
+ * YAY_ROWS, then YAY_TEXT: *first rows, or bytes, are needed, and *second is 0. */
+uint32_t yay_overlay(const uint32_t *lower, size_t lower_words, size_t lower_rows, const uint8_t *lower_text,
+                     size_t lower_text_len, const uint32_t *upper, size_t upper_words, size_t upper_rows,
+                     const uint8_t *upper_text, size_t upper_text_len, uint32_t *table, size_t table_words,
+                     uint8_t *text, size_t text_len, size_t *first, size_t *second);
 
 #ifdef __cplusplus
 }

@@ -9,8 +9,8 @@
 
 /* The name of a number, as "SYNTAX"; "" for one that yay.h does not have. */
 static inline const char *yay_number_name(uint32_t number) {
-    static const char *const names[] = {"OK",   "LONG",   "CHAR", "SYNTAX", "DEEP", "END",      "REPEAT", "ROWS",
-                                        "TEXT", "BADROW", "NONE", "NOTINT", "",     "", "BADSHEET", "BADINST"};
+    static const char *const names[] = {"OK",     "LONG", "CHAR",   "SYNTAX", "DEEP", "END",      "REPEAT",  "ROWS", "TEXT",
+                                        "BADROW", "NONE", "NOTINT", "",       "",     "BADSHEET", "BADINST", "CLASH"};
     return number < sizeof names / sizeof *names ? names[number] : "";
 }
 
@@ -33,6 +33,7 @@ static inline const char *yay_number_sentence(uint32_t number) {
         "",
         "this is no release sheet",
         "this is no installed version",
+        "an object is laid over another value, or another value over an object",
     };
     return number < sizeof sentences / sizeof *sentences ? sentences[number] : "";
 }

@@ -55,6 +55,24 @@ expect 'a sheet that is not there' 2 "$("$yay" decide build/none.yay examples/in
 expect 'a decision that nobody reads' 4 "$({ sleep 0.2; "$yay" decide "$sheet" --installed '[11]'; } | true; echo "${PIPESTATUS[0]}")"
 expect 'a decision in a stack of 128 KB' 0 "$(ulimit -s 128; "$yay" decide "$sheet" examples/installed.yay > /dev/null; echo $?)"
 
+# Profiles laid over each other are written whole or not at all.
+overlay() { "$yay" overlay "$@" 2>&1; }
+layers=(examples/all-tablets.yay examples/north.yay examples/cold-store.yay)
+overlay "${layers[@]}" > build/laid.yay
+expect 'a site over its region over the fleet' beta "$("$yay" get build/laid.yay image-channel)"
+expect 'the result is in the house style' '' "$("$yay" fmt --check build/laid.yay)"
+expect 'into one of its files' '0 beta' "$(cp "${layers[0]}" build/over.yay; overlay build/over.yay "${layers[2]}" -o build/over.yay; echo $? "$("$yay" get build/over.yay image-channel)")"
+expect 'a clash leaves the file' "1 $(cksum < build/over.yay)" \
+    "$(printf 'lamp: 1\n' | overlay build/over.yay - -o build/over.yay > /dev/null; echo $? "$(cksum < build/over.yay)")"
+expect 'a clash and its line in both files' 'build/clash.yay:3:3: CLASH (16): the key "battery" "warn" is an object here, and an array in examples/all-tablets.yay:9:3' \
+    "$(printf 'x: 1\nbattery:\n  warn: {}\n' > build/clash.yay; overlay "${layers[@]:0:2}" build/clash.yay | head -1)"
+expect 'a full disk is an error of overlay' 2 "$("$yay" overlay "${layers[@]}" > /dev/full 2> /dev/null; echo $?)"
+expect 'a full disk leaves the laid file' "2 $(cksum < build/over.yay)" \
+    "$(ulimit -f 0; trap '' XFSZ; "$yay" overlay "${layers[@]}" -o build/over.yay 2> /dev/null; echo $? "$(cksum < build/over.yay)")"
+expect 'and nothing beside the laid file' '' "$(find build -maxdepth 1 -name '.over.yay*')"
+expect 'a profile that is not there' 2 "$(overlay "${layers[0]}" build/none.yay > /dev/null; echo $?)"
+expect 'one profile alone' 2 "$(overlay "${layers[0]}" > /dev/null; echo $?)"
+
 # 128 KB of stack is enough for any document, with all that the command itself takes of it; the reader's part is YAY_STACK.
 keys() { for ((i = 0; i < $1; i++)); do echo "k$i: $i"; done; }
 keys 90 > build/few.yay

@@ -47,6 +47,7 @@ expect 'how numbers are written' 'text' "$(offered yay json --numbers = te)"
 expect 'all of these' 'json text exact' "$(offered yay get --numbers =)"
 expect 'an option of fmt' '--check' "$(offered yay fmt --c)"
 expect 'an option of decide' '--installed=' "$(offered yay decide --i)"
+expect 'an option of overlay' '--output=' "$(offered yay overlay --o)"
 expect 'a file to write is left to bash' '' "$(offered yay write -o exa)"
 expect 'files are left to bash' '' "$(offered yay show exa)"
 

@@ -6,6 +6,7 @@ mod asked;
 pub mod deciding;
 pub mod faults;
 pub mod forms;
+pub mod overlaying;
 pub mod places;
 pub mod run;
 pub mod stream;

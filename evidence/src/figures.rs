@@ -2,6 +2,8 @@
 
 #[cfg(feature = "decided")]
 pub mod deciding;
+#[cfg(feature = "overlaid")]
+pub mod overlaying;
 
 use crate::clock::{Clock, Machine, Shortest};
 #[cfg(feature = "written")]

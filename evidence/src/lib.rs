@@ -1,5 +1,6 @@
-//! Evidence at scale: a second reader and writer of YAY documents and a second decision on upgrades, a slow checker of
-//! refusal places, documents, tables and sheets to try, and the comparison with what is under test.
+//! Evidence at scale: a second reader and writer of YAY documents, a second decision on upgrades and a second overlay, a
+//! slow checker of refusal places, documents, tables, sheets and overlays to try, and the comparison with what is under
+//! test.
 
 pub mod clock;
 pub mod compare;
@@ -7,6 +8,7 @@ pub mod documents;
 #[cfg(feature = "proved")]
 pub mod figures;
 pub mod hex;
+pub mod overlays;
 #[cfg(feature = "proved")]
 pub mod proved;
 pub mod second;

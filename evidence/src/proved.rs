@@ -2,9 +2,13 @@
 
 #[cfg(feature = "decided")]
 use crate::compare::deciding::Decider;
+#[cfg(feature = "overlaid")]
+use crate::compare::overlaying::Lays;
 #[cfg(feature = "written")]
 use crate::compare::writing::Writer;
 use crate::compare::{Questions, Reader, Said};
+#[cfg(feature = "overlaid")]
+use crate::second::overlay::Told;
 use crate::second::questions::Lent;
 use std::ops::Range;
 
@@ -68,6 +72,25 @@ extern "C" {
         installed_text: *const u8,
         installed_text_len: usize,
         decision: *mut u32,
+    ) -> u32;
+    #[cfg(feature = "overlaid")]
+    fn yay_overlay(
+        lower: *const u32,
+        lower_words: usize,
+        lower_rows: usize,
+        lower_text: *const u8,
+        lower_text_len: usize,
+        upper: *const u32,
+        upper_words: usize,
+        upper_rows: usize,
+        upper_text: *const u8,
+        upper_text_len: usize,
+        table: *mut u32,
+        table_words: usize,
+        text: *mut u8,
+        text_len: usize,
+        first: *mut usize,
+        second: *mut usize,
     ) -> u32;
 }
 
@@ -173,6 +196,37 @@ impl Decider for Proved {
             )
         };
         (number, decision)
+    }
+}
+
+#[cfg(feature = "overlaid")]
+impl Lays for Proved {
+    fn lay(&self, lower: &Lent, upper: &Lent, table: &mut [u32], text: &mut [u8]) -> Told {
+        let (mut first, mut second) = (UNSET, UNSET);
+        let (words, bytes) = (table.len(), text.len());
+        // SAFETY: every pointer and length is that of a live slice, both targets are borrowed by this call alone, and the
+        // two answers are apart from all of them.
+        let number = unsafe {
+            yay_overlay(
+                lower.table.as_ptr(),
+                lower.table.len(),
+                lower.rows,
+                lower.text.as_ptr(),
+                lower.text.len(),
+                upper.table.as_ptr(),
+                upper.table.len(),
+                upper.rows,
+                upper.text.as_ptr(),
+                upper.text.len(),
+                table.as_mut_ptr(),
+                words,
+                text.as_mut_ptr(),
+                bytes,
+                &mut first,
+                &mut second,
+            )
+        };
+        (number, first, second)
     }
 }
 

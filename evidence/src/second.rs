@@ -11,6 +11,7 @@ mod items;
 mod keys;
 mod lines;
 mod numbers;
+pub mod overlay;
 mod places;
 pub mod questions;
 mod quoted;

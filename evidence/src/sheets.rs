@@ -2,8 +2,8 @@
 //! write them, wrong ones one step away from a right one, and damaged ones.
 
 pub mod borders;
-mod damaged;
-mod shapes;
+pub(crate) mod damaged;
+pub(crate) mod shapes;
 pub mod stream;
 pub mod versions;
 mod written;

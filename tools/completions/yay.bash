@@ -4,8 +4,8 @@ _yay() {
     [ "$word" = '=' ] && word=''
     [ "$last" = '=' ] && last=${COMP_WORDS[COMP_CWORD - 2]}
     case $COMP_CWORD,${COMP_WORDS[1]},$last,$word in
-        1,*) words='check show rows get json write fmt decide compare batch help --help --version' ;;
-        *,help,*) words='check show rows get json write fmt decide compare batch' ;;
+        1,*) words='check show rows get json write fmt decide overlay compare batch help --help --version' ;;
+        *,help,*) words='check show rows get json write fmt decide overlay compare batch' ;;
         *,json,--numbers,* | *,get,--numbers,*) words='json text exact' ;;
         *,check,*,-*) words='-q --quiet -h --help' ;;
         *,show,*,-*) words='-p --places -h --help' ;;
@@ -13,6 +13,7 @@ _yay() {
         *,json,*,-*) words='-c --compact --numbers= -h --help' ;;
         *,write,*,-*) words='-o --output= -h --help' ;;
         *,fmt,*,-*) words='-o --output= --check -h --help' ;;
+        *,overlay,*,-*) words='-o --output= -h --help' ;;
         *,decide,*,-*) words='--installed= -h --help' ;;
         *,-*) words='-h --help' ;;
         *) words='' ;;

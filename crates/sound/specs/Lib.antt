@@ -8,3 +8,4 @@ pub mod Keys
 pub mod Pairwise
 pub mod Contract
 pub mod Sounding
+pub mod Standing

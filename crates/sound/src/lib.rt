@@ -17,6 +17,9 @@ mod keys;
 mod once;
 mod windows;
 
+pub use keys::key_in_chains;
+pub use keys::key_in_order;
+pub use keys::same_key;
 use language::DEEPEST;
 use language::Kind;
 use language::WIDTH;

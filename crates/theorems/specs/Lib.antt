@@ -3,3 +3,4 @@ pub mod Borders
 pub mod WrongReaders
 pub mod Writing
 pub mod Upgrading
+pub mod Overlaying

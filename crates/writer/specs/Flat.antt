@@ -18,25 +18,9 @@ use Rattle.spans.specs.Formed.{kindOf}
 use Rattle.shaped.specs.RowsAt.{RowsAt, ForestAt, node-forest, kind-at, next-at}
 use Rattle.shaped.specs.Leaves.{word-row, part-row, part-is, part-fits}
 use Rattle.shaped.specs.Shaped.{Scripted, Scalar, is-null, is-false, is-true, is-integer, is-float, is-string, is-bytes, Shaped, shaped-leaf, shaped-array, shaped-object, Elements, elements-none, elements-more, Pairs, pairs-none, pairs-more}
+pub use Rattle.sound.specs.Standing.{Kept, kept-key, kept-value, Kepts, kepts-none, kepts-more, elements-kept, pairs-kept, size-some, sizes-some, At, Along, word-in, kind-word, next-word, node-along}
 use Rattle.writer.specs.Puts.{ceiling, Puts, puts-none, puts-as, puts-then}
 use Rattle.writer.specs.Leaves.{Spelt}
-
--- A VALUE OF A DOCUMENT, OR A KEY; such trees one behind another
-pub data Kept : Tree → Type 0 where
-  kept-key : {a e : ℕ} {s : Decoded} → Scripted (s .bytes) → Kept (leaf KEY a e s)
-  kept-value : {k : ℕ} {t : Tree} → Shaped k t → Kept t
-
-pub data Kepts : Forest → Type 0 where
-  kepts-none : Kepts none
-  kepts-more : {t : Tree} {ts : Forest} → Kept t → Kepts ts → Kepts (more t ts)
-
-pub elements-kept : {k n : ℕ} {ts : Forest} → Elements k n ts → Kepts ts
-elements-kept elements-none = kepts-none
-elements-kept (elements-more x xs) = kepts-more (kept-value x) (elements-kept xs)
-
-pub pairs-kept : {k n : ℕ} {ts : Forest} → Pairs k n ts → Kepts ts
-pairs-kept pairs-none = kepts-none
-pairs-kept (pairs-more y x xs) = kepts-more (kept-key y) (kepts-more (kept-value x) (pairs-kept xs))
 
 -- a scalar is no container; a null, a false and a true have no text; a string is a text of characters
 pub scalar-low : {kind : ℕ} {s : List ℕ} → Scalar kind s → kind ≤ 7
@@ -97,81 +81,39 @@ module _ (kind : ℕ) (last : Bool) where
 
 pub ruleset parting = (between-key, between-last, between-more, key-room, more-room)
 
--- every tree has a row
-pub size-some : (t : Tree) → 0 < size t
-unfolding size
-size-some (leaf k a e s) = omega arith
-size-some (node k a e c ts) = omega arith
-
-pub sizes-some : (t : Tree) (ts : Forest) → 0 < sizes (more t ts)
-unfolding sizes
-sizes-some t ts = omega (arith, size-some t)
-
 module _ (table text : List ℕ) where
-  -- THE ROWS OF A TREE STAND in the table from row r on; those of trees from row r up to `stop`
-  pub record At (r : ℕ) (t : Tree) : Type 0 where
-    pub parent : ℕ
-    pub start : ℕ
-    pub rows : RowsAt table text r parent start t
-    pub fits : width * (r + size t) ≤ length table
-
-  pub record Along (r stop : ℕ) (ts : Forest) : Type 0 where
-    pub parent : ℕ
-    pub start : ℕ
-    pub rows : ForestAt table text r parent start ts
-    pub ends : r + sizes ts ≡ stop
-    pub fits : width * stop ≤ length table
-
   -- ASKED of a row, and of rows, that are written at x
   pub record Inline (r x : ℕ) : Type 0 where
     pub tree : Tree
     pub kept : Kept tree
-    pub here : At r tree
+    pub here : At table text r tree
     pub room : x + length (inline tree) < ceiling
 
   pub record Inlines (from stop x : ℕ) : Type 0 where
     pub trees : Forest
     pub kept : Kepts trees
-    pub here : Along from stop trees
+    pub here : Along table text from stop trees
     pub room : x + length (inlines trees) < ceiling
-
-  -- what the words of a row say
-  module _ {r : ℕ} {t : Tree} (h : At r t) where
-    pub word-in : (i : ℕ) → i ≤ 8 → width * r + i < length table
-    word-in i l = omega (arith, h .fits, size-some t)
-
-    pub kind-word : {n : ℕ} → n ≡ getD table (width * r + 0) 0 → n ≡ kindOf t
-    kind-word e = e ∙ (ap (λ i. getD table i 0) (let z : width * r + 0 ≡ width * r = omega arith in z) ∙ kind-at table text t (h .rows))
-
-    pub next-word : {n : ℕ} → n ≡ getD table (width * r + 6) 0 → n ≡ r + size t
-    next-word e = e ∙ next-at table text t (h .rows)
-
-  -- A CONTAINER: its children's rows
-  pub node-along : {r k a e c : ℕ} {ts : Forest} → At r (node k a e c ts) → Along (r + 1) (getD table (width * r + 6) 0) ts
-  unfolding size
-  node-along {r} {k} {a} {e} {c} {ts} h =
-      let n = next-at table text (node k a e c ts) (h .rows) in
-      record { parent = r; start = h .start; rows = node-forest table text (h .rows); ends = omega arith; fits = omega (arith, h .fits) }
 
   record Opened (r : ℕ) (t : Tree) (a b : ℕ) : Type 0 where
     trees : Forest
     kept : Kepts trees
-    here : Along (r + 1) (getD table (width * r + 6) 0) trees
+    here : Along table text (r + 1) (getD table (width * r + 6) 0) trees
     is : inline t ≡ a ∷ inlines trees ++ b ∷ []
 
-  open-array : {r : ℕ} {t : Tree} → Kept t → kindOf t ≡ 8 → At r t → Opened r t 91 93
+  open-array : {r : ℕ} {t : Tree} → Kept t → kindOf t ≡ 8 → At table text r t → Opened r t 91 93
   unfolding inline
   open-array (kept-key x) e h = absurd (omega arith)
   open-array (kept-value (shaped-leaf x)) e h = absurd (omega (arith, scalar-low x))
-  open-array (kept-value (shaped-array {ts = ts} x)) e h = record { trees = ts; kept = elements-kept x; here = node-along h; is = refl }
+  open-array (kept-value (shaped-array {ts = ts} x)) e h = record { trees = ts; kept = elements-kept x; here = node-along table text h; is = refl }
   open-array (kept-value (shaped-object x)) e h = absurd (omega arith)
 
-  open-object : {r : ℕ} {t : Tree} → Kept t → kindOf t ≡ 9 → At r t → Opened r t 123 125
+  open-object : {r : ℕ} {t : Tree} → Kept t → kindOf t ≡ 9 → At table text r t → Opened r t 123 125
   unfolding inline
   open-object (kept-key x) e h = absurd (omega arith)
   open-object (kept-value (shaped-leaf x)) e h = absurd (omega (arith, scalar-low x))
   open-object (kept-value (shaped-array x)) e h = absurd (omega arith)
-  open-object (kept-value (shaped-object {ts = ts} x)) e h = record { trees = ts; kept = pairs-kept x; here = node-along h; is = refl }
+  open-object (kept-value (shaped-object {ts = ts} x)) e h = record { trees = ts; kept = pairs-kept x; here = node-along table text h; is = refl }
 
   -- what is between the brackets is asked for, and what is written is the container
   module _ {r x a b stop : ℕ} (h : Inline r x) (o : Opened r (h .tree) a b) (e : stop ≡ getD table (width * r + 6) 0) {y : ℕ} {p q : List ℕ} (f : Puts (a ∷ []) x y p q) where
@@ -180,7 +122,7 @@ module _ (table text : List ℕ) where
         record {
           trees = o .trees;
           kept = o .kept;
-          here = subst (λ i. Along (r + 1) i (o .trees)) (sym e) (o .here);
+          here = subst (λ i. Along table text (r + 1) i (o .trees)) (sym e) (o .here);
           room = omega (arith, h .room, ap length (o .is), length-append (inlines (o .trees)) (b ∷ []), f .ends);
         }
 
@@ -200,7 +142,7 @@ module _ (table text : List ℕ) where
     string : kindOf t ≡ 6 → Scripted (slice from to text)
     key : kindOf t ≡ 10 → Scripted (slice from to text)
 
-  text-part : {r k a e : ℕ} {s : Decoded} → (k ≡ 6 → Scripted (s .bytes)) → (k ≡ 10 → Scripted (s .bytes)) → leb k TRUE ≡ false → At r (leaf k a e s)
+  text-part : {r k a e : ℕ} {s : Decoded} → (k ≡ 6 → Scripted (s .bytes)) → (k ≡ 10 → Scripted (s .bytes)) → leb k TRUE ≡ false → At table text r (leaf k a e s)
       → Texted r (leaf k a e s) (getD table (width * r + 3) 0) (getD table (width * r + 4) 0)
   unfolding inline
   text-part {r} {k} {a} {e} {s} f g l h =
@@ -216,7 +158,7 @@ module _ (table text : List ℕ) where
         key = λ z. subst Scripted (sym u) (g z);
       }
 
-  text-word : {r k a e : ℕ} {s : Decoded} → s .bytes ≡ [] → k ≤ 3 → At r (leaf k a e s)
+  text-word : {r k a e : ℕ} {s : Decoded} → s .bytes ≡ [] → k ≤ 3 → At table text r (leaf k a e s)
       → Texted r (leaf k a e s) (getD table (width * r + 3) 0) (getD table (width * r + 4) 0)
   unfolding inline
   text-word {r} {k} {a} {e} {s} z l h =
@@ -231,7 +173,7 @@ module _ (table text : List ℕ) where
         key = λ n. absurd (omega arith);
       }
 
-  texted : {r : ℕ} {t : Tree} → Kept t → (kindOf t ≡ 8 → ⊥) → (kindOf t ≡ 9 → ⊥) → At r t → Texted r t (getD table (width * r + 3) 0) (getD table (width * r + 4) 0)
+  texted : {r : ℕ} {t : Tree} → Kept t → (kindOf t ≡ 8 → ⊥) → (kindOf t ≡ 9 → ⊥) → At table text r t → Texted r t (getD table (width * r + 3) 0) (getD table (width * r + 4) 0)
   texted (kept-key x) m n h = text-part (λ _. x) (λ _. x) refl h
   texted {r} (kept-value (shaped-leaf {kind = kind} {a = a} {e = e} {s = s} x)) m n h = by (decLe kind 3)
     where
@@ -243,7 +185,7 @@ module _ (table text : List ℕ) where
 
   module _ {r x kind : ℕ} (h : Inline r x) (e : kind ≡ getD table (width * r + 0) 0) (m : kind ≡ 8 → ⊥) (n : kind ≡ 9 → ⊥) where
     k : kind ≡ kindOf (h .tree)
-    k = kind-word (h .here) e
+    k = kind-word table text (h .here) e
 
     leaf-texted : Texted r (h .tree) (getD table (width * r + 3) 0) (getD table (width * r + 4) 0)
     leaf-texted = texted (h .kept) (λ z. m (k ∙ z)) (λ z. n (k ∙ z)) (h .here)
@@ -279,10 +221,10 @@ module _ (table text : List ℕ) where
 
   module _ {r x kind stop : ℕ} (h : Inline r x) (e : kind ≡ getD table (width * r + 0) 0) (f : stop ≡ getD table (width * r + 6) 0) where
     array : kind ≡ 8 → Opened r (h .tree) 91 93
-    array z = open-array (h .kept) (sym (kind-word (h .here) e) ∙ z) (h .here)
+    array z = open-array (h .kept) (sym (kind-word table text (h .here) e) ∙ z) (h .here)
 
     object : kind ≡ 9 → Opened r (h .tree) 123 125
-    object z = open-object (h .kept) (sym (kind-word (h .here) e) ∙ z) (h .here)
+    object z = open-object (h .kept) (sym (kind-word table text (h .here) e) ∙ z) (h .here)
 
     module _ {y : ℕ} {p q : List ℕ} where
       pub array-inner : kind ≡ 8 → Puts (91 ∷ []) x y p q → Inlines (r + 1) stop y

@@ -1,4 +1,4 @@
--- Laws of the C interface: its promises from those of `read`, of the questions, of comparing, of `sound` and of `write`. Assumes nothing.
+-- Laws of the C interface: its promises from those of `read`, of the questions, of comparing, of `sound`, of `write`, of `decide` and of `overlay`. Assumes nothing.
 use mathlib.Core.Path.{_≡_, refl, sym, ap, subst, _∙_}
 use mathlib.Core.List.{List}
 use mathlib.Core.Bool.{Bool, true, false, _&&_}
@@ -26,6 +26,8 @@ use Rattle.language.specs.declared.Wrote.{Wrote}
 use Rattle.language.specs.declared.Wrote.the-variants.{Done, BadRow as BadTable, TooLong, TooShort}
 use Rattle.upgrade.specs.declared.Decision.{Decision}
 use Rattle.upgrade.specs.Decides.{Decides}
+use Rattle.overlay.specs.declared.Gave.{Gave}
+use Rattle.overlay.specs.Overlaid.{Overlaid, gaveNumber, gaveFirst, gaveSecond}
 use Rattle.language.specs.Written.{Sounded, Written, wroteNumber, wroteCount}
 use Rattle.exports.specs.Exports.{FoundAt, ComparedTo, TextAt}
 
@@ -144,3 +146,10 @@ module _ (sheet : List ℕ) (rows : ℕ) (text installed : List ℕ) (rows′ : 
   pub decides-as : Decides sheet rows text installed rows′ text′ (Rattle.upgrade.specs.Decides.number a) (Rattle.upgrade.specs.Decides.value a) → (n d : ℕ)
       → n ≡ Rattle.upgrade.specs.Decides.number a → d ≡ Rattle.upgrade.specs.Decides.value a → Decides sheet rows text installed rows′ text′ n d
   decides-as x n d e f = rw (e, f) x
+
+-- ---- `yay_overlay`
+
+module _ (lower : List ℕ) (m : ℕ) (lowerText upper : List ℕ) (n : ℕ) (upperText table text table′ text′ : List ℕ) (a : Gave) where
+  pub overlays-as : Overlaid lower m lowerText upper n upperText table text (gaveNumber a) (gaveFirst a) (gaveSecond a) table′ text′ → (c v s : ℕ) → c ≡ gaveNumber a → v ≡ gaveFirst a → s ≡ gaveSecond a
+      → Overlaid lower m lowerText upper n upperText table text c v s table′ text′
+  overlays-as x c v s e f g = rw (e, f, g) x

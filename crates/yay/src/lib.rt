@@ -3,6 +3,7 @@ ghost use Rattle.exports.specs.Exports.{FoundAt, ComparedTo, TextAt};
 ghost use Rattle.language.specs.Answered.{Answered, Totals};
 ghost use Rattle.language.specs.Written.{Sounded, Written};
 ghost use Rattle.upgrade.specs.Decides.{Decides};
+ghost use Rattle.overlay.specs.Overlaid.{Overlaid};
 ghost use mathlib.Core.Path.{_≡_};
 ghost use Prim.Native.Nat.{_+_, _*_, _<_};
 ghost use lib.ListN.{length, getD};
@@ -180,5 +181,36 @@ pub extern "C" fn yay_decide(
         &*installed_text,
     );
     *decision = answer.value();
+    answer.number()
+}
+
+// 0 with the rows and the text bytes of the result; 7 and 8 with what is needed and 0; or 9 or 16 with 0 and 0.
+#[no_mangle]
+pub extern "C" fn yay_overlay(
+    lower: &[u32],
+    lower_rows: usize,
+    lower_text: &[u8],
+    upper: &[u32],
+    upper_rows: usize,
+    upper_text: &[u8],
+    table: &mut [u32],
+    text: &mut [u8],
+    first: &mut usize,
+    second: &mut usize,
+) -> u32
+    ensures { λ r. ⌜ Overlaid (now (lower .entry)) «lower_rows» (now («lower_text» .entry)) (now (upper .entry)) «upper_rows» (now («upper_text» .entry)) (now (table .entry)) (now (text .entry)) r (now (first .exit)) (now (second .exit)) (now (table .exit)) (now (text .exit)) ⌝ }
+{
+    let answer = lay::overlay(
+        &*lower,
+        lower_rows,
+        &*lower_text,
+        &*upper,
+        upper_rows,
+        &*upper_text,
+        table,
+        text,
+    );
+    *first = answer.first();
+    *second = answer.second();
     answer.number()
 }

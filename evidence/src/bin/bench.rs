@@ -20,6 +20,10 @@ const TIMES: usize = 3;
 /// How much more keys may cost than as many bytes of strings: short ones, and those chosen to cost the most.
 const KEYS: f64 = 1.5;
 const CHOSEN: f64 = 8.0;
+/// A key of a larger object may cost so many times as much in an overlay: one of 8,000 keys stands in three windows, each of
+/// which is passed by all keys of the other; the product of the counts would be four times.
+#[cfg(feature = "overlaid")]
+const WINDOWS: f64 = 2.0;
 
 fn megabytes(bytes: usize, seconds: f64) -> f64 {
     bytes as f64 / seconds / 1e6
@@ -215,6 +219,47 @@ fn decided(_: &mut Bench) -> usize {
     0
 }
 
+/// What laying one table over another costs beside reading both documents, or beside a key of a smaller case; how many
+/// cases cost more than they may, or are laid otherwise by the second overlay.
+#[cfg(feature = "overlaid")]
+fn overlaid(bench: &mut Bench) -> usize {
+    println!("| Laid over | Keys of both | µs | ns a key | Reading both, µs | Times | Second, µs |");
+    println!("|---|---:|---:|---:|---:|---:|---:|");
+    let mut bad = 0;
+    let mut costs = Vec::new();
+    for case in evidence::figures::overlaying::cases() {
+        let most = case.smaller.map_or(f64::MAX, |smaller: usize| WINDOWS * costs[smaller]);
+        let mut best = None;
+        for _ in 0..TIMES {
+            let Some(tried) = bench.overlaid(&case) else {
+                println!("| {} | THE OVERLAYS DIFFER |", case.name);
+                return bad + 1;
+            };
+            best = Some(tried);
+            if tried.times() <= case.most && tried.a_key() <= most {
+                break;
+            }
+        }
+        let best = best.expect("a try");
+        let (many, long) = (best.times() <= case.most, best.a_key() <= most);
+        bad += usize::from(!many || !long);
+        costs.push(best.a_key());
+        print!("| {} | {} | {:.0} | {:.0}{} ", case.name, best.keys, best.laying * 1e6, best.a_key(), mark(long));
+        match best.reading {
+            Some(reading) => print!("| {:.0} | {:.2}{} ", reading * 1e6, best.times(), mark(many)),
+            None => print!("| | "),
+        }
+        println!("| {:.0} |", best.second * 1e6);
+    }
+    println!();
+    bad
+}
+
+#[cfg(not(feature = "overlaid"))]
+fn overlaid(_: &mut Bench) -> usize {
+    0
+}
+
 /// The document of a shape by its name.
 fn named(name: &str) -> Option<Vec<u8>> {
     let shape =
@@ -248,6 +293,7 @@ fn main() -> ExitCode {
     println!();
     bad += written(&mut bench);
     bad += decided(&mut bench);
+    bad += overlaid(&mut bench);
     bad += hostile(&mut bench);
     println!();
     bad += repeats(&mut bench);

@@ -1,8 +1,9 @@
 //! Compares the proved reader with the second reader, and shows that deliberate faults are found:
-//! `compare [--seed N] [--documents N] [--tables N] [--pairs N] [--vectors FILE]`. As long as one likes, with a count
-//! every ten seconds, and without the faults: `compare --soak [--seconds N] [--seed N] [--tables N] [--pairs N]
-//! [--vectors FILE]`. With the feature `written`, the writer and the test of soundness too, on tables; with `decided`,
-//! the upgrade decision, on pairs of a sheet and an installed version.
+//! `compare [--seed N] [--documents N] [--tables N] [--pairs N] [--overlays N] [--vectors FILE]`. As long as one likes,
+//! with a count every ten seconds, and without the faults: `compare --soak [--seconds N] [--seed N] [--tables N]
+//! [--pairs N] [--overlays N] [--vectors FILE]`. With the feature `written`, the writer and the test of soundness too, on
+//! tables; with `decided`, the upgrade decision, on pairs of a sheet and an installed version; with `overlaid`, the
+//! overlay, on pairs of tables.
 
 use evidence::compare::run::{run, Difference, Limits};
 use evidence::compare::{faults, forms, places, Comparer, Tally};
@@ -21,6 +22,8 @@ const DOCUMENTS: usize = 1_100_000;
 const TABLES: usize = 600_000;
 /// And how many pairs of a sheet and an installed version.
 const PAIRS: usize = 2_200_000;
+/// And how many pairs of tables, one laid over the other.
+const OVERLAYS: usize = 400_000;
 /// From so many documents on, it must have met every number, kind and place of rows and form of backslash thousands of times.
 const ENOUGH: usize = 1_000_000;
 const THOUSANDS: usize = 2_000;
@@ -29,12 +32,13 @@ struct Options {
     limits: Limits,
     tables: usize,
     pairs: usize,
+    overlays: usize,
     soak: bool,
 }
 
 fn options() -> Result<Options, String> {
     let limits = Limits { seed: 1, vectors: Vec::new(), documents: DOCUMENTS, seconds: None };
-    let mut options = Options { limits, tables: TABLES, pairs: PAIRS, soak: false };
+    let mut options = Options { limits, tables: TABLES, pairs: PAIRS, overlays: OVERLAYS, soak: false };
     let mut words = std::env::args().skip(1);
     while let Some(word) = words.next() {
         if word == "--soak" {
@@ -49,6 +53,7 @@ fn options() -> Result<Options, String> {
             "--documents" => options.limits.documents = number? as usize,
             "--tables" => options.tables = number? as usize,
             "--pairs" => options.pairs = number? as usize,
+            "--overlays" => options.overlays = number? as usize,
             "--seconds" => options.limits.seconds = Some(number?),
             "--vectors" => options.limits.vectors = vectors::load(&value)?,
             _ => return Err(format!("{word} is no option")),
@@ -145,8 +150,22 @@ fn decided(_: u64, pairs: usize, _: bool) -> bool {
     true
 }
 
+/// Whether the overlay differs nowhere on so many pairs, and every fault in it is found.
+#[cfg(feature = "overlaid")]
+fn overlaid(seed: u64, pairs: usize, soak: bool) -> bool {
+    use evidence::compare::overlaying::told;
+    let found = soak || told::finds_faults(seed, pairs);
+    told::differs_nowhere(|| Proved, seed, pairs) && found
+}
+
+#[cfg(not(feature = "overlaid"))]
+fn overlaid(_: u64, pairs: usize, _: bool) -> bool {
+    println!("no overlay yet: {pairs} pairs are not tried");
+    true
+}
+
 fn main() -> ExitCode {
-    let Options { limits, tables, pairs, soak } = match options() {
+    let Options { limits, tables, pairs, overlays, soak } = match options() {
         Ok(options) => options,
         Err(error) => {
             eprintln!("compare: {error}");
@@ -156,6 +175,7 @@ fn main() -> ExitCode {
     println!("seed {}", limits.seed);
     let wrote = written(limits.seed, tables, soak);
     let decided = decided(limits.seed, pairs, soak);
+    let overlaid = overlaid(limits.seed, overlays, soak);
     let found = soak || finds_faults(&limits);
     let watch = |count| {
         if soak {
@@ -169,5 +189,5 @@ fn main() -> ExitCode {
             false
         }
     };
-    ExitCode::from(u8::from(!wrote || !decided || !found || !same))
+    ExitCode::from(u8::from(!wrote || !decided || !overlaid || !found || !same))
 }

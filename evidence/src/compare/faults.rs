@@ -2,6 +2,7 @@
 
 pub mod deciding;
 mod escapes;
+pub mod overlaying;
 mod places;
 mod soundness;
 pub mod writing;

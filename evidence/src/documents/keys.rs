@@ -34,7 +34,7 @@ pub fn of_one_chain() -> String {
 }
 
 /// The i-th key of so many pairs of letters, all of one mark: twice the first and the second are the same for each pair.
-fn marked(i: usize, pairs: u32) -> String {
+pub(crate) fn marked(i: usize, pairs: u32) -> String {
     let pair = |place| ["ao", "bm", "ck", "di", "eg", "fe", "gc", "ha"][i >> (3 * place) & 7];
     (0..pairs).map(pair).collect()
 }
@@ -52,6 +52,16 @@ pub fn of_one_mark_and_chain() -> String {
 /// Keys of 200 bytes that share their last 32, on which alone a mark depends.
 pub fn of_one_end() -> String {
     object((0..200).map(|i| format!("{i:0168}{:-<32}", "")))
+}
+
+/// The same lines, the last first.
+pub fn reversed(object: &str) -> String {
+    object.lines().rev().map(|line| format!("{line}\n")).collect()
+}
+
+/// As many keys of the same length, none of them among the short ones.
+pub fn others(object: &str) -> String {
+    object.replace("key", "kez")
 }
 
 /// The same lines as strings of an array: as many bytes to judge, and no keys.

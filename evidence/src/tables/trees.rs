@@ -6,6 +6,7 @@ use crate::documents::Rng;
 use crate::second::{NESTING, WORDS};
 
 /// A tree that is to be turned into rows, sound or not.
+#[derive(Clone, Debug)]
 pub enum Node {
     /// A kind below 8 and its text.
     Leaf(u32, Vec<u8>),
@@ -13,19 +14,25 @@ pub enum Node {
     Object(Vec<(Vec<u8>, Node)>),
 }
 
-/// Rows that say of themselves what `node` is, spans, lines and columns of any numbers.
-pub fn table(rng: &mut Rng, node: &Node, sound: bool) -> Table {
+/// Rows that say of themselves what `node` is, spans, lines and columns zero.
+pub fn plain(node: &Node, sound: bool) -> Table {
     let mut rows = Rows { rows: Vec::new(), text: Vec::new() };
     rows.value(node, 0);
-    let Rows { mut rows, text } = rows;
+    let Rows { rows, text } = rows;
+    Table { rows: rows.len(), words: rows.concat(), text, sound: Some(sound) }
+}
+
+/// The same, spans, lines and columns of any numbers.
+pub fn table(rng: &mut Rng, node: &Node, sound: bool) -> Table {
+    let mut table = plain(node, sound);
     if rng.once_in(2) {
-        for row in &mut rows {
+        for row in table.words.chunks_mut(WORDS) {
             for word in [1, 2, 7, 8] {
                 row[word] = rng.word() as u32 >> rng.below(32);
             }
         }
     }
-    Table { rows: rows.len(), words: rows.concat(), text, sound: Some(sound) }
+    table
 }
 
 struct Rows {

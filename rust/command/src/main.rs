@@ -1,4 +1,4 @@
-//! `yay`: reads and writes YAY documents for people and scripts, and decides on upgrades.
+//! `yay`: reads and writes YAY documents for people and scripts, decides on upgrades, and lays profiles over each other.
 
 mod accepted;
 mod batch;
@@ -11,6 +11,7 @@ mod json;
 mod numbers;
 mod outline;
 mod output;
+mod overlay;
 mod pages;
 mod quote;
 mod refused;
@@ -58,6 +59,7 @@ fn run_command(words: &Words, out: &mut dyn Write) -> Done {
         "write" => write::run(words, out),
         "fmt" => write::format(words, out),
         "decide" => decide::run(words, out),
+        "overlay" => overlay::run(words, out),
         "compare" => integers::run(words, out),
         "batch" if words.plain.is_empty() => batch::run(&mut io::stdin().lock(), out),
         "batch" => Err(words.wrong("takes its documents from standard input alone")),

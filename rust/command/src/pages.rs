@@ -35,7 +35,7 @@ has no number, are strings. With --numbers=text every number is a string of its 
 Bytes are an object of one pair, {\"$bytes\": \"00ff\"}.
 ";
 
-pub const PAGES: [Page; 10] = [
+pub const PAGES: [Page; 11] = [
     Page {
         name: "check",
         words: "FILE..",
@@ -141,6 +141,20 @@ version is not above it; else blocked (5). What is no sheet or no installed vers
         integers: false,
     },
     Page {
+        name: "overlay",
+        words: "FLEET SITE..",
+        short: "profiles laid over each other, in the house style",
+        text: "
+Lays each profile over what those before it gave, and writes the result in the house style. A key that
+one of two has is kept; of one that both have, objects are laid over each other in the same way, and of
+two other values, arrays among them, the upper's stands. Keys keep the lower's order, then come new ones.
+An object and another value of one key clash: both are shown, and the exit status is 1. COMMENTS ARE
+NOT KEPT. OUT may be one of the files: it is written beside and renamed, so that it is never half written.
+",
+        options: &[OUTPUT],
+        integers: false,
+    },
+    Page {
         name: "compare",
         words: "A B",
         short: "-1, 0 or 1: how the integer A stands to B, of any length",
@@ -167,7 +181,7 @@ const STATUS: &str =
 /// What `yay --help` prints.
 pub fn all() -> String {
     let mut text =
-        String::from("yay: reads and writes YAY documents, and decides on upgrades, by proved functions\n\n");
+        String::from("yay: reads, writes and overlays YAY documents, and decides on upgrades, by proved functions\n\n");
     for page in &PAGES {
         text += &format!("  yay {:<24} {}\n", format!("{} {}", page.name, page.words), page.short);
     }

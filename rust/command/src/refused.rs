@@ -29,6 +29,23 @@ pub fn say_wrong(input: &Input, number: Number, place: Place, sentence: &str) {
     print(&report);
 }
 
+/// A place of an input, and what is said behind its caret.
+pub struct Shown<'a> {
+    pub input: &'a Input,
+    pub place: Place,
+    pub label: &'a str,
+}
+
+/// Says on standard error what is wrong with the last of two places, and shows both.
+pub fn say_both(number: Number, sentence: &str, first: Shown, last: Shown) {
+    let ink = ink();
+    let mut report = headline(last.input, number, last.place, sentence, &ink);
+    for shown in [first, last] {
+        show(&mut report, &shown.input.bytes, shown.place, shown.label, &ink);
+    }
+    print(&report);
+}
+
 fn ink() -> Ink {
     let wanted = std::env::var_os("NO_COLOR").is_none_or(|value| value.is_empty());
     if io::stderr().is_terminal() && wanted {

@@ -90,7 +90,7 @@ impl Error for Undecided {}
 /// # Ok::<(), Box<dyn std::error::Error>>(())
 /// ```
 pub fn decide(sheet: &Tree, installed: &Tree) -> Result<Decision, Undecided> {
-    match sys::decide(lent(sheet), lent(installed)) {
+    match sys::decide(sheet.lent(), installed.lent()) {
         // Another decision would be a broken library, as another number would.
         (0, code) => Ok(Decision::from_code(code).expect("libyay gives the decisions of yay.h alone")),
         (code, _) => match Number::given(code) {
@@ -98,8 +98,4 @@ pub fn decide(sheet: &Tree, installed: &Tree) -> Result<Decision, Undecided> {
             _ => Err(Undecided::Sheet),
         },
     }
-}
-
-fn lent<'a>(tree: &Tree<'a>) -> sys::Lent<'a> {
-    (tree.table(), tree.rows(), tree.text_room())
 }

@@ -1,12 +1,14 @@
 //! The owned form: a document with rooms of its own.
 
 use crate::limits::{LONGEST, WORDS};
+use crate::overlaying::{overlay, Unlaid};
 use crate::reading::{read, Accepted};
 use crate::refusal::Refusal;
 use crate::tree::Tree;
 use crate::writing::{written, Unwritten};
 
-/// An accepted document's rows and text, in memory of its own, and how many escapes it has.
+/// An accepted document's rows and text, or those of one laid over another, in memory of its own, and how many escapes it
+/// has.
 ///
 /// ```
 /// let document = yay::Document::read(b"low-at: 0.15\nnames: [\"A\", \"B\"]\n")?;
@@ -43,6 +45,26 @@ impl Document {
     /// bytes.
     pub fn written(&self) -> Result<Vec<u8>, Unwritten> {
         written(&self.tree())
+    }
+
+    /// Another tree laid over this document's; see [`overlay`](crate::overlay). The rooms are always large enough, unless
+    /// the result has more rows or text than any room counts for. What it gives has no spans, lines, columns and escapes.
+    ///
+    /// ```
+    /// use yay::Document;
+    /// let fleet = Document::read(b"channel: 'stable'\ndoors: [1, 2]\n")?;
+    /// let site = Document::read(b"doors: [3]\nname: 'A'\n")?;
+    /// assert_eq!(fleet.overlaid(&site.tree())?.written()?, b"channel: \"stable\"\ndoors:\n  - 3\nname: \"A\"\n");
+    /// # Ok::<(), Box<dyn std::error::Error>>(())
+    /// ```
+    pub fn overlaid(&self, upper: &Tree) -> Result<Document, Unlaid> {
+        let mut table = vec![0; self.table.len() + upper.table().len()];
+        let mut text = vec![0; self.text.len() + upper.text_room().len()];
+        let laid = overlay(&self.tree(), upper, &mut table, &mut text)?;
+        let (rows, bytes) = (laid.rows(), laid.text_room().len());
+        table.truncate(rows * WORDS);
+        text.truncate(bytes);
+        Ok(Document { table, text, escapes: 0 })
     }
 
     /// How many escapes the document's quoted keys and strings have; [`Accepted::escapes`] says what counts.

@@ -88,7 +88,7 @@ fn of_kind(tree: &Tree, row: Row, wanted: Kind, what: &str) -> Tested {
     if kind == wanted {
         return Ok(());
     }
-    Err(fault(row, format!("{what} is {}, and this is {}", named(wanted), named(kind))))
+    Err(fault(row, format!("{what} is {}, and this is {}", wanted.with_article(), kind.with_article())))
 }
 
 fn version(tree: &Tree, row: Row, what: &str) -> Tested {
@@ -114,14 +114,5 @@ fn image(tree: &Tree, row: Row) -> Tested {
     match tree.text(row).map_err(broken(row))?.len() {
         IMAGE => Ok(()),
         count => Err(fault(row, format!("image has {IMAGE} bytes, and this has {count}"))),
-    }
-}
-
-/// A kind with its article.
-fn named(kind: Kind) -> String {
-    match kind {
-        Kind::Null | Kind::False | Kind::True | Kind::Bytes => kind.name().into(),
-        Kind::Integer | Kind::Array | Kind::Object => format!("an {}", kind.name()),
-        _ => format!("a {}", kind.name()),
     }
 }

@@ -1,4 +1,5 @@
-//! Reads and writes YAY documents, and decides on upgrades, by functions proved in Rattle (`libyay.a`, include/yay.h).
+//! Reads and writes YAY documents, decides on upgrades, and lays one profile over another, by functions proved in Rattle
+//! (`libyay.a`, include/yay.h).
 //!
 //! [`read`] fills rooms that the caller lends and allocates nothing; [`Document`] is the same with rooms of its
 //! own. A [`Tree`] answers questions, and knows each row's line and column; both tell how many escapes a document
@@ -44,6 +45,15 @@
 //! # Ok::<(), Box<dyn std::error::Error>>(())
 //! ```
 //!
+//! [`overlay`] and [`Document::overlaid`] lay one tree over another; [`clash`] names the key on which that fails:
+//!
+//! ```
+//! let fleet = yay::Document::read(b"battery: {low-at: 0.15}\n")?;
+//! let site = yay::Document::read(b"battery: {spare: true}\nname: \"A\"\n")?;
+//! assert_eq!(fleet.overlaid(&site.tree())?.written()?, b"battery:\n  low-at: 0.15\n  spare: true\nname: \"A\"\n");
+//! # Ok::<(), Box<dyn std::error::Error>>(())
+//! ```
+//!
 //! A refusal says why and where, and with the document at hand in a sentence that helps:
 //!
 //! ```
@@ -58,6 +68,7 @@ mod deciding;
 mod document;
 mod fault;
 mod limits;
+mod overlaying;
 mod path;
 mod place;
 mod reading;
@@ -74,6 +85,7 @@ pub use deciding::{decide, Decision, Undecided};
 pub use document::Document;
 pub use fault::{installed_fault, sheet_fault, Fault};
 pub use limits::{IMAGE, LONGEST, MOST, NAMES, NESTING, PLACES, WORDS};
+pub use overlaying::{clash, overlay, Clash, Unlaid};
 pub use path::Missing;
 pub use place::{line_around, position, Place, Position};
 pub use reading::{compare, read, Accepted};

@@ -35,9 +35,11 @@ pub enum Number {
     BadSheet = 14,
     /// The table isn't a sound one of an installed version.
     BadInst,
+    /// A key has an object in one of two tables and another value in the other.
+    Clash,
 }
 
-const NUMBERS: [(Number, &str, &str); 13] = [
+const NUMBERS: [(Number, &str, &str); 14] = [
     (Number::Long, "LONG", concat!("the document has more than ", longest!(), " bytes")),
     (Number::Char, "CHAR", "this byte belongs to no allowed character"),
     (Number::Syntax, "SYNTAX", "no document goes on like this"),
@@ -51,10 +53,11 @@ const NUMBERS: [(Number, &str, &str); 13] = [
     (Number::NotInt, "NOTINT", "a text compared isn't an integer's text"),
     (Number::BadSheet, "BADSHEET", "this is no release sheet"),
     (Number::BadInst, "BADINST", "this is no installed version"),
+    (Number::Clash, "CLASH", "an object is laid over another value, or another value over an object"),
 ];
 
 impl Number {
-    /// The number as given by the C interface: 1 to 11, 14 or 15.
+    /// The number as given by the C interface: 1 to 11, or 14 to 16.
     pub fn from_code(code: u32) -> Option<Number> {
         NUMBERS.iter().map(|(number, _, _)| *number).find(|number| number.code() == code)
     }

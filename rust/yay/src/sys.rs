@@ -65,6 +65,24 @@ mod linked {
             installed_text_len: usize,
             decision: *mut u32,
         ) -> u32;
+        pub fn yay_overlay(
+            lower: *const u32,
+            lower_words: usize,
+            lower_rows: usize,
+            lower_text: *const u8,
+            lower_text_len: usize,
+            upper: *const u32,
+            upper_words: usize,
+            upper_rows: usize,
+            upper_text: *const u8,
+            upper_text_len: usize,
+            table: *mut u32,
+            table_words: usize,
+            text: *mut u8,
+            text_len: usize,
+            first: *mut usize,
+            second: *mut usize,
+        ) -> u32;
     }
 }
 
@@ -178,4 +196,33 @@ pub fn decide(sheet: Lent, installed: Lent) -> (u32, u32) {
         )
     };
     (number, decision)
+}
+
+/// 0, rows and text bytes; or the number, the rows or bytes needed or 0, and 0.
+pub fn overlay(lower: Lent, upper: Lent, table: &mut [u32], text: &mut [u8]) -> (u32, usize, usize) {
+    let (mut first, mut second) = (0, 0);
+    let (words, bytes) = (table.len(), text.len());
+    // SAFETY: each pointer and length is that of a live slice, the two lent for writing are borrowed by this call alone,
+    // and the two answers are apart from each other and from all of them.
+    let number = unsafe {
+        linked::yay_overlay(
+            lower.0.as_ptr(),
+            lower.0.len(),
+            lower.1,
+            lower.2.as_ptr(),
+            lower.2.len(),
+            upper.0.as_ptr(),
+            upper.0.len(),
+            upper.1,
+            upper.2.as_ptr(),
+            upper.2.len(),
+            table.as_mut_ptr(),
+            words,
+            text.as_mut_ptr(),
+            bytes,
+            &mut first,
+            &mut second,
+        )
+    };
+    (number, first, second)
 }

@@ -52,6 +52,15 @@ impl Kind {
     pub fn name(self) -> &'static str {
         Kind::ALL[self as usize - 1].1
     }
+
+    /// Its name in a sentence, as `an object`.
+    pub fn with_article(self) -> String {
+        match self {
+            Kind::Null | Kind::False | Kind::True | Kind::Bytes => self.name().into(),
+            Kind::Integer | Kind::Array | Kind::Object => format!("an {}", self.name()),
+            _ => format!("a {}", self.name()),
+        }
+    }
 }
 
 /// A lent table, its row count and its text room. Any words and bytes may be lent: a row that isn't there, or is
@@ -81,6 +90,11 @@ impl<'a> Tree<'a> {
     /// The whole table as lent.
     pub fn table(&self) -> &'a [u32] {
         self.table
+    }
+
+    /// All three as the library takes them.
+    pub(crate) fn lent(&self) -> sys::Lent<'a> {
+        (self.table, self.rows, self.text)
     }
 
     /// The words of a row.

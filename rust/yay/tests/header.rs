@@ -50,8 +50,8 @@ fn numbers() {
     let (proved, help) = (header("yay.h"), header("yay_help.h"));
     let (names, sentences) = (strings(&help, "yay_number_name"), strings(&help, "yay_number_sentence"));
     let numbers: Vec<_> = (0..100).filter_map(Number::from_code).collect();
-    let last = Number::BadInst.code() as usize;
-    assert_eq!((numbers.len(), names.len(), sentences.len()), (13, last + 1, last + 1));
+    let last = Number::Clash.code() as usize;
+    assert_eq!((numbers.len(), names.len(), sentences.len()), (14, last + 1, last + 1));
     for none in [12, 13] {
         assert_eq!((names[none].as_str(), sentences[none].as_str()), ("", ""));
     }
@@ -101,6 +101,7 @@ fn parameters_of_the_functions() {
         ("yay_sound", 5),
         ("yay_write", 8),
         ("yay_decide", 11),
+        ("yay_overlay", 16),
     ];
     for (function, count) in functions {
         let in_c = parameters(&proved, function, |parameter| parameter.rsplit([' ', '*']).next());
