@@ -55,12 +55,14 @@ expect 'a sheet that is not there' 2 "$("$yay" decide build/none.yay examples/in
 expect 'a decision that nobody reads' 4 "$({ sleep 0.2; "$yay" decide "$sheet" --installed '[11]'; } | true; echo "${PIPESTATUS[0]}")"
 expect 'a decision in a stack of 128 KB' 0 "$(ulimit -s 128; "$yay" decide "$sheet" examples/installed.yay > /dev/null; echo $?)"
 
-# Profiles laid over each other are written whole or not at all.
+# Profiles laid over each other are written whole or not at all, in any grouping.
 overlay() { "$yay" overlay "$@" 2>&1; }
 layers=(examples/all-tablets.yay examples/north.yay examples/cold-store.yay)
 overlay "${layers[@]}" > build/laid.yay
 expect 'a site over its region over the fleet' beta "$("$yay" get build/laid.yay image-channel)"
 expect 'the result is in the house style' '' "$("$yay" fmt --check build/laid.yay)"
+expect 'the other grouping' '' "$(overlay "${layers[@]:1}" | overlay "${layers[0]}" - | diff build/laid.yay -)"
+expect 'an overlay over itself' '' "$(overlay build/laid.yay build/laid.yay | diff build/laid.yay -)"
 expect 'into one of its files' '0 beta' "$(cp "${layers[0]}" build/over.yay; overlay build/over.yay "${layers[2]}" -o build/over.yay; echo $? "$("$yay" get build/over.yay image-channel)")"
 expect 'a clash leaves the file' "1 $(cksum < build/over.yay)" \
     "$(printf 'lamp: 1\n' | overlay build/over.yay - -o build/over.yay > /dev/null; echo $? "$(cksum < build/over.yay)")"

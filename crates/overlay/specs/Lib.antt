@@ -1,5 +1,5 @@
--- LAYING ONE PROFILE OVER ANOTHER. What has to be believed: Overlay, Overlaid. The rest is proved of them; what the theorems speak of besides stands in Profiles, Clash, Keys, Finds
--- and FindsIn. Assumes nothing.
+-- LAYING ONE PROFILE OVER ANOTHER. What has to be believed: Overlay, Overlaid. The rest is proved of them; what the theorems speak of besides stands in Profiles, Clash, Keys, Finds,
+-- FindsIn and Grouping. Assumes nothing.
 pub mod Overlay
 pub mod Overlaid
 pub mod Vectors
@@ -18,3 +18,8 @@ pub mod Keys
 pub mod Finds
 pub mod FindsIn
 pub mod Bounds
+pub mod Clashing
+pub mod Grouped
+pub mod Grouping
+pub mod GroupVectors
+pub mod Unchanged

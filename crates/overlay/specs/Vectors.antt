@@ -12,28 +12,28 @@ unfolding overlay lay pairsOf same valueOf newOnes unspan textOf
 given lower upper = overlay lower upper
 
 -- the keys `a`, `b`, `c`; the integers of one digit; `null`
-abbrev key : ℕ → Tree
+abbrev pub key : ℕ → Tree
 key b = leaf KEY 0 0 (unescaped (b ∷ []))
 
-abbrev a : Tree → Field
+abbrev pub a : Tree → Field
 a v = field (key 97) v
 
-abbrev b : Tree → Field
+abbrev pub b : Tree → Field
 b v = field (key 98) v
 
-abbrev c : Tree → Field
+abbrev pub c : Tree → Field
 c v = field (key 99) v
 
-abbrev digit : ℕ → Tree
+abbrev pub digit : ℕ → Tree
 digit n = leaf INTEGER 0 0 (unescaped (n ∷ []))
 
-abbrev null : Tree
+abbrev pub null : Tree
 null = leaf NULL 0 0 (unescaped [])
 
-abbrev array : List Tree → Tree
+abbrev pub array : List Tree → Tree
 array ts = arrayTree 0 0 ts
 
-abbrev object : List Field → Tree
+abbrev pub object : List Field → Tree
 object fs = objectTree 0 0 fs
 
 -- "Keys keep the lower's order, then the upper's new ones": `{a: 1, b: 2}` and `{c: 3, b: 4}` give `{a: 1, b: 4, c: 3}`

@@ -4,3 +4,4 @@ pub mod WrongReaders
 pub mod Writing
 pub mod Upgrading
 pub mod Overlaying
+pub mod Grouping

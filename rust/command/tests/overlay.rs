@@ -42,6 +42,46 @@ fn the_examples() {
     assert_eq!(yay(&["overlay", "--", fleet, region, site], b"").out, all.out);
 }
 
+/// Three profiles in both groupings: the lower two first, and the upper two first.
+fn grouped(files: [&str; 3]) -> [Run; 2] {
+    let [fleet, region, site] = files;
+    let [lower, upper] = [[fleet, region], [region, site]].map(|[low, up]| yay(&["overlay", low, up], b""));
+    let first = |run: Run, rest: &dyn Fn(&str) -> Run| match run.status {
+        0 => rest(Temporary::new("overlay-grouped.yay", run.out.as_bytes()).name()),
+        _ => run,
+    };
+    [
+        first(lower, &|two| yay(&["overlay", two, site], b"")),
+        first(upper, &|two| yay(&["overlay", fleet, two], b"")),
+    ]
+}
+
+#[test]
+fn grouped_both_ways() {
+    let files = ["all-tablets.yay", "north.yay", "cold-store.yay"].map(example);
+    let files = files.each_ref().map(String::as_str);
+    let all = yay(&["overlay", files[0], files[1], files[2]], b"");
+    for run in grouped(files) {
+        assert_eq!((run.status, &run.out, run.err.as_str()), (0, &all.out, ""));
+    }
+    // Both groupings clash, the one at its first step and the other at its second.
+    let files = run(&["battery: {}\n", "battery: 1\n", "site: 7\n"]).1;
+    for run in grouped([0, 1, 2].map(|i| files[i].name())) {
+        assert_eq!((run.status, run.out.as_str()), (1, ""));
+        assert!(run.err.contains("CLASH (16)"), "{}", run.err);
+    }
+}
+
+#[test]
+fn what_changes_nothing() {
+    let fleet = example("all-tablets.yay");
+    let itself = yay(&["write", &fleet], b"").out;
+    for files in [[fleet.as_str(), "-"], ["-", fleet.as_str()]] {
+        assert_eq!(yay(&["overlay", files[0], files[1]], b"{}\n").out, itself);
+    }
+    assert_eq!(yay(&["overlay", &fleet, &fleet], b"").out, itself);
+}
+
 #[test]
 fn a_clash_is_shown_in_both_files() {
     let (run, files) = run(&["a: 1\nb:\n  c: {}\n", "# Site\nb: {a: 2, \"c\": [1]}\n"]);
