@@ -34,7 +34,7 @@ evidence:
 
 # The proved reader agrees with the second reader, on a million documents and more; the writer and the test of soundness
 # with the second ones, on hundreds of thousands of tables; the upgrade decision with the second one, on millions of pairs; the overlay
-# with the second one, on hundreds of thousands.
+# with the second one, on hundreds of thousands; storing and loading with the second ones, on a million tables and forms.
 compare: linked
 	$(BUILT)/compare --vectors $(VECTORS)
 
@@ -55,7 +55,7 @@ figures: linked
 
 # The programs of evidence/ that link the library.
 linked: $(LIBRARY)
-	cargo build $(EVIDENCE) --features overlaid --bin compare --bin bench
+	cargo build $(EVIDENCE) --features stored --bin compare --bin bench
 
 # The tree of an example profile, read by the proved reader.
 run: yay

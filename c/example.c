@@ -1,5 +1,5 @@
-/* Reads a profile, prints which image a tablet installs, writes the profile back, decides on an upgrade, and lays a
- * site's profile over a fleet's: `example FILE`. */
+/* Reads a profile, prints which image a tablet installs, writes the profile back, decides on an upgrade, lays a site's
+ * profile over a fleet's, and stores the profile and loads it again: `example FILE`. */
 #include <stdio.h>
 #include <string.h>
 #include "yay_help.h"
@@ -110,6 +110,23 @@ static void print_overlay(const char *fleet, const char *site) {
     }
 }
 
+/* Stores the profile, as it lies on a tablet, and loads it from there into the same rooms: the same kinds, texts and
+ * nesting, with spans in the stored bytes. */
+static void print_stored(void) {
+    static uint8_t stored[YAY_STORED_LONGEST];
+    size_t length;
+    uint32_t number = yay_store(table, words, rows, text, text_len, stored, sizeof stored, &length);
+    if (number == YAY_OK) number = yay_load(stored, length, table, words, text, sizeof text, &rows, &text_len);
+    if (number != YAY_OK) {
+        printf("not stored: %s (%u): %s\n", yay_number_name(number), (unsigned)number, yay_number_sentence(number));
+        return;
+    }
+    printf("stored in %zu bytes, and loaded: %zu rows, %zu bytes of text\n", length, rows, text_len);
+    print_text("image-channel", find(0, "image-channel"));
+    number = yay_load(stored, length - 1, table, words, text, sizeof text, &rows, &text_len);
+    printf("cut short: %s (%u): %s\n", yay_number_name(number), (unsigned)number, yay_number_sentence(number));
+}
+
 int main(int count, char **args) {
     FILE *file = count == 2 ? fopen(args[1], "rb") : NULL;
     if (file == NULL) {
@@ -143,5 +160,6 @@ int main(int count, char **args) {
     print_decision(sheet, "[]\n");
     print_overlay("battery: {low-at: 0.15}\ndoors: [1, 2]\n", "doors: [3]\nbattery: {spare: true}\nname: 'A'\n");
     print_overlay("battery: {low-at: 0.15}\n", "battery: null\n");
+    print_stored();
     return 0;
 }

@@ -1,7 +1,8 @@
-/* Measures the stack that yay_read touches, and yay_sound, yay_write, yay_decide and yay_overlay on the tables that it
- * fills: documents of every class of size, good, refused, repeating and hostile, with many rows and with few, each read
- * into large rooms and into none, in a thread whose stack is painted first; and yay_overlay on objects of many keys, 31
- * levels deep, in both. Fails where a class takes more than yay.h says. */
+/* Measures the stack that yay_read touches, and yay_sound, yay_write, yay_decide, yay_overlay, yay_store and yay_load on
+ * the tables that it fills: documents of every class of size, good, refused, repeating and hostile, with many rows and
+ * with few, each read into large rooms and into none, in a thread whose stack is painted first; yay_overlay on objects of
+ * many keys, 31 levels deep, in both; and yay_load on every class of stored forms, and on such that are none. Fails where
+ * a class takes more than yay.h says. */
 #define _DEFAULT_SOURCE
 #include <pthread.h>
 #include <stdio.h>
@@ -78,6 +79,21 @@ static void *lays_twice(void *nothing) {
     return nothing;
 }
 
+/* Stored bytes, and where they are loaded. */
+static uint8_t form[YAY_STORED_LONGEST + 1], loaded_text[YAY_STORED_TEXT_ROOM(YAY_STORED_LONGEST)];
+static uint32_t loaded_table[YAY_STORED_TABLE_ROOM(YAY_STORED_LONGEST)];
+static size_t form_len, loaded_words, loaded_room, loaded_rows, loaded_bytes;
+
+static void *stores(void *nothing) {
+    number = yay_store(table, words, rows, text, bytes, form, sizeof form, &form_len);
+    return nothing;
+}
+
+static void *loads(void *nothing) {
+    number = yay_load(form, form_len, loaded_table, loaded_words, loaded_text, loaded_room, &loaded_rows, &loaded_bytes);
+    return nothing;
+}
+
 static void *rests(void *nothing) { return nothing; }
 
 /* The bytes of a painted stack that a thread has touched. */
@@ -119,6 +135,10 @@ static int decisions[YAY_BLOCKED + 1];
 static size_t laying;
 static int laid;
 
+/* The most that storing and loading have touched, and how often each number was met. */
+static size_t storing, loading;
+static int kept[YAY_BADFORM + 1];
+
 /* What a thread touches that does nothing. */
 static size_t rest;
 
@@ -132,6 +152,43 @@ static void measure_overlay(void *(*work)(void *)) {
     size_t took = touched(work) - rest;
     if (took > laying) laying = took;
     laid += number == YAY_OK;
+}
+
+/* The form in large rooms, in no table, and in no text room. */
+static void measure_form(void) {
+    for (int i = 0; i < 3; i++) {
+        loaded_words = i == 1 ? 0 : sizeof loaded_table / sizeof *loaded_table;
+        loaded_room = i == 2 ? 0 : sizeof loaded_text;
+        size_t took = touched(loads) - rest;
+        if (took > loading) loading = took;
+        kept[number]++;
+    }
+}
+
+/* The form whole, cut, with its first length a lie, and with a wrong tag and a wrong byte behind all others. */
+static void measure_forms(void) {
+    if (!rest) rest = touched(rests);
+    measure_form();
+    form_len--;
+    measure_form();
+    form_len++;
+    form[2]++;
+    measure_form();
+    form[2]--;
+    if (form_len < 4) return;
+    uint8_t last = form[form_len - 1], tag = form[3];
+    form[form_len - 1] = 0xff;
+    measure_form();
+    form[form_len - 1] = last;
+    form[3] = 11;
+    measure_form();
+    form[3] = tag;
+}
+
+static void measure_storing(void) {
+    size_t took = touched(stores) - rest;
+    if (took > storing) storing = took;
+    if (number == YAY_OK) measure_forms();
 }
 
 /* The document in large rooms, in no table, and in no text room. */
@@ -153,6 +210,7 @@ static void measure(void) {
         measure_decision(decides);
         measure_decision(refuses);
         measure_overlay(lays_twice);
+        measure_storing();
     }
     documents++;
 }
@@ -201,6 +259,56 @@ static void layers(size_t depth, size_t each, size_t last) {
         if (number != YAY_OK) {
             printf("stack: %zu levels of keys are not laid over each other: %u\n", depth, (unsigned)number);
             exit(1);
+        }
+    }
+}
+
+/* A field of so many bytes of content, if all has room. */
+static void put_field(uint8_t tag, const char *content, size_t n) {
+    if (form_len + 3 + n > YAY_STORED_LONGEST) exit(2);
+    form[form_len] = tag;
+    form[form_len + 1] = (uint8_t)(n / 256);
+    form[form_len + 2] = (uint8_t)(n % 256);
+    memcpy(form + form_len + 3, content, n);
+    form_len += 3 + n;
+}
+
+/* An object of so many keys, so many levels down in objects or arrays; the last key may be the first again. */
+static void many_keys(size_t count, size_t levels, uint8_t around, const char *key, int again) {
+    char name[64];
+    size_t heads[64], each = around == YAY_OBJECT ? 7 : 3;
+    form_len = 0;
+    for (size_t i = 0; i < levels; i++) {
+        heads[i] = form_len;
+        put_field(around, "", 0);
+        if (around == YAY_OBJECT) put_field(YAY_KEY, "k", 1);
+    }
+    heads[levels] = form_len;
+    put_field(YAY_OBJECT, "", 0);
+    for (size_t i = 0; i < count; i++) {
+        size_t n = (size_t)sprintf(name, key, again && i + 1 == count ? (size_t)0 : i);
+        put_field(YAY_KEY, name, n);
+        put_field(YAY_NULL, "", 0);
+    }
+    for (size_t i = 0; i <= levels; i++) {
+        size_t n = form_len - heads[i] - 3;
+        form[heads[i] + 1] = (uint8_t)(n / 256);
+        form[heads[i] + 2] = (uint8_t)(n % 256);
+    }
+    if (heads[levels] != each * levels) exit(2);
+    measure_forms();
+}
+
+/* Every class of keys, at the root and 32 levels down, also 33; keys that share all but their end, and a repeat. */
+static void forms(void) {
+    static const size_t counts[] = {0, 1, 16, 17, 512, 513, 2048, 2049, 5000, 6500};
+    for (size_t i = 0; i < sizeof counts / sizeof *counts; i++) {
+        for (int again = 0; again < 2; again++) {
+            many_keys(counts[i], 0, YAY_ARRAY, "%zu", again);
+            many_keys(counts[i], 31, YAY_ARRAY, "%zu", again);
+            many_keys(counts[i], 31, YAY_OBJECT, "%zu", again);
+            many_keys(counts[i], 32, YAY_OBJECT, "%zu", again);
+            if (counts[i] < 600) many_keys(counts[i], 31, YAY_OBJECT, "a key with a long beginning %zu", again);
         }
     }
 }
@@ -340,6 +448,7 @@ int main(void) {
         sheet(digits[i], '2', '1', '2');
         sheet(digits[i], '3', '3', '2');
     }
+    forms();
     layers(DEEP, 0, 1);
     layers(DEEP, 20, 20);
     layers(DEEP, 600, 600);
@@ -368,6 +477,12 @@ int main(void) {
     printf("stack: laying over touches %zu KB%s\n", (laying + 1023) / 1024, laying > YAY_STACK ? ": TOO MUCH" : "");
     wrong += laying > YAY_STACK;
     if (laid < 100) wrong++, printf("stack: too little was laid over\n");
+    printf("stack: storing touches %zu KB%s\n", (storing + 1023) / 1024, storing > YAY_STACK ? ": TOO MUCH" : "");
+    printf("stack: loading touches %zu KB%s\n", (loading + 1023) / 1024, loading > YAY_STACK ? ": TOO MUCH" : "");
+    wrong += (storing > YAY_STACK) + (loading > YAY_STACK);
+    if (!kept[YAY_OK] || !kept[YAY_ROWS] || !kept[YAY_TEXT] || !kept[YAY_BADFORM]) {
+        wrong++, printf("stack: too little was loaded\n");
+    }
     printf("stack: %d documents, %d faults\n", documents, wrong);
     return wrong != 0;
 }

@@ -1,12 +1,12 @@
-/* A reader and writer of YAY documents, a decision on upgrades and an overlay of profiles, proved in Rattle. Link with
- * -lyay.
+/* A reader and writer of YAY documents, a decision on upgrades, an overlay of profiles and a stored form for the tablet,
+ * proved in Rattle. Link with -lyay.
  *
  * Every function works on lent memory alone: none allocates, keeps a pointer, or keeps anything between calls, so
  * threads may call at once. A `const` pointer is only read from. What is written (the table, the text room, the
  * answers behind the last pointers, the output) must overlap nothing else that is handed over.
  * What is trusted of a caller is that each pointer is not NULL and valid for its length, a word pointer aligned;
- * where a length is 0 the pointer is never followed. Any document, table and text may be handed over: for every
- * one of them the answer is the one that the documents of the project fix.
+ * where a length is 0 the pointer is never followed. Any document, table, text and stored bytes may be handed over: for
+ * every one of them the answer is the one that the documents of the project fix.
  * yay_read has rooms of its own on the stack: see YAY_STACK.
  *
  * A place is counted in bytes from 0, a row from 0, a line and a column from 1; they are never taken for one another.
@@ -32,8 +32,8 @@ extern "C" {
 #define YAY_MOST 16777216
 
 /* The stack that a call of yay_read touches at most, in bytes, as c/stack.c measures it: for a document of at most
- * 1,024 bytes, and for any. So a thread of 128 KB reads every document. yay_sound, yay_write, yay_decide and
- * yay_overlay touch no more than YAY_STACK, whatever the tables. */
+ * 1,024 bytes, and for any. So a thread of 128 KB reads every document. yay_sound, yay_write, yay_decide,
+ * yay_overlay, yay_store and yay_load touch no more than YAY_STACK, whatever the tables and the stored bytes. */
 #define YAY_STACK_FEW (48 * 1024)
 #define YAY_STACK (112 * 1024)
 
@@ -44,6 +44,15 @@ extern "C" {
 /* Words and text bytes that are enough for any document of so many bytes: rows and text are each fewer. */
 #define YAY_TABLE_ROOM(doc_len) ((doc_len) * YAY_WORDS)
 #define YAY_TEXT_ROOM(doc_len) (doc_len)
+
+/* The most bytes of a stored form: a tag, a length of two bytes, and a content of at most 65,535. */
+#define YAY_STORED_LONGEST 65538
+
+/* The bytes of the stored form of a table of so many rows and text bytes, as yay_read gives them; and words and text
+ * bytes that are enough for any stored form of so many bytes, since each row has three of them that are no text. */
+#define YAY_STORED_ROOM(rows, text_bytes) (3 * (rows) + (text_bytes))
+#define YAY_STORED_TABLE_ROOM(stored_len) ((stored_len) / 3 * YAY_WORDS)
+#define YAY_STORED_TEXT_ROOM(stored_len) (stored_len)
 
 /* Numbers. All but YAY_OK are refusals, and a refusal leaves the table, the text room and the output as they were. */
 #define YAY_OK 0
@@ -59,6 +68,8 @@ extern "C" {
                          table is not sound */
 #define YAY_NONE 10   /* the key isn't in the object */
 #define YAY_NOTINT 11 /* a text compared isn't an integer's text */
+#define YAY_WIDE 12     /* a content to be stored has more than 65,535 bytes */
+#define YAY_BADFORM 13  /* the bytes aren't a sound table's stored form */
 #define YAY_BADSHEET 14 /* the table isn't a sound one of a release sheet */
 #define YAY_BADINST 15  /* the table isn't a sound one of an installed version */
 #define YAY_CLASH 16    /* a key has an object in one of two tables and another value in the other */
@@ -70,14 +81,14 @@ extern "C" {
 
 /* Words of row r: table[YAY_WORDS * r + one of these]. */
 #define YAY_KIND 0       /* one of the ten kinds */
-#define YAY_FROM 1       /* first byte of the span in the document */
+#define YAY_FROM 1       /* first byte of the span in the document, or in the stored bytes that were loaded */
 #define YAY_TO 2         /* byte after the span */
 #define YAY_TEXT_FROM 3  /* first byte of the text in the text room; 0 for kinds without text */
 #define YAY_TEXT_TO 4    /* byte after the text; of an array its elements, of an object its pairs */
 #define YAY_PARENT 5     /* row of the container; the root's is 0 */
 #define YAY_NEXT 6       /* row after the last descendant */
-#define YAY_LINE 7       /* line of the span's first byte, from 1 */
-#define YAY_COLUMN 8     /* its column, from 1, in characters: one of several bytes is one */
+#define YAY_LINE 7       /* line of the span's first byte, from 1; 0 where the row was loaded, or laid over another */
+#define YAY_COLUMN 8     /* its column, from 1, in characters: one of several bytes is one; 0 as the line */
 
 /* Kinds. A key's row stands just before its value's row, and the object is the parent of both. */
 #define YAY_NULL 1
@@ -154,6 +165,24 @@ uint32_t yay_overlay(const uint32_t *lower, size_t lower_words, size_t lower_row
                      size_t lower_text_len, const uint32_t *upper, size_t upper_words, size_t upper_rows,
                      const uint8_t *upper_text, size_t upper_text_len, uint32_t *table, size_t table_words,
                      uint8_t *text, size_t text_len, size_t *first, size_t *second);
+
+/* Stores a sound table as tagged fields, one for each row: one byte tag, the row's kind; two bytes length, high byte
+ * first; then the content, which is the text for kinds 4 to 7 and 10, nothing for 1 to 3, and the children's fields in
+ * order for 8 and 9. One tree has one stored form; spans, lines and columns are not in it.
+ * YAY_OK: *count bytes of `out` were written, at most YAY_STORED_LONGEST; those behind them are as before.
+ * YAY_BADROW: the table is not sound. YAY_WIDE: a content would have more than 65,535 bytes. *count is 0.
+ * YAY_TEXT: *count bytes are needed, and out_len is less. */
+uint32_t yay_store(const uint32_t *table, size_t words, size_t rows, const uint8_t *text, size_t text_len, uint8_t *out,
+                   size_t out_len, size_t *count);
+
+/* Loads a stored form of stored_len bytes into a table of table_words words and a text room of text_len bytes. It gives
+ * the same kinds, texts and nesting; the span of a row runs from its field's tag to the end of its content, in the stored
+ * bytes, and lines and columns are 0. What was loaded is sound, and is stored as the same bytes.
+ * YAY_OK: *first is the number of rows, *second that of text bytes; words and bytes past them are as before.
+ * YAY_BADFORM, tested first: the bytes are no sound table's stored form. *first and *second are 0.
+ * YAY_ROWS, then YAY_TEXT: *first rows, or bytes, are needed, and *second is 0. */
+uint32_t yay_load(const uint8_t *stored, size_t stored_len, uint32_t *table, size_t table_words, uint8_t *text,
+                  size_t text_len, size_t *first, size_t *second);
 
 #ifdef __cplusplus
 }

@@ -10,7 +10,7 @@
 /* The name of a number, as "SYNTAX"; "" for one that yay.h does not have. */
 static inline const char *yay_number_name(uint32_t number) {
     static const char *const names[] = {"OK",     "LONG", "CHAR",   "SYNTAX", "DEEP", "END",      "REPEAT",  "ROWS", "TEXT",
-                                        "BADROW", "NONE", "NOTINT", "",       "",     "BADSHEET", "BADINST", "CLASH"};
+                                        "BADROW", "NONE", "NOTINT", "WIDE",   "BADFORM", "BADSHEET", "BADINST", "CLASH"};
     return number < sizeof names / sizeof *names ? names[number] : "";
 }
 
@@ -29,8 +29,8 @@ static inline const char *yay_number_sentence(uint32_t number) {
         "the table is not sound, or has no such row that could be asked this",
         "the key isn't in the object",
         "a text compared isn't an integer's text",
-        "",
-        "",
+        "a content has more than 65535 bytes",
+        "this is no stored form",
         "this is no release sheet",
         "this is no installed version",
         "an object is laid over another value, or another value over an object",

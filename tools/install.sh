@@ -24,7 +24,7 @@ libdir=\${prefix}/lib
 includedir=\${prefix}/include
 
 Name: yay
-Description: A reader and writer of YAY documents, a decision on upgrades and an overlay of profiles, proved in Rattle
+Description: A reader and writer of YAY documents, a decision on upgrades, an overlay of profiles and a stored form, proved in Rattle
 Version: $("$command" --version | cut -d' ' -f2)
 Libs: -L\${libdir} -lyay
 Cflags: -I\${includedir}

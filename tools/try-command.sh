@@ -75,6 +75,38 @@ expect 'and nothing beside the laid file' '' "$(find build -maxdepth 1 -name '.o
 expect 'a profile that is not there' 2 "$(overlay "${layers[0]}" build/none.yay > /dev/null; echo $?)"
 expect 'one profile alone' 2 "$(overlay "${layers[0]}" > /dev/null; echo $?)"
 
+# A stored form is written whole or not at all, never to a terminal unasked, and holds the same tree.
+profile=examples/tablet.yay
+"$yay" store "$profile" -o build/tablet.stored
+expect 'a stored form in a pipe' '' "$("$yay" store "$profile" | cmp - build/tablet.stored 2>&1)"
+expect 'and where a pipe is named' '' "$("$yay" store "$profile" -o - | cmp - build/tablet.stored 2>&1)"
+expect 'what is loaded is what is read' '' "$("$yay" load build/tablet.stored | diff <("$yay" show "$profile") -)"
+expect 'what is loaded is written as the document' '' "$("$yay" write --stored build/tablet.stored | diff <("$yay" write "$profile") -)"
+expect 'what is loaded is as JSON as the document' '' "$("$yay" json --stored build/tablet.stored | diff <("$yay" json "$profile") -)"
+expect 'and is stored as the same bytes' '' "$("$yay" write --stored build/tablet.stored | "$yay" store - | cmp - build/tablet.stored 2>&1)"
+expect 'a value of a stored form' stable "$("$yay" get --stored - image-channel < build/tablet.stored)"
+expect 'a stored form cut short' 1 "$(head -c 100 build/tablet.stored | "$yay" check --stored - 2> /dev/null; echo $?)"
+expect 'a message of a stored form has no line' '' "$(head -c 100 build/tablet.stored | "$yay" load - 2>&1 | grep -E ':[0-9]+:[0-9]+:')"
+expect 'no bytes at all' '(standard input): byte 0: BADFORM (13): this is no stored form: a value is missing' "$("$yay" load - 2>&1 < /dev/null)"
+expect 'a document is no stored form' 1 "$("$yay" load "$profile" 2>&1 | grep -c 'this is a document')"
+expect 'a stored form is no document' 1 "$("$yay" show build/tablet.stored 2>&1 | grep -c 'this is a stored form')"
+for file in examples/{release,installed,all-tablets,north,cold-store}.yay; do "$yay" store "$file" -o "build/$(basename "$file" .yay).stored"; done
+expect 'a decision of stored forms' 0 "$("$yay" decide --stored build/release.stored build/installed.stored > /dev/null; echo $?)"
+expect 'an overlay of stored forms' '' "$("$yay" overlay --stored build/{all-tablets,north,cold-store}.stored | diff build/laid.yay -)"
+expect 'a clash of stored forms, by bytes' 'build/clash.stored: byte 10: CLASH (16): the key "warn" is an object here, and an array in build/warn.stored: byte 3' \
+    "$(printf 'warn: []\n' | "$yay" store - -o build/warn.stored; printf 'x: {}\nwarn: {}\n' | "$yay" store - -o build/clash.stored; "$yay" overlay --stored build/warn.stored build/clash.stored 2>&1)"
+expect 'a full disk is an error of store' 2 "$("$yay" store "$profile" > /dev/full 2> /dev/null; echo $?)"
+expect 'a full disk leaves the stored file' "2 $(cksum < build/tablet.stored)" \
+    "$(ulimit -f 0; trap '' XFSZ; "$yay" store "$profile" -o build/tablet.stored 2> /dev/null; echo $? "$(cksum < build/tablet.stored)")"
+expect 'and nothing beside the stored file' '' "$(find build -maxdepth 1 -name '.tablet.stored*')"
+expect 'a document refused leaves the stored file' "1 $(cksum < build/tablet.stored)" \
+    "$(printf 'a: 1' | "$yay" store - -o build/tablet.stored 2> /dev/null; echo $? "$(cksum < build/tablet.stored)")"
+if command -v script > /dev/null; then
+    expect 'nothing to a terminal unasked' 2 "$(script -qec "$yay store $profile" /dev/null > build/script.out < /dev/null; echo $?)"
+    expect 'and told what to do' 1 "$(grep -c 'insist with -o -' build/script.out)"
+    expect 'a terminal that is named' 0 "$(script -qec "$yay store -o - $profile" /dev/null > /dev/null < /dev/null; echo $?)"
+fi
+
 # 128 KB of stack is enough for any document, with all that the command itself takes of it; the reader's part is YAY_STACK.
 keys() { for ((i = 0; i < $1; i++)); do echo "k$i: $i"; done; }
 keys 90 > build/few.yay
@@ -86,6 +118,8 @@ for name in few some long list; do expect "the document $name in a stack of 128 
 written_in_small_stack() { (ulimit -s 128; "$yay" write "build/$1.yay" 2> /dev/null | cksum); }
 for name in few some long; do
     expect "$name written in a stack of 128 KB" "$("$yay" write "build/$name.yay" | cksum)" "$(written_in_small_stack $name)"
+    expect "$name stored in a stack of 128 KB" 0 "$(ulimit -s 128; "$yay" store "build/$name.yay" -o "build/$name.stored"; echo $?)"
+    expect "$name loaded in a stack of 128 KB" 0 "$(ulimit -s 128; "$yay" check -q --stored "build/$name.stored"; echo $?)"
 done
 expect 'a repeated key in a stack of 128 KB' 1 "$(in_small_stack again)"
 

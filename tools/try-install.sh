@@ -48,6 +48,8 @@ expect 'all of these' 'json text exact' "$(offered yay get --numbers =)"
 expect 'an option of fmt' '--check' "$(offered yay fmt --c)"
 expect 'an option of decide' '--installed=' "$(offered yay decide --i)"
 expect 'an option of overlay' '--output=' "$(offered yay overlay --o)"
+expect 'an option of store' '--output=' "$(offered yay store --o)"
+expect 'a stored form' '--stored' "$(offered yay get --s)"
 expect 'a file to write is left to bash' '' "$(offered yay write -o exa)"
 expect 'files are left to bash' '' "$(offered yay show exa)"
 

@@ -31,7 +31,7 @@ try_examples < <(sed -e 's/\\-/-/g' -e 's/\\e/\\/g' "$manual")
 of_manual=$passed
 expect 'examples of the manual' 1 "$((of_manual > 8))"
 try_examples < README.md
-expect 'six examples of README.md' 6 "$((passed - of_manual - 1))"
+expect 'seven examples of README.md' 7 "$((passed - of_manual - 1))"
 sed -n '/^```yay$/,/^```$/{/^```/!p}' README.md > build/readme.yay
 expect "README's profile" 'build/readme.yay: ok, 26 rows, 116 bytes of text' "$(yay check build/readme.yay 2>&1)"
 expect "the manual's version" 1 "$(grep -c "^.TH YAY 1 .*\"$(yay --version)\"" "$manual")"

@@ -9,8 +9,10 @@ pub mod forms;
 pub mod overlaying;
 pub mod places;
 pub mod run;
+pub mod storing;
 pub mod stream;
 mod streams;
+mod targets;
 pub mod writing;
 
 use crate::documents::grow::Meant;

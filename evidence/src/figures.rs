@@ -4,6 +4,8 @@
 pub mod deciding;
 #[cfg(feature = "overlaid")]
 pub mod overlaying;
+#[cfg(feature = "stored")]
+pub mod storing;
 
 use crate::clock::{Clock, Machine, Shortest};
 #[cfg(feature = "written")]

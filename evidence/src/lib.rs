@@ -1,6 +1,6 @@
-//! Evidence at scale: a second reader and writer of YAY documents, a second decision on upgrades and a second overlay, a
-//! slow checker of refusal places, documents, tables, sheets and overlays to try, and the comparison with what is under
-//! test.
+//! Evidence at scale: a second reader and writer of YAY documents, a second decision on upgrades, a second overlay and a
+//! second stored form, a slow checker of refusal places, documents, tables, sheets, overlays and stored forms to try, and
+//! the comparison with what is under test.
 
 pub mod clock;
 pub mod compare;
@@ -14,5 +14,6 @@ pub mod proved;
 pub mod second;
 pub mod sheets;
 pub mod slow;
+pub mod stored;
 pub mod tables;
 pub mod vectors;

@@ -4,6 +4,8 @@
 use crate::compare::deciding::Decider;
 #[cfg(feature = "overlaid")]
 use crate::compare::overlaying::Lays;
+#[cfg(feature = "stored")]
+use crate::compare::storing::Stores;
 #[cfg(feature = "written")]
 use crate::compare::writing::Writer;
 use crate::compare::{Questions, Reader, Said};
@@ -85,6 +87,28 @@ extern "C" {
         upper_rows: usize,
         upper_text: *const u8,
         upper_text_len: usize,
+        table: *mut u32,
+        table_words: usize,
+        text: *mut u8,
+        text_len: usize,
+        first: *mut usize,
+        second: *mut usize,
+    ) -> u32;
+    #[cfg(feature = "stored")]
+    fn yay_store(
+        table: *const u32,
+        words: usize,
+        rows: usize,
+        text: *const u8,
+        text_len: usize,
+        out: *mut u8,
+        out_len: usize,
+        count: *mut usize,
+    ) -> u32;
+    #[cfg(feature = "stored")]
+    fn yay_load(
+        stored: *const u8,
+        stored_len: usize,
         table: *mut u32,
         table_words: usize,
         text: *mut u8,
@@ -226,6 +250,31 @@ impl Lays for Proved {
                 &mut second,
             )
         };
+        (number, first, second)
+    }
+}
+
+#[cfg(feature = "stored")]
+impl Stores for Proved {
+    fn store(&self, lent: &Lent, out: &mut [u8]) -> (u32, usize) {
+        let Lent { table, rows, text } = *lent;
+        let (words, bytes, room) = (table.len(), text.len(), out.len());
+        let (table, text, out) = (table.as_ptr(), text.as_ptr(), out.as_mut_ptr());
+        let mut count = UNSET;
+        // SAFETY: every pointer and length is that of a live slice, the output is borrowed by this call alone, and the
+        // answer is apart from all of them.
+        let number = unsafe { yay_store(table, words, rows, text, bytes, out, room, &mut count) };
+        (number, count)
+    }
+
+    fn load(&self, stored: &[u8], table: &mut [u32], text: &mut [u8]) -> Told {
+        let (mut first, mut second) = (UNSET, UNSET);
+        let (words, bytes) = (table.len(), text.len());
+        let (table, text) = (table.as_mut_ptr(), text.as_mut_ptr());
+        // SAFETY: every pointer and length is that of a live slice, both targets are borrowed by this call alone, and the
+        // two answers are apart from all of them.
+        let number =
+            unsafe { yay_load(stored.as_ptr(), stored.len(), table, words, text, bytes, &mut first, &mut second) };
         (number, first, second)
     }
 }

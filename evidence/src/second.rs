@@ -17,6 +17,7 @@ pub mod questions;
 mod quoted;
 mod scan;
 pub mod sound;
+pub mod stored;
 mod text;
 mod tree;
 pub mod write;

@@ -4,17 +4,19 @@ _yay() {
     [ "$word" = '=' ] && word=''
     [ "$last" = '=' ] && last=${COMP_WORDS[COMP_CWORD - 2]}
     case $COMP_CWORD,${COMP_WORDS[1]},$last,$word in
-        1,*) words='check show rows get json write fmt decide overlay compare batch help --help --version' ;;
-        *,help,*) words='check show rows get json write fmt decide overlay compare batch' ;;
+        1,*) words='check show rows get json write fmt decide overlay store load compare batch help --help --version' ;;
+        *,help,*) words='check show rows get json write fmt decide overlay store load compare batch' ;;
         *,json,--numbers,* | *,get,--numbers,*) words='json text exact' ;;
-        *,check,*,-*) words='-q --quiet -h --help' ;;
-        *,show,*,-*) words='-p --places -h --help' ;;
-        *,get,*,-*) words='-r --raw -j --json -c --compact --numbers= -d --default= -h --help' ;;
-        *,json,*,-*) words='-c --compact --numbers= -h --help' ;;
-        *,write,*,-*) words='-o --output= -h --help' ;;
+        *,check,*,-*) words='-q --quiet --stored -h --help' ;;
+        *,show,*,-*) words='-p --places --stored -h --help' ;;
+        *,rows,*,-*) words='--stored -h --help' ;;
+        *,get,*,-*) words='-r --raw -j --json -c --compact --numbers= -d --default= --stored -h --help' ;;
+        *,json,*,-*) words='-c --compact --numbers= --stored -h --help' ;;
+        *,write,*,-* | *,overlay,*,-*) words='-o --output= --stored -h --help' ;;
         *,fmt,*,-*) words='-o --output= --check -h --help' ;;
-        *,overlay,*,-*) words='-o --output= -h --help' ;;
-        *,decide,*,-*) words='--installed= -h --help' ;;
+        *,decide,*,-*) words='--installed= --stored -h --help' ;;
+        *,store,*,-*) words='-o --output= -h --help' ;;
+        *,load,*,-*) words='-p --places -h --help' ;;
         *,-*) words='-h --help' ;;
         *) words='' ;;
     esac

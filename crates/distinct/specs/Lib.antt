@@ -6,3 +6,4 @@ pub mod Ranks
 pub mod Roads
 pub mod Window
 pub mod Windows
+pub mod Entering

@@ -89,7 +89,7 @@ pub fn in_chains(
 }
 
 // The key before the i-th of n that has its text; it becomes the head of its chain.
-fn chained(
+pub fn chained(
     text: &[u8],
     froms: &[u32],
     tos: &[u32],

@@ -9,6 +9,7 @@ ghost use Rattle.distinct.specs.Names.{Part, Numbered, spelt};
 mod chains;
 mod ranks;
 
+pub use chains::chained;
 pub use chains::chained_all;
 pub use chains::in_chains;
 pub use ranks::in_order;
@@ -31,6 +32,13 @@ pub enum Standing {
 pub struct Taken {
     pub n: usize,
     pub next: usize,
+}
+
+// What entering the chains of a window tells: two keys have one text, or a chain is too long, or n keys stand there, and where the key behind them stands.
+pub enum Entered {
+    Twice,
+    Long,
+    In(usize, usize),
 }
 
 // What a window tells: two keys have one text, or the walk goes on from a key.

@@ -5,3 +5,4 @@ pub mod Writing
 pub mod Upgrading
 pub mod Overlaying
 pub mod Grouping
+pub mod Storing

@@ -1,4 +1,4 @@
--- Laws of the C interface: its promises from those of `read`, of the questions, of comparing, of `sound`, of `write`, of `decide` and of `overlay`. Assumes nothing.
+-- Laws of the C interface: its promises from those of `read`, of the questions, of comparing, of `sound`, `write`, `decide`, `overlay`, `store` and `load`. Assumes nothing.
 use mathlib.Core.Path.{_≡_, refl, sym, ap, subst, _∙_}
 use mathlib.Core.List.{List}
 use mathlib.Core.Bool.{Bool, true, false, _&&_}
@@ -29,6 +29,10 @@ use Rattle.upgrade.specs.Decides.{Decides}
 use Rattle.overlay.specs.declared.Gave.{Gave}
 use Rattle.overlay.specs.Overlaid.{Overlaid, gaveNumber, gaveFirst, gaveSecond}
 use Rattle.language.specs.Written.{Sounded, Written, wroteNumber, wroteCount}
+use Rattle.stored.specs.declared.Storing.{Storing}
+use Rattle.stored.specs.declared.Loading.{Loading}
+use Rattle.stored.specs.Stored.{storingNumber, storingCount, Stores}
+use Rattle.stored.specs.Loaded.{loadingNumber, loadingValue, loadingSecond, Loads}
 use Rattle.exports.specs.Exports.{FoundAt, ComparedTo, TextAt}
 
 -- ---- `yay_read`
@@ -153,3 +157,13 @@ module _ (lower : List ℕ) (m : ℕ) (lowerText upper : List ℕ) (n : ℕ) (up
   pub overlays-as : Overlaid lower m lowerText upper n upperText table text (gaveNumber a) (gaveFirst a) (gaveSecond a) table′ text′ → (c v s : ℕ) → c ≡ gaveNumber a → v ≡ gaveFirst a → s ≡ gaveSecond a
       → Overlaid lower m lowerText upper n upperText table text c v s table′ text′
   overlays-as x c v s e f g = rw (e, f, g) x
+
+-- ---- `yay_store`, `yay_load`
+
+pub stores-as : (table : List ℕ) (rows : ℕ) (text out out' : List ℕ) (a : Storing) (n c : ℕ) → Stores table rows text out (storingNumber a) (storingCount a) out' → n ≡ storingNumber a → c ≡ storingCount a
+    → Stores table rows text out n c out'
+stores-as table rows text out out' a n c x e f = rw (e, f) x
+
+pub loads-as : (stored table text table' text' : List ℕ) (a : Loading) (n v s : ℕ) → Loads stored table text (loadingNumber a) (loadingValue a) (loadingSecond a) table' text' → n ≡ loadingNumber a
+    → v ≡ loadingValue a → s ≡ loadingSecond a → Loads stored table text n v s table' text'
+loads-as stored table text table' text' a n v s x e f g = rw (e, f, g) x

@@ -1,9 +1,11 @@
-// The C interface: each function answers a number of document 01, 0 for none, and puts its values where it is told.
+// The C interface: each function answers a number of documents 01 and 02, 0 for none, and puts its values where it is told.
 ghost use Rattle.exports.specs.Exports.{FoundAt, ComparedTo, TextAt};
 ghost use Rattle.language.specs.Answered.{Answered, Totals};
 ghost use Rattle.language.specs.Written.{Sounded, Written};
 ghost use Rattle.upgrade.specs.Decides.{Decides};
 ghost use Rattle.overlay.specs.Overlaid.{Overlaid};
+ghost use Rattle.stored.specs.Stored.{Stores};
+ghost use Rattle.stored.specs.Loaded.{Loads};
 ghost use mathlib.Core.Path.{_≡_};
 ghost use Prim.Native.Nat.{_+_, _*_, _<_};
 ghost use lib.ListN.{length, getD};
@@ -211,6 +213,39 @@ pub extern "C" fn yay_overlay(
         text,
     );
     *first = answer.first();
+    *second = answer.second();
+    answer.number()
+}
+
+// 0 with the bytes stored; 8 with the bytes needed; or 9 or 12 with 0.
+#[no_mangle]
+pub extern "C" fn yay_store(
+    table: &[u32],
+    rows: usize,
+    text: &[u8],
+    out: &mut [u8],
+    count: &mut usize,
+) -> u32
+    ensures { λ r. ⌜ Stores (now (table .entry)) rows (now (text .entry)) (now (out .entry)) r (now (count .exit)) (now (out .exit)) ⌝ }
+{
+    let answer = store::store(&*table, rows, &*text, out);
+    *count = answer.count();
+    answer.number()
+}
+
+// 0 with the counts of rows and text bytes; 7 or 8 with what is needed and 0; or 13 with 0 and 0.
+#[no_mangle]
+pub extern "C" fn yay_load(
+    stored: &[u8],
+    table: &mut [u32],
+    text: &mut [u8],
+    first: &mut usize,
+    second: &mut usize,
+) -> u32
+    ensures { λ r. ⌜ Loads (now (stored .entry)) (now (table .entry)) (now (text .entry)) r (now (first .exit)) (now (second .exit)) (now (table .exit)) (now (text .exit)) ⌝ }
+{
+    let answer = load::load(&*stored, table, text);
+    *first = answer.value();
     *second = answer.second();
     answer.number()
 }

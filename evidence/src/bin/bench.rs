@@ -260,6 +260,38 @@ fn overlaid(_: &mut Bench) -> usize {
     0
 }
 
+/// What loading a stored form costs beside reading the document, and what storing costs; how many cases are loaded too
+/// slowly, or are stored or loaded otherwise by the second functions.
+#[cfg(feature = "stored")]
+fn stored(bench: &mut Bench) -> usize {
+    print!("| Stored | Bytes | Stored bytes | Reading, µs | Loading, µs | Storing, µs | Second loading, µs ");
+    println!("| Loading is so many times as fast | At about 1, 2, 8 and 32 KB |");
+    println!("|---|---:|---:|---:|---:|---:|---:|---:|---|");
+    let mut bad = 0;
+    for case in evidence::figures::storing::cases() {
+        let times: Option<Vec<_>> = case.docs.iter().map(|(doc, least)| bench.stored_fast(doc, *least)).collect();
+        let Some(times) = times else {
+            bad += 1;
+            println!("| {} | STORED OR LOADED OTHERWISE |", case.name);
+            continue;
+        };
+        let slow = times.iter().zip(&case.docs).filter(|(best, (_, least))| best.times() < *least).count();
+        bad += slow;
+        let best = times[times.len() - 1];
+        print!("| {} | {} | {} | {:.1} ", case.name, best.bytes[0], best.bytes[1], best.reading * 1e6);
+        print!("| {:.1} | {:.1} | {:.1} ", best.loading * 1e6, best.storing * 1e6, best.second * 1e6);
+        let all: Vec<_> = times.iter().map(|best| format!("{:.2}", best.times())).collect();
+        println!("| {:.2} | {}{} |", best.times(), all.join(", "), if slow > 0 { " TOO SLOW" } else { "" });
+    }
+    println!();
+    bad
+}
+
+#[cfg(not(feature = "stored"))]
+fn stored(_: &mut Bench) -> usize {
+    0
+}
+
 /// The document of a shape by its name.
 fn named(name: &str) -> Option<Vec<u8>> {
     let shape =
@@ -294,6 +326,7 @@ fn main() -> ExitCode {
     bad += written(&mut bench);
     bad += decided(&mut bench);
     bad += overlaid(&mut bench);
+    bad += stored(&mut bench);
     bad += hostile(&mut bench);
     println!();
     bad += repeats(&mut bench);

@@ -1,9 +1,9 @@
 //! Compares the proved reader with the second reader, and shows that deliberate faults are found:
-//! `compare [--seed N] [--documents N] [--tables N] [--pairs N] [--overlays N] [--vectors FILE]`. As long as one likes,
-//! with a count every ten seconds, and without the faults: `compare --soak [--seconds N] [--seed N] [--tables N]
-//! [--pairs N] [--overlays N] [--vectors FILE]`. With the feature `written`, the writer and the test of soundness too, on
-//! tables; with `decided`, the upgrade decision, on pairs of a sheet and an installed version; with `overlaid`, the
-//! overlay, on pairs of tables.
+//! `compare [--seed N] [--documents N] [--tables N] [--pairs N] [--overlays N] [--forms N] [--vectors FILE]`. As long as
+//! one likes, with a count every ten seconds, and without the faults: `compare --soak [--seconds N] ..`. With the feature
+//! `written`, the writer and the test of soundness too, on tables; with `decided`, the upgrade decision, on pairs of a
+//! sheet and an installed version; with `overlaid`, the overlay, on pairs of tables; with `stored`, storing and loading,
+//! on tables and stored forms.
 
 use evidence::compare::run::{run, Difference, Limits};
 use evidence::compare::{faults, forms, places, Comparer, Tally};
@@ -24,6 +24,8 @@ const TABLES: usize = 600_000;
 const PAIRS: usize = 2_200_000;
 /// And how many pairs of tables, one laid over the other.
 const OVERLAYS: usize = 400_000;
+/// And how many tables to be stored and forms to be loaded.
+const FORMS: usize = 1_000_000;
 /// From so many documents on, it must have met every number, kind and place of rows and form of backslash thousands of times.
 const ENOUGH: usize = 1_000_000;
 const THOUSANDS: usize = 2_000;
@@ -33,12 +35,13 @@ struct Options {
     tables: usize,
     pairs: usize,
     overlays: usize,
+    forms: usize,
     soak: bool,
 }
 
 fn options() -> Result<Options, String> {
     let limits = Limits { seed: 1, vectors: Vec::new(), documents: DOCUMENTS, seconds: None };
-    let mut options = Options { limits, tables: TABLES, pairs: PAIRS, overlays: OVERLAYS, soak: false };
+    let mut options = Options { limits, tables: TABLES, pairs: PAIRS, overlays: OVERLAYS, forms: FORMS, soak: false };
     let mut words = std::env::args().skip(1);
     while let Some(word) = words.next() {
         if word == "--soak" {
@@ -54,6 +57,7 @@ fn options() -> Result<Options, String> {
             "--tables" => options.tables = number? as usize,
             "--pairs" => options.pairs = number? as usize,
             "--overlays" => options.overlays = number? as usize,
+            "--forms" => options.forms = number? as usize,
             "--seconds" => options.limits.seconds = Some(number?),
             "--vectors" => options.limits.vectors = vectors::load(&value)?,
             _ => return Err(format!("{word} is no option")),
@@ -164,8 +168,22 @@ fn overlaid(_: u64, pairs: usize, _: bool) -> bool {
     true
 }
 
+/// Whether storing and loading differ nowhere on so many items, and every fault in them is found.
+#[cfg(feature = "stored")]
+fn stored(seed: u64, items: usize, soak: bool) -> bool {
+    use evidence::compare::storing::told;
+    let found = soak || told::finds_faults(seed, items);
+    told::differs_nowhere(|| Proved, seed, items) && found
+}
+
+#[cfg(not(feature = "stored"))]
+fn stored(_: u64, items: usize, _: bool) -> bool {
+    println!("no stored form yet: {items} tables and forms are not tried");
+    true
+}
+
 fn main() -> ExitCode {
-    let Options { limits, tables, pairs, overlays, soak } = match options() {
+    let Options { limits, tables, pairs, overlays, forms, soak } = match options() {
         Ok(options) => options,
         Err(error) => {
             eprintln!("compare: {error}");
@@ -176,6 +194,7 @@ fn main() -> ExitCode {
     let wrote = written(limits.seed, tables, soak);
     let decided = decided(limits.seed, pairs, soak);
     let overlaid = overlaid(limits.seed, overlays, soak);
+    let stored = stored(limits.seed, forms, soak);
     let found = soak || finds_faults(&limits);
     let watch = |count| {
         if soak {
@@ -189,5 +208,5 @@ fn main() -> ExitCode {
             false
         }
     };
-    ExitCode::from(u8::from(!wrote || !decided || !overlaid || !found || !same))
+    ExitCode::from(u8::from(!wrote || !decided || !overlaid || !stored || !found || !same))
 }

@@ -5,6 +5,7 @@ mod escapes;
 pub mod overlaying;
 mod places;
 mod soundness;
+pub mod storing;
 pub mod writing;
 
 use super::{Questions, Reader, Said, SecondQuestions};

@@ -4,12 +4,12 @@
 pub mod run;
 pub mod told;
 
-use super::{first_wrong, GUARD};
+use super::targets::{expected, rooms, Room, Targets};
 use crate::documents::Rng;
 use crate::overlays::{Pair, SOURCES};
 use crate::second::overlay::{self, laid, Laid, Told, CLASH, RULES};
 use crate::second::questions::{Lent, BADROW};
-use crate::second::{ROWS, TEXT, WORDS};
+use crate::second::{ROWS, TEXT};
 
 /// What is under test: 0, rows and text bytes; ROWS or TEXT, the need and 0; BADROW or CLASH, 0 and 0.
 pub trait Lays {
@@ -64,15 +64,9 @@ impl Tally {
     }
 }
 
-/// How many words and bytes are lent.
-pub type Room = (usize, usize);
-
 #[derive(Default)]
 pub struct Comparer {
-    table: Vec<u32>,
-    old_table: Vec<u32>,
-    text: Vec<u8>,
-    old_text: Vec<u8>,
+    targets: Targets,
     pub tally: Tally,
 }
 
@@ -96,57 +90,9 @@ impl Comparer {
         lays: &dyn Lays,
         [lower, upper]: [&Lent; 2],
         meant: &Result<Laid, u32>,
-        (words, bytes): Room,
+        room: Room,
     ) -> Option<String> {
-        let expected = meant.as_ref().map_or_else(|number| (*number, 0, 0), |laid| overlay::told(laid, words, bytes));
-        self.tally.count(expected.0);
-        let (rows, new): (&[u32], &[u8]) = match meant {
-            Ok(laid) if expected.0 == 0 => (&laid.words, &laid.text),
-            _ => (&[], &[]),
-        };
-        self.lend(words, bytes);
-        let (table, text) = (&mut self.table[..words + GUARD], &mut self.text[..bytes + GUARD]);
-        let said = lays.lay(lower, upper, &mut table[..words], &mut text[..bytes]);
-        let what = if said != expected {
-            format!("expected {expected:?}, got {said:?}")
-        } else if let Some(i) = first_wrong(table, rows, &self.old_table) {
-            format!("word {i} of {} is {}", rows.len(), table[i])
-        } else {
-            let i = first_wrong(text, new, &self.old_text)?;
-            format!("text byte {i} of {} is {}", new.len(), text[i])
-        };
-        Some(format!("with {words} words and {bytes} bytes lent: {what}"))
+        self.tally.count(expected(meant, room).0);
+        self.targets.difference(meant, room, |table, text| lays.lay(lower, upper, table, text))
     }
-
-    /// Targets of so many words and bytes, that hold what is to stay.
-    fn lend(&mut self, words: usize, bytes: usize) {
-        let (words, bytes) = (words + GUARD, bytes + GUARD);
-        for i in self.old_table.len()..words {
-            self.old_table.push(0xA500_0000 ^ (i as u32).wrapping_mul(0x9E37_79B1));
-        }
-        for i in self.old_text.len()..bytes {
-            self.old_text.push((i as u8).wrapping_mul(31) ^ 0x5A);
-        }
-        self.table.resize(words.max(self.table.len()), 0);
-        self.text.resize(bytes.max(self.text.len()), 0);
-        self.table[..words].copy_from_slice(&self.old_table[..words]);
-        self.text[..bytes].copy_from_slice(&self.old_text[..bytes]);
-    }
-}
-
-/// Exact rooms, one word, row or byte fewer or more, none, and random ones.
-fn rooms(meant: &Result<Laid, u32>, rng: &mut Rng) -> Vec<Room> {
-    let Ok(Laid { words, text }) = meant else {
-        return vec![(rng.below(60), rng.below(20)), (0, 0)];
-    };
-    let (words, bytes) = (words.len(), text.len());
-    vec![
-        (words, bytes),
-        (words - 1, bytes + rng.below(9)),
-        (words - WORDS, bytes.saturating_sub(1)),
-        (words + rng.below(2), bytes.saturating_sub(1)),
-        (words + 1 + rng.below(3 * WORDS), bytes + 1 + rng.below(20)),
-        [(0, 0), (words, 0), (0, bytes), (words + WORDS, bytes + 1)][rng.below(4)],
-        (rng.below(words + 20), rng.below(bytes + 9)),
-    ]
 }

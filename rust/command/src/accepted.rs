@@ -1,20 +1,22 @@
-//! Files that must hold a document.
+//! Files that must hold a document, or a stored form where that is asked for.
 
-use crate::input::{self, Input};
+use crate::input::{self, Form, Input};
 use crate::refused;
 use crate::stop::Stop;
+use crate::words::Words;
 use std::ffi::OsStr;
 use yay::Document;
 
-/// Reads a file; says why it is refused.
-pub fn accepted(name: &OsStr) -> Result<Document, Stop> {
-    accept(&input::open(name)?)
+/// Reads a file, as what the words say it is; says why it is refused.
+pub fn accepted(words: &Words, name: &OsStr) -> Result<Document, Stop> {
+    accept(&input::open(name, words.form())?)
 }
 
-/// Reads what a file held; says why it is refused.
+/// Reads or loads what a file held; says why it is refused.
 pub fn accept(input: &Input) -> Result<Document, Stop> {
-    Document::read(&input.bytes).map_err(|refusal| {
-        refused::say(input, refusal);
-        Stop::Refused
-    })
+    match input.form {
+        Form::Document => Document::read(&input.bytes).map_err(|refusal| refused::say(input, refusal)),
+        Form::Stored => Document::load(&input.bytes).map_err(|unloaded| refused::say_unloaded(input, unloaded)),
+    }
+    .map_err(|()| Stop::Refused)
 }

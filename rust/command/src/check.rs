@@ -1,10 +1,11 @@
 //! `yay check`: each file is a document, or its refusal is shown.
 
+use crate::input::Form;
 use crate::outline::escapes;
 use crate::stop::{complain, Done, Stop};
 use crate::told::Told;
 use crate::words::Words;
-use crate::{input, refused};
+use crate::{accepted::accept, input};
 use std::ffi::OsStr;
 use std::io::Write;
 use yay::Document;
@@ -23,7 +24,7 @@ pub fn run(words: &Words, out: &mut dyn Write) -> Done {
     }
     let (quiet, mut told, mut tally) = (words.has("--quiet"), Told::new(out), Tally::default());
     for file in &words.plain {
-        match check(file, quiet, &mut told) {
+        match check(file, words.form(), quiet, &mut told) {
             Ok(()) => tally.ok += 1,
             Err(Stop::File(message)) => {
                 told.flush();
@@ -61,20 +62,13 @@ fn counts(document: &Document) -> String {
     format!("{} rows, {} bytes of text{}", tree.rows(), tree.text_room().len(), escapes(document))
 }
 
-fn check(file: &OsStr, quiet: bool, told: &mut Told) -> Done {
-    let input = input::open(file)?;
-    match Document::read(&input.bytes) {
-        Ok(document) => {
-            if !quiet {
-                told.line(&format!("{}: ok, {}", input.name, counts(&document)));
-            }
-            Ok(())
-        }
-        Err(refusal) => {
-            // What was said before stands before it, also where both go to one file.
-            told.flush();
-            refused::say(&input, refusal);
-            Err(Stop::Refused)
-        }
+fn check(file: &OsStr, form: Form, quiet: bool, told: &mut Told) -> Done {
+    let input = input::open(file, form)?;
+    // What was said before stands before a refusal, also where both go to one file.
+    told.flush();
+    let document = accept(&input)?;
+    if !quiet {
+        told.line(&format!("{}: ok, {}", input.name, counts(&document)));
     }
+    Ok(())
 }

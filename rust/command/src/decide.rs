@@ -2,7 +2,7 @@
 //! function's; the sentences are read off the tables.
 
 use crate::accepted::accept;
-use crate::input::{self, Input};
+use crate::input::{self, Form, Input};
 use crate::outline::broken;
 use crate::refused;
 use crate::stop::{Done, Stop};
@@ -45,8 +45,8 @@ fn inputs(words: &Words) -> Result<[Input; 2], Stop> {
         ([sheet, installed], None) if sheet == "-" && installed == "-" => {
             Err(words.wrong("takes standard input for one of the two"))
         }
-        ([sheet, installed], None) => Ok([input::open(sheet)?, input::open(installed)?]),
-        ([sheet], Some(text)) => Ok([input::open(sheet)?, given(text)]),
+        ([sheet, installed], None) => Ok([input::open(sheet, words.form())?, input::open(installed, words.form())?]),
+        ([sheet], Some(text)) => Ok([input::open(sheet, words.form())?, given(text)]),
         ([_, _], Some(_)) => Err(words.wrong("takes INSTALLED or --installed, not both")),
         _ => Err(words.wrong("needs a sheet and an installed version")),
     }
@@ -58,7 +58,7 @@ fn given(text: &OsStr) -> Input {
     if !bytes.ends_with(b"\n") {
         bytes.push(b'\n');
     }
-    Input { name: "--installed".into(), bytes, length: None }
+    Input { name: "--installed".into(), bytes, form: Form::Document, length: None }
 }
 
 fn side(input: Input) -> Result<Side, Stop> {

@@ -16,7 +16,7 @@ pub fn run(words: &Words, out: &mut dyn Write) -> Done {
     if words.has("--raw") && words.has("--json") {
         return Err(words.wrong("takes --raw or --json, not both"));
     }
-    let document = accepted(file)?;
+    let document = accepted(words, file)?;
     let tree = document.tree();
     let steps: Vec<_> = keys.iter().map(|key| key.as_bytes()).collect();
     match (tree.path(ROOT, &steps), words.value("--default")) {

@@ -57,7 +57,7 @@ impl Style {
 
 pub fn run(words: &Words, out: &mut dyn Write) -> Done {
     let style = Style::asked(words)?;
-    write(&accepted(words.one_file()?)?.tree(), yay::ROOT, &style, out)
+    write(&accepted(words, words.one_file()?)?.tree(), yay::ROOT, &style, out)
 }
 
 /// A value as JSON, and a line end.

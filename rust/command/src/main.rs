@@ -1,4 +1,5 @@
-//! `yay`: reads and writes YAY documents for people and scripts, decides on upgrades, and lays profiles over each other.
+//! `yay`: reads and writes YAY documents for people and scripts, decides on upgrades, lays profiles over each other, and
+//! stores and loads them for the tablet.
 
 mod accepted;
 mod batch;
@@ -17,6 +18,7 @@ mod quote;
 mod refused;
 mod rows;
 mod stop;
+mod store;
 mod told;
 mod words;
 mod write;
@@ -53,13 +55,15 @@ fn run_command(words: &Words, out: &mut dyn Write) -> Done {
     match words.page.name {
         "check" => check::run(words, out),
         "show" => outline::run(words, out),
-        "rows" => rows::write(&accepted(words.one_file()?)?.tree(), out),
+        "rows" => rows::write(&accepted(words, words.one_file()?)?.tree(), out),
         "get" => get::run(words, out),
         "json" => json::run(words, out),
         "write" => write::run(words, out),
         "fmt" => write::format(words, out),
         "decide" => decide::run(words, out),
         "overlay" => overlay::run(words, out),
+        "store" => store::run(words, out),
+        "load" => outline::run_loaded(words, out),
         "compare" => integers::run(words, out),
         "batch" if words.plain.is_empty() => batch::run(&mut io::stdin().lock(), out),
         "batch" => Err(words.wrong("takes its documents from standard input alone")),

@@ -1,52 +1,66 @@
-//! `yay show`: the tree as an indented outline, a line for each value.
+//! `yay show` and `yay load`: the tree as an indented outline, a line for each value.
 
-use crate::accepted::accepted;
+use crate::accepted::accept;
+use crate::input::{self, Form};
 use crate::stop::{Done, Stop};
 use crate::words::Words;
 use std::io::Write;
 use yay::shown::quoted;
 use yay::{Document, Kind, Number, Row, Tree, ROOT};
 
-/// A table that `read` has filled answers every question that is asked of it here.
+/// A table that was read or loaded answers every question that is asked of it here.
 pub fn broken(number: Number) -> Stop {
     Stop::File(format!("the table of rows is broken: {number}"))
 }
 
 pub fn run(words: &Words, out: &mut dyn Write) -> Done {
-    let document = accepted(words.one_file()?)?;
+    outline(words, words.form(), out)
+}
+
+/// `yay load`: the same of a stored form.
+pub fn run_loaded(words: &Words, out: &mut dyn Write) -> Done {
+    outline(words, Form::Stored, out)
+}
+
+fn outline(words: &Words, form: Form, out: &mut dyn Write) -> Done {
+    let document = accept(&input::open(words.one_file()?, form)?)?;
     let tree = document.tree();
-    let places = Places::asked(words, &tree)?;
+    let places = Places::asked(words, form, &tree)?;
     writeln!(out, "{}{}{}", places.before(&tree, ROOT)?, value(&tree, ROOT)?, escapes(&document))?;
     write_children(&tree, ROOT, 1, &places, out)
 }
 
-/// Line and column before each value, where they are asked for.
+/// Line and column before each value, where they are asked for; of a stored form, which has no lines, the byte.
 struct Places {
+    form: Form,
     /// The width of the widest; 0 where nobody asks.
     width: usize,
 }
 
 impl Places {
-    fn asked(words: &Words, tree: &Tree) -> Result<Places, Stop> {
-        let mut width = 0;
+    fn asked(words: &Words, form: Form, tree: &Tree) -> Result<Places, Stop> {
+        let mut places = Places { form, width: 0 };
         if words.has("--places") {
             for row in (0..tree.rows()).map(Row) {
-                width = width.max(place(tree, row)?.len());
+                places.width = places.width.max(places.place(tree, row)?.len());
             }
         }
-        Ok(Places { width })
+        Ok(places)
     }
 
     fn before(&self, tree: &Tree, row: Row) -> Result<String, Stop> {
         match self.width {
             0 => Ok(String::new()),
-            width => Ok(format!("{:<width$}  ", place(tree, row)?)),
+            width => Ok(format!("{:<width$}  ", self.place(tree, row)?)),
         }
     }
-}
 
-fn place(tree: &Tree, row: Row) -> Result<String, Stop> {
-    Ok(tree.position(row).map_err(broken)?.to_string())
+    fn place(&self, tree: &Tree, row: Row) -> Result<String, Stop> {
+        match self.form {
+            Form::Document => Ok(tree.position(row).map_err(broken)?.to_string()),
+            Form::Stored => Ok(tree.span(row).map_err(broken)?.start.0.to_string()),
+        }
+    }
 }
 
 /// A word of the document's escapes, behind what is said of it; nothing where there are none.

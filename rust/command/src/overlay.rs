@@ -37,7 +37,7 @@ fn sides(words: &Words) -> Result<Vec<Side>, Stop> {
     if words.plain.iter().filter(|file| *file == "-").count() > 1 {
         return Err(words.wrong("takes standard input for one of the files"));
     }
-    let inputs: Result<Vec<_>, _> = words.plain.iter().map(|file| input::open(file)).collect();
+    let inputs: Result<Vec<_>, _> = words.plain.iter().map(|file| input::open(file, words.form())).collect();
     inputs?.into_iter().map(side).collect()
 }
 
@@ -81,14 +81,14 @@ fn say_clash(clash: &Clash, sides: &[Side], upper: usize) -> Done {
     let (below, above) = (&sides[lower.0], &sides[upper]);
     let [is, over] = clash.kinds.map(Kind::with_article);
     let (below_key, above_key) = (Row(lower.1 .0 - 1), Row(clash.upper.0 - 1));
-    let at = below.document.tree().position(below_key).map_err(broken)?;
-    let sentence = format!("the key {} is {over} here, and {is} in {}:{at}", clash.shown_path(), below.input.name);
-    let shown = |side: &Side, key: Row, kind: String| -> Result<(Place, String), Stop> {
+    let shown = |side: &Side, key: Row, kind: &str| -> Result<(Place, String), Stop> {
         let place = side.document.tree().span(key).map_err(broken)?.start;
         Ok((place, format!(" {kind}, in {}", side.input.name)))
     };
-    let (below_place, below_label) = shown(below, below_key, is)?;
-    let (above_place, above_label) = shown(above, above_key, over)?;
+    let (below_place, below_label) = shown(below, below_key, &is)?;
+    let (above_place, above_label) = shown(above, above_key, &over)?;
+    let sentence =
+        format!("the key {} is {over} here, and {is} in {}", clash.shown_path(), below.input.at(below_place));
     refused::say_both(
         Number::Clash,
         &sentence,

@@ -28,6 +28,16 @@ const HELP: Opt = Opt { short: "-h", long: "--help", value: "", what: "this page
 
 const OUTPUT: Opt = Opt { short: "-o", long: "--output", value: "OUT", what: "into this file, whole or not at all" };
 
+const STORED: Opt =
+    Opt { short: "", long: "--stored", value: "", what: "the files are stored forms, as store makes them" };
+
+const PLACES: Opt = Opt {
+    short: "-p",
+    long: "--places",
+    value: "",
+    what: "line and column of each value before it; of a stored form, its byte",
+};
+
 const NUMBERS_TEXT: &str = "
 A number is a JSON number with all its digits, whatever its size; nan and the infinities, for which JSON
 has no number, are strings. With --numbers=text every number is a string of its text. With
@@ -35,7 +45,7 @@ has no number, are strings. With --numbers=text every number is a string of its 
 Bytes are an object of one pair, {\"$bytes\": \"00ff\"}.
 ";
 
-pub const PAGES: [Page; 11] = [
+pub const PAGES: [Page; 13] = [
     Page {
         name: "check",
         words: "FILE..",
@@ -45,7 +55,7 @@ Says of each file, in their order, that it is a document, with the count of its 
 and, if it has any, its escapes; or shows on standard error why it is refused.
 For more than one file the last line is 'N ok, M refused'.
 ",
-        options: &[Opt { short: "-q", long: "--quiet", value: "", what: "refusals alone" }],
+        options: &[Opt { short: "-q", long: "--quiet", value: "", what: "refusals alone" }, STORED],
         integers: false,
     },
     Page {
@@ -56,7 +66,7 @@ For more than one file the last line is 'N ok, M refused'.
 The document as an indented outline. Long texts are cut. If the document has escapes, the first line
 says how many. Lines and columns count from 1, columns in characters.
 ",
-        options: &[Opt { short: "-p", long: "--places", value: "", what: "line and column of each value before it" }],
+        options: &[PLACES, STORED],
         integers: false,
     },
     Page {
@@ -65,9 +75,10 @@ says how many. Lines and columns count from 1, columns in characters.
         short: "the table of rows: number, words, kind and text",
         text: "
 The table of rows, one to a line: the row's number and its words, the kind's name and the text. The last
-two words are the line and the column of the row's first byte, from 1, columns in characters.
+two words are the line and the column of the row's first byte, from 1, columns in characters; of a
+stored form, which has no lines, both are 0.
 ",
-        options: &[],
+        options: &[STORED],
         integers: false,
     },
     Page {
@@ -85,6 +96,7 @@ Where the path leads nowhere the exit status is 3. A key that begins with - stan
             COMPACT,
             NUMBERS,
             Opt { short: "-d", long: "--default", value: "TEXT", what: "this, as it is, where there is no such value" },
+            STORED,
         ],
         integers: false,
     },
@@ -93,7 +105,7 @@ Where the path leads nowhere the exit status is 3. A key that begins with - stan
         words: "FILE",
         short: "the document as JSON",
         text: NUMBERS_TEXT,
-        options: &[COMPACT, NUMBERS],
+        options: &[COMPACT, NUMBERS, STORED],
         integers: false,
     },
     Page {
@@ -106,7 +118,7 @@ in an array on one line; strings in double quotes, keys without quotes wherever 
 inline, two spaces a level. Reading it gives the same values. COMMENTS ARE NOT KEPT.
 OUT may be FILE itself: it is written beside and renamed, so that it is never half written.
 ",
-        options: &[OUTPUT],
+        options: &[OUTPUT, STORED],
         integers: false,
     },
     Page {
@@ -132,12 +144,15 @@ an array. Versions compare place by place as numbers, and missing places count a
 install (exit status 0) if version is above what is installed and that is not below floor; keep (4) if
 version is not above it; else blocked (5). What is no sheet or no installed version is refused (1).
 ",
-        options: &[Opt {
-            short: "",
-            long: "--installed",
-            value: "ARRAY",
-            what: "this, as '[10, 2]', in the place of INSTALLED",
-        }],
+        options: &[
+            Opt {
+                short: "",
+                long: "--installed",
+                value: "ARRAY",
+                what: "this, as '[10, 2]', in the place of INSTALLED",
+            },
+            STORED,
+        ],
         integers: false,
     },
     Page {
@@ -151,7 +166,31 @@ two other values, arrays among them, the upper's stands. Keys keep the lower's o
 An object and another value of one key clash: both are shown, and the exit status is 1. COMMENTS ARE
 NOT KEPT. OUT may be one of the files: it is written beside and renamed, so that it is never half written.
 ",
+        options: &[OUTPUT, STORED],
+        integers: false,
+    },
+    Page {
+        name: "store",
+        words: "FILE",
+        short: "the document as a tablet keeps it, which is faster to load",
+        text: "
+Stores the document's tree as tagged fields, for tablets that shall not read text at each start: the
+same kinds, texts and nesting, without lines, spans and comments. One tree has one stored form.
+It is no text: without -o it is written to a pipe or a file alone, with -o - to a terminal too.
+",
         options: &[OUTPUT],
+        integers: false,
+    },
+    Page {
+        name: "load",
+        words: "FILE",
+        short: "a stored form as an indented outline",
+        text: "
+What store has made, as an indented outline, as the command show has it of a document. The commands
+check, show, rows, get, json, write, decide and overlay take stored forms too, with --stored.
+A stored form has no lines: places are told as bytes, from 0.
+",
+        options: &[PLACES],
         integers: false,
     },
     Page {
@@ -180,8 +219,9 @@ const STATUS: &str =
 
 /// What `yay --help` prints.
 pub fn all() -> String {
-    let mut text =
-        String::from("yay: reads, writes and overlays YAY documents, and decides on upgrades, by proved functions\n\n");
+    let mut text = String::from(
+        "yay: reads, writes, overlays and stores YAY documents, and decides on upgrades, by proved functions\n\n",
+    );
     for page in &PAGES {
         text += &format!("  yay {:<24} {}\n", format!("{} {}", page.name, page.words), page.short);
     }

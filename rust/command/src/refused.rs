@@ -1,10 +1,10 @@
 //! A refusal as people see it: `file:line:column: NAME (number): sentence`, the line, and a caret under the place.
 
-use crate::input::Input;
+use crate::input::{Form, Input};
 use crate::quote::quote;
 use std::fmt::Write;
 use std::io::{self, IsTerminal};
-use yay::{first_key, position, Number, Place, Refusal, LONGEST};
+use yay::{first_key, form_fault, position, Document, Number, Place, Refusal, Unloaded, LONGEST, LONGEST_STORED};
 
 /// Escape codes for a terminal, or nothing.
 struct Ink {
@@ -18,14 +18,23 @@ const COLOURS: Ink = Ink { bold: "\x1b[1m", red: "\x1b[1;31m", off: "\x1b[0m" };
 
 /// Says on standard error why a document is refused.
 pub fn say(input: &Input, refusal: Refusal) {
-    print(&report(input, refusal, &ink()));
+    let mut report = report(input, refusal, &ink());
+    if Document::load(&input.bytes).is_ok() {
+        report += "yay: this is a stored form, which load shows, and --stored reads\n";
+    }
+    print(&report);
 }
 
-/// Says on standard error what is wrong at a place of a document that was read.
+/// Says on standard error why bytes are no stored form.
+pub fn say_unloaded(input: &Input, unloaded: Unloaded) {
+    print(&report_unloaded(input, unloaded, &ink()));
+}
+
+/// Says on standard error what is wrong at a place of a document that was read, or of a stored form that was loaded.
 pub fn say_wrong(input: &Input, number: Number, place: Place, sentence: &str) {
     let ink = ink();
     let mut report = headline(input, number, place, sentence, &ink);
-    show(&mut report, &input.bytes, place, "", &ink);
+    show(&mut report, input, place, "", &ink);
     print(&report);
 }
 
@@ -41,7 +50,7 @@ pub fn say_both(number: Number, sentence: &str, first: Shown, last: Shown) {
     let ink = ink();
     let mut report = headline(last.input, number, last.place, sentence, &ink);
     for shown in [first, last] {
-        show(&mut report, &shown.input.bytes, shown.place, shown.label, &ink);
+        show(&mut report, shown.input, shown.place, shown.label, &ink);
     }
     print(&report);
 }
@@ -69,22 +78,41 @@ fn report(input: &Input, refusal: Refusal, ink: &Ink) -> String {
         Number::Long => {}
         Number::Repeat => {
             if let Some((_, first)) = first_key(&input.bytes, refusal.place) {
-                show(&mut report, &input.bytes, first, " first", ink);
+                show(&mut report, input, first, " first", ink);
             }
-            show(&mut report, &input.bytes, refusal.place, " again", ink);
+            show(&mut report, input, refusal.place, " again", ink);
         }
-        _ => show(&mut report, &input.bytes, refusal.place, "", ink),
+        _ => show(&mut report, input, refusal.place, "", ink),
+    }
+    report
+}
+
+fn report_unloaded(input: &Input, unloaded: Unloaded, ink: &Ink) -> String {
+    let number = unloaded.number();
+    let Some(fault) = form_fault(&input.bytes) else {
+        return headline(input, number, Place(0), number.meaning(), ink);
+    };
+    let known = input.length.filter(|length| *length > LONGEST_STORED as u64);
+    let length = known.map_or(String::new(), |length| format!("; the file has {length}"));
+    let sentence = format!("{}: {}{length}", number.meaning(), fault.sentence);
+    let mut report = headline(input, number, fault.place, &sentence, ink);
+    if Document::read(&input.bytes).is_ok() {
+        report += "yay: this is a document, which show shows, and which is read without --stored\n";
     }
     report
 }
 
 fn headline(input: &Input, number: Number, place: Place, sentence: &str, ink: &Ink) -> String {
     let Ink { bold, red, off } = ink;
-    let position = position(&input.bytes, place);
-    format!("{bold}{}:{position}:{off} {red}{} ({}){off}: {sentence}\n", input.name, number.name(), number.code())
+    format!("{bold}{}:{off} {red}{} ({}){off}: {sentence}\n", input.at(place), number.name(), number.code())
 }
 
-fn show(report: &mut String, doc: &[u8], place: Place, label: &str, ink: &Ink) {
+/// The line of a place, and a caret below it; a stored form has no lines.
+fn show(report: &mut String, input: &Input, place: Place, label: &str, ink: &Ink) {
+    if input.form == Form::Stored {
+        return;
+    }
+    let doc = &input.bytes;
     let (line, caret) = quote(doc, place);
     let Ink { red, off, .. } = ink;
     let row = format!("{:>5} | {line}", position(doc, place).line);
@@ -97,7 +125,7 @@ mod tests {
     use super::*;
 
     fn shown(doc: &[u8], ink: &Ink) -> String {
-        let input = Input { name: "f.yay".into(), bytes: doc.to_vec(), length: None };
+        let input = Input { name: "f.yay".into(), bytes: doc.to_vec(), form: Form::Document, length: None };
         report(&input, yay::Document::read(doc).expect_err("refused"), ink)
     }
 

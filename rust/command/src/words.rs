@@ -1,5 +1,6 @@
 //! The words behind a command's name: options, in any order and up to `--`, and the rest.
 
+use crate::input::Form;
 use crate::pages::{Opt, Page};
 use crate::stop::Stop;
 use std::ffi::{OsStr, OsString};
@@ -68,6 +69,15 @@ impl Words {
 
     pub fn has(&self, long: &str) -> bool {
         self.value(long).is_some()
+    }
+
+    /// What the files are to be.
+    pub fn form(&self) -> Form {
+        if self.has("--stored") {
+            Form::Stored
+        } else {
+            Form::Document
+        }
     }
 
     /// An option's value; of two the last.

@@ -1,7 +1,7 @@
 //! `yay write` and `yay fmt`: a document written back in the house style, and which files are in it.
 
 use crate::accepted::accept;
-use crate::input;
+use crate::input::{self, Form};
 use crate::output;
 use crate::stop::{complain, Done, Stop};
 use crate::told::Told;
@@ -17,8 +17,8 @@ struct Both {
 }
 
 /// Reads a file and writes it back; says why it is refused.
-fn both(file: &OsStr) -> Result<Both, Stop> {
-    let input = input::open(file)?;
+fn both(file: &OsStr, form: Form) -> Result<Both, Stop> {
+    let input = input::open(file, form)?;
     let new = accept(&input)?.written().map_err(|no| {
         complain(&format!("{}: {no}", input.name));
         Stop::Refused
@@ -27,7 +27,7 @@ fn both(file: &OsStr) -> Result<Both, Stop> {
 }
 
 pub fn run(words: &Words, out: &mut dyn Write) -> Done {
-    let new = both(words.one_file()?)?.new;
+    let new = both(words.one_file()?, words.form())?.new;
     match words.value("--output") {
         Some(file) if file != "-" => output::replace(file, &new),
         _ => Ok(out.write_all(&new)?),
@@ -50,7 +50,7 @@ fn check(files: &[impl AsRef<OsStr>], out: &mut dyn Write) -> Done {
     for file in files {
         // What was said before stands before a refusal, also where both go to one file.
         told.flush();
-        match both(file.as_ref()) {
+        match both(file.as_ref(), Form::Document) {
             Ok(Both { old, new, .. }) if old == new => {}
             Ok(Both { name, .. }) => {
                 told.line(&name);

@@ -122,7 +122,10 @@ fn wrong_words() {
 
 #[test]
 fn an_unknown_option_is_named_and_never_a_file() {
-    for command in ["check", "show", "rows", "get", "json", "write", "fmt", "decide", "overlay", "compare", "batch"] {
+    for command in [
+        "check", "show", "rows", "get", "json", "write", "fmt", "decide", "overlay", "store", "load", "compare",
+        "batch",
+    ] {
         for option in ["-x", "--nope", "--nope=1", "-qx"] {
             let run = yay(&[command, option, "-"], b"1\n");
             let name = option.split('=').next().unwrap();

@@ -199,7 +199,10 @@ fn compare_orders_integers() {
 #[test]
 fn help_and_version() {
     let help = good(&["--help"], b"");
-    for command in ["check", "show", "rows", "get", "json", "write", "fmt", "decide", "overlay", "compare", "batch"] {
+    for command in [
+        "check", "show", "rows", "get", "json", "write", "fmt", "decide", "overlay", "store", "load", "compare",
+        "batch",
+    ] {
         assert!(help.contains(&format!("yay {command}")), "{command}");
     }
     assert_eq!(good(&["help"], b""), help);
@@ -209,7 +212,10 @@ fn help_and_version() {
 
 #[test]
 fn each_command_has_its_page() {
-    for command in ["check", "show", "rows", "get", "json", "write", "fmt", "decide", "overlay", "compare", "batch"] {
+    for command in [
+        "check", "show", "rows", "get", "json", "write", "fmt", "decide", "overlay", "store", "load", "compare",
+        "batch",
+    ] {
         let page = good(&[command, "--help"], b"");
         assert!(page.starts_with(&format!("yay {command}")) && page.contains("\n  -h, --help"), "{page}");
         assert_eq!(good(&[command, "-h"], b""), page);

@@ -1,14 +1,15 @@
 //! The owned form: a document with rooms of its own.
 
-use crate::limits::{LONGEST, WORDS};
+use crate::limits::{LONGEST, LONGEST_STORED, WORDS};
 use crate::overlaying::{overlay, Unlaid};
 use crate::reading::{read, Accepted};
 use crate::refusal::Refusal;
+use crate::storing::{load, stored, Unloaded, Unstored};
 use crate::tree::Tree;
 use crate::writing::{written, Unwritten};
 
-/// An accepted document's rows and text, or those of one laid over another, in memory of its own, and how many escapes it
-/// has.
+/// An accepted document's rows and text, or those of one laid over another or loaded from its stored form, in memory of its
+/// own, and how many escapes it has.
 ///
 /// ```
 /// let document = yay::Document::read(b"low-at: 0.15\nnames: [\"A\", \"B\"]\n")?;
@@ -37,6 +38,27 @@ impl Document {
         Ok(Document { table, text, escapes })
     }
 
+    /// Loads a stored form, with rooms that are large enough for any of that length; see [`load`](crate::load). What it
+    /// gives has its spans in the stored bytes, and no lines, columns and escapes.
+    ///
+    /// ```
+    /// use yay::Document;
+    /// let stored = Document::read(b"low-at: 0.15  # of 1\n")?.stored()?;
+    /// let document = Document::load(&stored)?;
+    /// assert_eq!(document.written()?, b"low-at: 0.15\n");
+    /// assert_eq!(document.stored()?, stored);
+    /// # Ok::<(), Box<dyn std::error::Error>>(())
+    /// ```
+    pub fn load(stored: &[u8]) -> Result<Document, Unloaded> {
+        let room = stored.len().min(LONGEST_STORED);
+        let (mut table, mut text) = (vec![0; room / 3 * WORDS], vec![0; room]);
+        let tree = load(stored, &mut table, &mut text)?;
+        let (rows, bytes) = (tree.rows(), tree.text_room().len());
+        table.truncate(rows * WORDS);
+        text.truncate(bytes);
+        Ok(Document { table, text, escapes: 0 })
+    }
+
     pub fn tree(&self) -> Tree<'_> {
         Tree::new(&self.table, self.table.len() / WORDS, &self.text)
     }
@@ -45,6 +67,12 @@ impl Document {
     /// bytes.
     pub fn written(&self) -> Result<Vec<u8>, Unwritten> {
         written(&self.tree())
+    }
+
+    /// The document as tagged fields, as a tablet keeps it; [`Unstored::Wide`](crate::Unstored) where that takes too many
+    /// bytes.
+    pub fn stored(&self) -> Result<Vec<u8>, Unstored> {
+        stored(&self.tree())
     }
 
     /// Another tree laid over this document's; see [`overlay`](crate::overlay). The rooms are always large enough, unless

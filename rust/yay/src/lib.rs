@@ -1,5 +1,5 @@
-//! Reads and writes YAY documents, decides on upgrades, and lays one profile over another, by functions proved in Rattle
-//! (`libyay.a`, include/yay.h).
+//! Reads and writes YAY documents, decides on upgrades, lays one profile over another, and stores profiles in a form that is
+//! loaded faster than it is read, by functions proved in Rattle (`libyay.a`, include/yay.h).
 //!
 //! [`read`] fills rooms that the caller lends and allocates nothing; [`Document`] is the same with rooms of its
 //! own. A [`Tree`] answers questions, and knows each row's line and column; both tell how many escapes a document
@@ -54,6 +54,17 @@
 //! # Ok::<(), Box<dyn std::error::Error>>(())
 //! ```
 //!
+//! [`store`] and [`Document::stored`] make the form that tablets keep of a table, and [`load`] and [`Document::load`] give
+//! the same tree from it; [`form_fault`] says why bytes are none:
+//!
+//! ```
+//! let stored = yay::Document::read(b"image-channel: \"stable\"  # for now\n")?.stored()?;
+//! let document = yay::Document::load(&stored)?;
+//! assert_eq!(document.tree().str(document.tree().find(yay::ROOT, "image-channel")?)?, "stable");
+//! assert_eq!(yay::Document::load(&stored[1..]), Err(yay::Unloaded::Form));
+//! # Ok::<(), Box<dyn std::error::Error>>(())
+//! ```
+//!
 //! A refusal says why and where, and with the document at hand in a sentence that helps:
 //!
 //! ```
@@ -67,6 +78,7 @@
 mod deciding;
 mod document;
 mod fault;
+mod form;
 mod limits;
 mod overlaying;
 mod path;
@@ -76,6 +88,7 @@ mod refusal;
 mod repeat;
 mod sentence;
 pub mod shown;
+mod storing;
 mod sys;
 mod tree;
 mod values;
@@ -84,13 +97,15 @@ mod writing;
 pub use deciding::{decide, Decision, Undecided};
 pub use document::Document;
 pub use fault::{installed_fault, sheet_fault, Fault};
-pub use limits::{IMAGE, LONGEST, MOST, NAMES, NESTING, PLACES, WORDS};
+pub use form::{form_fault, FormFault};
+pub use limits::{IMAGE, LONGEST, LONGEST_STORED, MOST, NAMES, NESTING, PLACES, WORDS};
 pub use overlaying::{clash, overlay, Clash, Unlaid};
 pub use path::Missing;
 pub use place::{line_around, position, Place, Position};
 pub use reading::{compare, read, Accepted};
 pub use refusal::{Number, Refusal};
 pub use repeat::first_key;
+pub use storing::{load, store, stored, Unloaded, Unstored};
 pub use tree::{Children, Kind, Row, Tree, ROOT};
 pub use values::{Mismatch, Pairs};
 pub use writing::{sound, write, written, Unwritten};

@@ -12,10 +12,18 @@ macro_rules! nesting {
     };
 }
 
-pub(crate) use {longest, nesting};
+macro_rules! stored_content {
+    () => {
+        65_535
+    };
+}
+
+pub(crate) use {longest, nesting, stored_content};
 
 /// The most bytes a document may have.
 pub const LONGEST: usize = longest!();
+/// The most bytes that a stored form may have: a tag, a length of two bytes, and the widest content.
+pub const LONGEST_STORED: usize = 3 + stored_content!();
 /// The most containers one inside another.
 pub const NESTING: usize = nesting!();
 /// A lent room counts for no more than this: a table for so many rows, a text room and an output for so many bytes.

@@ -83,6 +83,26 @@ mod linked {
             first: *mut usize,
             second: *mut usize,
         ) -> u32;
+        pub fn yay_store(
+            table: *const u32,
+            words: usize,
+            rows: usize,
+            text: *const u8,
+            text_len: usize,
+            out: *mut u8,
+            out_len: usize,
+            count: *mut usize,
+        ) -> u32;
+        pub fn yay_load(
+            stored: *const u8,
+            stored_len: usize,
+            table: *mut u32,
+            table_words: usize,
+            text: *mut u8,
+            text_len: usize,
+            first: *mut usize,
+            second: *mut usize,
+        ) -> u32;
     }
 }
 
@@ -216,6 +236,48 @@ pub fn overlay(lower: Lent, upper: Lent, table: &mut [u32], text: &mut [u8]) -> 
             upper.1,
             upper.2.as_ptr(),
             upper.2.len(),
+            table.as_mut_ptr(),
+            words,
+            text.as_mut_ptr(),
+            bytes,
+            &mut first,
+            &mut second,
+        )
+    };
+    (number, first, second)
+}
+
+/// 0 and the bytes stored; or the number, and the bytes needed or 0.
+pub fn store((table, rows, text): Lent, out: &mut [u8]) -> (u32, usize) {
+    let mut count = 0;
+    let room = out.len();
+    // SAFETY: each pointer and length is that of a live slice, the output is borrowed by this call alone, and the answer
+    // is apart from all of them.
+    let number = unsafe {
+        linked::yay_store(
+            table.as_ptr(),
+            table.len(),
+            rows,
+            text.as_ptr(),
+            text.len(),
+            out.as_mut_ptr(),
+            room,
+            &mut count,
+        )
+    };
+    (number, count)
+}
+
+/// 0, rows and text bytes; or the number, the rows or bytes needed or 0, and 0.
+pub fn load(stored: &[u8], table: &mut [u32], text: &mut [u8]) -> (u32, usize, usize) {
+    let (mut first, mut second) = (0, 0);
+    let (words, bytes) = (table.len(), text.len());
+    // SAFETY: each pointer and length is that of a live slice, the two lent for writing are borrowed by this call alone,
+    // and the two answers are apart from each other and from all of them.
+    let number = unsafe {
+        linked::yay_load(
+            stored.as_ptr(),
+            stored.len(),
             table.as_mut_ptr(),
             words,
             text.as_mut_ptr(),

@@ -110,13 +110,14 @@ impl<'a> Tree<'a> {
         Kind::from_code(self.words(row)?[0]).ok_or(Number::BadRow)
     }
 
-    /// Where the row stands in the document: its first place, and the one after its last.
+    /// Where the row stands in the document, or in the stored bytes that were loaded: its first place, and the one after
+    /// its last.
     pub fn span(&self, row: Row) -> Result<Range<Place>, Number> {
         let words = self.words(row)?;
         Ok(Place(words[1] as usize)..Place(words[2] as usize))
     }
 
-    /// The line in which the row begins, from 1.
+    /// The line in which the row begins, from 1; 0 in a tree that was loaded or laid over another.
     ///
     /// ```
     /// let document = yay::Document::read("# Cold store\n\"Größe\": [1, 22]\n".as_bytes())?;
@@ -130,7 +131,7 @@ impl<'a> Tree<'a> {
         Ok(self.words(row)?[7] as usize)
     }
 
-    /// The column in which the row begins, from 1, in characters: one of several bytes is one.
+    /// The column in which the row begins, from 1, in characters: one of several bytes is one; 0 as the line.
     pub fn column(&self, row: Row) -> Result<usize, Number> {
         Ok(self.words(row)?[8] as usize)
     }

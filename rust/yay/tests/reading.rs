@@ -86,10 +86,10 @@ fn errors_are_errors() {
 
 #[test]
 fn numbers_and_kinds_by_code() {
-    for code in 1..=11 {
+    for code in 1..=16 {
         assert_eq!(Number::from_code(code).map(Number::code), Some(code));
     }
-    assert_eq!((Number::from_code(0), Number::from_code(12)), (None, None));
+    assert_eq!((Number::from_code(0), Number::from_code(17)), (None, None));
     assert_eq!((Kind::from_code(10), Kind::from_code(0), Kind::from_code(11)), (Some(Kind::Key), None, None));
 }
 

@@ -27,7 +27,8 @@ fn in_the_house_style() {
     }
 }
 
-/// All vectors, where YAY_WRITTEN names their file: hex of a document, a tab, and of what is written.
+/// All vectors, where YAY_WRITTEN names their file: hex of a document, of what is written, and of what is stored,
+/// with tabs between.
 #[test]
 fn vectors() {
     let Ok(path) = std::env::var("YAY_WRITTEN") else { return };
@@ -36,7 +37,8 @@ fn vectors() {
     };
     let file = std::fs::read_to_string(path).expect("the vectors");
     for line in file.lines() {
-        let (doc, wanted) = line.split_once('\t').expect("a tab");
+        let (doc, rest) = line.split_once('\t').expect("a tab");
+        let wanted = rest.split_once('\t').expect("another").0;
         let document = Document::read(&bytes(doc)).expect("a document");
         assert_eq!(document.written(), Ok(bytes(wanted)), "{doc}");
     }

@@ -2,7 +2,7 @@
 
 mod keys;
 mod results;
-mod rooms;
+pub(super) mod rooms;
 mod values;
 
 use crate::compare::overlaying::Lays;
@@ -12,13 +12,13 @@ use crate::second::sound::{sound, used};
 use crate::second::WORDS;
 use keys::KEYS;
 use results::RESULTS;
-use rooms::{FILLINGS, TELLINGS};
+use rooms::{FILLINGS, REFUSALS, TELLINGS};
 use values::VALUES;
 
 /// How a result that was laid is spoilt; the two sources are at hand.
 type Spoil = fn(&mut Laid, &Lent, &Lent);
 /// How a result is put into rooms.
-type Fill = fn(&Result<Laid, u32>, &mut [u32], &mut [u8]) -> Told;
+pub(super) type Fill = fn(&Result<Laid, u32>, &mut [u32], &mut [u8]) -> Told;
 
 /// A second overlay by other rules, that spoils its result, or that fills rooms otherwise.
 struct Faulty {
@@ -65,7 +65,8 @@ fn filled(lent: &Lent) -> bool {
 pub fn faults() -> Vec<(&'static str, Box<dyn Lays>)> {
     let by_rules = VALUES.iter().chain(&KEYS).chain(&TESTS).map(|&(name, rules)| (name, Faulty { rules, ..GOOD }));
     let by_result = RESULTS.iter().map(|&(name, spoil)| (name, Faulty { spoil, ..GOOD }));
-    let by_filling = FILLINGS.iter().chain(&TELLINGS).map(|&(name, fill)| (name, Faulty { fill, ..GOOD }));
+    let by_filling =
+        FILLINGS.iter().chain(&REFUSALS).chain(&TELLINGS).map(|&(name, fill)| (name, Faulty { fill, ..GOOD }));
     let all = by_rules.chain(by_result).chain(by_filling);
     all.map(|(name, faulty)| (name, Box::new(faulty) as Box<dyn Lays>)).collect()
 }

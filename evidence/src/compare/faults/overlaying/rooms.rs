@@ -10,13 +10,9 @@ fn needs(laid: &Result<Laid, u32>) -> Option<(usize, usize)> {
 }
 
 /// Other ways to put a result into rooms, and to tell it.
-pub const FILLINGS: [(&str, Fill); 16] = [
+pub const FILLINGS: [(&str, Fill); 13] = [
     ("ROWS comes after TEXT", |laid, table, text| match needs(laid) {
         Some((_, bytes)) if bytes > text.len() => (TEXT, bytes, 0),
-        _ => fill(laid, table, text),
-    }),
-    ("ROWS comes before CLASH", |laid, table, text| match laid {
-        Err(CLASH) if table.is_empty() => (ROWS, 1, 0),
         _ => fill(laid, table, text),
     }),
     ("the rows needed are one too few", |laid, table, text| match fill(laid, table, text) {
@@ -68,18 +64,6 @@ pub const FILLINGS: [(&str, Fill); 16] = [
         }
         said
     }),
-    ("a target is touched before a clash is met", |laid, table, text| {
-        if let (Err(CLASH), Some(byte)) = (laid, text.first_mut()) {
-            *byte = 0;
-        }
-        fill(laid, table, text)
-    }),
-    ("a target is touched before a table is tested", |laid, table, text| {
-        if let (Err(BADROW), Some(word)) = (laid, table.first_mut()) {
-            *word = 9;
-        }
-        fill(laid, table, text)
-    }),
     ("a word behind the rows is written", |laid, table, text| {
         let said = fill(laid, table, text);
         if let (0, Some(word)) = (said.0, table.get_mut(said.1 * WORDS)) {
@@ -93,6 +77,26 @@ pub const FILLINGS: [(&str, Fill); 16] = [
             *byte = 0;
         }
         said
+    }),
+];
+
+/// Refusals that touch a target, or are told too late.
+pub const REFUSALS: [(&str, Fill); 3] = [
+    ("ROWS comes before CLASH", |laid, table, text| match laid {
+        Err(CLASH) if table.is_empty() => (ROWS, 1, 0),
+        _ => fill(laid, table, text),
+    }),
+    ("a target is touched before a clash is met", |laid, table, text| {
+        if let (Err(CLASH), Some(byte)) = (laid, text.first_mut()) {
+            *byte = 0;
+        }
+        fill(laid, table, text)
+    }),
+    ("a target is touched before a table is tested", |laid, table, text| {
+        if let (Err(BADROW), Some(word)) = (laid, table.first_mut()) {
+            *word = 9;
+        }
+        fill(laid, table, text)
     }),
 ];
 

@@ -1,0 +1,50 @@
+-- `head` writes a field's tag and length.
+use Rattle.fields.specs.Fields.{three}
+use borrow.Author.Needs.{needs}
+use Rattle.fields.proofs.head.Statement.{statement}
+use Rattle.fields.proofs.head.Tie as tie
+
+cast-put-byte : tie.Need-cast-put-byte
+cast-put-byte c = search needs
+
+put-byte-requires : tie.Need-put-byte-requires
+put-byte-requires c κs = search needs
+
+add-put-byte : tie.Need-add-put-byte
+add-put-byte c = search needs
+
+cast-put-byte-2 : tie.Need-cast-put-byte-2
+cast-put-byte-2 c = search needs
+
+put-byte-requires-2 : tie.Need-put-byte-requires-2
+put-byte-requires-2 c κs = search needs
+
+add-put-byte-2 : tie.Need-add-put-byte-2
+add-put-byte-2 c = search needs
+
+cast-put-byte-3 : tie.Need-cast-put-byte-3
+cast-put-byte-3 c = search needs
+
+put-byte-requires-3 : tie.Need-put-byte-requires-3
+put-byte-requires-3 c κs = search needs
+
+same-length : tie.Need-same-length
+same-length c = search needs
+
+returns : tie.Need-returns
+returns c = search (three, needs)
+
+pub head-spec : {M : Type 1} → statement M
+head-spec =
+    tie.close
+    (tie.spec
+    cast-put-byte
+    put-byte-requires
+    add-put-byte
+    cast-put-byte-2
+    put-byte-requires-2
+    add-put-byte-2
+    cast-put-byte-3
+    put-byte-requires-3
+    same-length
+    returns)
