@@ -12,7 +12,8 @@ use Rattle.language.specs.Answered.{limit, REPEAT, ROWS, TEXT, Answered, Totals
 use Rattle.repeats.specs.declared.Repeat.{Repeat}
 use Rattle.repeats.specs.declared.Repeat.the-variants.{At, Nowhere}
 use Rattle.repeats.specs.Stands.{Stands}
-use Rattle.places.specs.Log.{Log, Told}
+use Rattle.places.specs.Places.{Placed}
+use Rattle.places.specs.Log.{Log, Told, log-placed, log-told}
 use Rattle.language.specs.Lines.{linesOf}
 use Rattle.lined.specs.Lined.{Ranked, lined}
 use Rattle.answers.specs.Counted.{Counted, counted-repeat, counted-rows, counted-bytes, counted-ranked, counted-all, counted-total}
@@ -28,6 +29,7 @@ module _ (goal l w : List ℕ) (i n : ℕ) (inv : goal ≡ sets l i (slice i n w
 -- ROOMS OF OUR OWN hold the n rows and the m text bytes of the document's tree, which has z escapes and whose keys are noted
 pub record Held (doc keys R T : List ℕ) (n m z : ℕ) : Type 0 where
   pub log : Log doc keys
+  pub short : length doc ≤ limit
   pub row : n ≡ size (log .tree)
   pub text-count : m ≡ length (textOf (log .tree))
   pub escape-count : z ≡ escapesOf (log .tree)
@@ -48,17 +50,20 @@ module _ {doc keys R T : List ℕ} {n m z : ℕ} (f : Held doc keys R T n m z) w
 
 -- ---- what `answer` shows
 
+pub answer-placed : (doc keys R T : List ℕ) (n m z : ℕ) → Held doc keys R T n m z → Placed doc keys (getD keys 0 0)
+answer-placed doc keys R T n m z f = log-placed doc keys (f .log)
+
 module _ (doc keys R T : List ℕ) (n m z : ℕ) (f : Held doc keys R T n m z) (a : Repeat) (h : Told doc keys a) where
   counted : Counted doc n m z a
   counted =
       record {
         tree = f .log .tree;
-        short = f .log .short;
+        short = f .short;
         word = f .log .word;
         row = f .row;
         text-count = f .text-count;
         escape-count = f .escape-count;
-        names = h (f .log);
+        names = log-told doc keys (f .log) a h;
       }
 
   pub answer-total : a ≡ Nowhere → Totals doc 0 z

@@ -2,7 +2,7 @@
 use mathlib.Core.Path.{_≡_, refl}
 use mathlib.Core.List.{List}
 use mathlib.Core.Bool.{Bool, true, false}
-use Prim.Native.Nat.{ℕ, _+_, _/_, _≤_, _<_}
+use Prim.Native.Nat.{ℕ, _+_, _*_, _/_, _≤_, _<_}
 use native.Mathlib.Omega.{arith}
 use lib.ListN.{length, getD, set}
 use borrow.Author.Needs.{needs}
@@ -103,7 +103,7 @@ pub record Joined (doc keys order marks : List ℕ) (i : ℕ) (r : Bool) : Type 
   pub ranked : r ≡ false → Ranked (nameOf (placeKeys doc keys)) order (i + 1)
 
 module _ (doc keys order marks : List ℕ) (i : ℕ) (w : Joining doc keys order marks i) where
-  pub join-room : i + 1 < length keys
+  pub join-room : 4 + 2 * i + 1 < length keys
   join-room = omega (arith, w .held .placed .room, w .low)
 
   pub join-low : i < length marks
@@ -163,7 +163,7 @@ module _ (doc keys : List ℕ) (n : ℕ) where
     pub sorting-joining : i < n → Joining doc keys order marks i
     sorting-joining l = record { n = n; low = l; held = x .held; ranked = x .ranked; room = x .room }
 
-    pub sorting-room : i < n → i + 1 < length keys
+    pub sorting-room : i < n → 4 + 2 * i + 1 < length keys
     sorting-room l = omega (arith, x .held .placed .room)
 
     pub sorting-few : i < n → i < 8192

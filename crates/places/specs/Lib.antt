@@ -1,5 +1,6 @@
 pub mod Places
 pub mod Pieces
+pub mod Chosen
 pub mod Words
 pub mod Spots
 pub mod Log

@@ -257,8 +257,8 @@ module _ (doc : List ℕ) (a b : ℕ) where
 pub record Compared (doc keys marks : List ℕ) (i k : ℕ) : Type 0 where
   pub one : Keyed doc (placeAt keys i)
   pub two : Keyed doc (placeAt keys k)
-  pub room : i + 1 < length keys
-  pub room₂ : k + 1 < length keys
+  pub room : 4 + 2 * i + 1 < length keys
+  pub room₂ : 4 + 2 * k + 1 < length keys
   pub low : i < length marks
   pub low₂ : k < length marks
   pub mark-is : getD marks i 0 ≡ markOf (placeKeys doc keys) i

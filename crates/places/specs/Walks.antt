@@ -2,7 +2,7 @@
 use mathlib.Core.Path.{_≡_, refl, sym, ap, subst, _∙_}
 use mathlib.Core.List.{List}
 use mathlib.Core.Bool.{Bool, true, false}
-use Prim.Native.Nat.{ℕ, _+_, _-_, _≤_, _<_}
+use Prim.Native.Nat.{ℕ, _+_, _*_, _-_, _≤_, _<_}
 use native.Mathlib.Omega.{arith}
 use native.Mathlib.Decide.{ℕ-discrete}
 use lib.ListN.{length, getD, set, replicate, length-replicate}
@@ -90,7 +90,7 @@ pub record Chained (doc keys heads links marks : List ℕ) (i : ℕ) (r : Walk) 
   pub tells : Walks (Earlier (placeKeys doc keys) i) r
 
 module _ (doc keys heads links marks : List ℕ) (i : ℕ) (w : Chaining doc keys heads links marks i) where
-  pub chained-room : i + 1 < length keys
+  pub chained-room : 4 + 2 * i + 1 < length keys
   chained-room = omega (arith, w .held .placed .room, w .low)
 
   pub chained-low : i < length marks
@@ -193,7 +193,7 @@ module _ (doc keys : List ℕ) (n : ℕ) where
     pub passed-chaining : i < n → Chaining doc keys heads links marks i
     passed-chaining l = record { n = n; low = l; held = x .held; noting = record { room = omega (arith, x .room); chains = x .chains; key = tt } }
 
-    pub passed-room : i < n → i + 1 < length keys
+    pub passed-room : i < n → 4 + 2 * i + 1 < length keys
     passed-room l = omega (arith, x .held .placed .room)
 
     pub passed-few : i < n → i < 8192

@@ -1,31 +1,32 @@
 // Repeated keys, found by their places: the keys noted of a document stand in chains; where a chain grows long, in the order of their names.
-ghost use mathlib.Core.Path.{_≡_};
 ghost use Prim.Native.Nat.{_≤_, _<_};
+ghost use lib.ListN.{getD};
 ghost use Rattle.repeats.specs.Numbering.{Same};
 ghost use Rattle.repeats.specs.Walk.{Walks};
 ghost use Rattle.repeats.specs.Links.{Met};
 ghost use Rattle.repeats.specs.Later.{Names, Later};
 ghost use Rattle.places.specs.Places.{placeKeys, Placed};
 ghost use Rattle.places.specs.Walks.{Walkable, Chaining, Chained, Starting};
-ghost use Rattle.places.specs.Log.{Log, Told};
+ghost use Rattle.places.specs.Log.{Told};
 
 mod names;
 mod sorted;
 mod spelling;
 
-use language::LIMIT;
 use names::marks_of;
 use names::object_of;
 use names::place_of;
 use names::same_key;
+use notes::NOTED;
+use notes::log_word;
 use repeats::Repeat;
 use repeats::Walk;
 use repeats::chain_of;
 use repeats::word;
 use sorted::sorted;
 
-// Four bytes or more of a document belong to each key.
-pub const MOST: usize = LIMIT / 4;
+// So many keys are looked through at a time; the stack has room for no more. Of more keys, every two halves of so many are.
+pub const MOST: usize = 6560;
 
 // Links and marks are cleared first, so few keys and some have fewer of them.
 const FEW: usize = 512;
@@ -129,7 +130,7 @@ fn among_some(doc: &[u8], keys: &[u32], n: usize) -> Repeat
     repeated(&*doc, &*keys, &mut heads, &mut links, &mut marks, n)
 }
 
-// The same over links for as many keys as a document can have.
+// The same over links for as many keys as are looked through at a time.
 fn among_all(doc: &[u8], keys: &[u32], n: usize) -> Repeat
     requires { ⌜ Placed (now doc) (now keys) n ⌝ }
     ensures { λ r. ⌜ Names (Later (placeKeys (now (doc .entry)) (now (keys .entry))) n) r ⌝ }
@@ -164,10 +165,10 @@ fn by_class(doc: &[u8], keys: &[u32], n: usize, class: usize) -> Repeat
 
 // The least place of a key noted that is the same as an earlier one of its object. One key alone is not marked, since its text would be read again for it.
 pub fn first_again(doc: &[u8], keys: &[u32]) -> Repeat
-    requires { ⌜ Log (now doc) (now keys) ⌝ }
+    requires { ⌜ Placed (now doc) (now keys) (getD (now keys) 0 0) ⌝ }
     ensures { λ r. ⌜ Told (now (doc .entry)) (now (keys .entry)) r ⌝ }
 {
-    let n = keys[0] as usize;
+    let n = log_word(&*keys, NOTED);
     if n < 2 {
         return Repeat::Nowhere;
     }

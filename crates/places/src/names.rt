@@ -1,6 +1,6 @@
 // What keys are told apart by: their marks, their objects, and their texts where both agree.
 ghost use mathlib.Core.Path.{_≡_};
-ghost use Prim.Native.Nat.{_+_, _<_};
+ghost use Prim.Native.Nat.{_+_, _*_, _<_};
 ghost use lib.ListN.{length};
 ghost use Rattle.exact.specs.Tells.{Tells};
 ghost use Rattle.repeats.specs.Mark.{marked};
@@ -14,7 +14,8 @@ use super::spelling::next;
 use characters::Reading;
 use characters::Took;
 use characters::is_key;
-use notes::PLACES;
+use notes::FIRST;
+use notes::log_word;
 use repeats::Order;
 use repeats::stirred;
 use rooms::Cursor;
@@ -27,18 +28,18 @@ pub struct Marks {
 
 // The row of the object of the i-th key noted.
 pub fn object_of(keys: &[u32], i: usize) -> usize
-    requires { ⌜ i + 1 < length (now keys) ⌝ }
+    requires { ⌜ 4 + 2 * i + 1 < length (now keys) ⌝ }
     ensures { λ r. ⌜ (r ≡ objectAt (now (keys .entry)) i) × (r < 4294967296) ⌝ }
 {
-    keys[i + 1] as usize / PLACES
+    log_word(&*keys, FIRST + 2 * i)
 }
 
 // The place where it begins.
 pub fn place_of(keys: &[u32], i: usize) -> usize
-    requires { ⌜ i + 1 < length (now keys) ⌝ }
+    requires { ⌜ 4 + 2 * i + 1 < length (now keys) ⌝ }
     ensures { λ r. ⌜ r ≡ placeAt (now (keys .entry)) i ⌝ }
 {
-    keys[i + 1] as usize % PLACES
+    log_word(&*keys, FIRST + 2 * i + 1)
 }
 
 // A byte more in a mark: twice the mark so far plus that byte, wrapping.

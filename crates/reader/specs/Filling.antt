@@ -1,9 +1,9 @@
 -- HOW THE ANSWER FOLLOWS where a document was read into rooms of our own, whose rows may be too few. Assumes nothing.
 use mathlib.Core.Path.{_≡_, refl, sym, subst, _∙_}
 use mathlib.Core.List.{List}
-use Prim.Native.Nat.{ℕ, suc, _*_, _≤_}
+use Prim.Native.Nat.{ℕ, _+_, _*_, _≤_, _<_}
 use native.Mathlib.Omega.{arith}
-use lib.ListN.{length, replicate, length-replicate}
+use lib.ListN.{length, getD, replicate, length-replicate}
 use Rattle.rooms.specs.declared.Cursor.{Cursor}
 use Rattle.rooms.specs.declared.Ans.{Ans}
 use Rattle.rooms.specs.declared.Ans.the-variants.{Ok}
@@ -19,10 +19,10 @@ use Rattle.notes.specs.Flat.{flat}
 use Rattle.notes.specs.Notes.{Kept}
 use Rattle.repeats.specs.Stands.{Stands, stands-sets}
 use Rattle.places.specs.Places.{most-keys}
+use Rattle.places.specs.Log.{windowed, room-first, holds-whole}
 use Rattle.answers.specs.Held.{Held}
 use Rattle.judge.specs.Blamed.{Blamed}
 use Rattle.judge.specs.Contract.{Known, Checked, Filled, Logged}
-use Rattle.reader.specs.Count.{count-rows, few-noted}
 use Rattle.reader.specs.Judged.{accepts, answer-stop, stop-total}
 
 -- few bytes, and some
@@ -32,31 +32,36 @@ few-bytes = 1024
 abbrev pub some-bytes : ℕ
 some-bytes = 16384
 
--- the document is within the limit; no key is noted in the log; the text room of our own is large enough for any of so many bytes, and the table has no more rows than the log has words for keys
+-- the document is within the limit; no key is noted in the log; the text room of our own is large enough for any of so many bytes
 pub record Texted (doc K R T : List ℕ) : Type 0 where
   pub words : ℕ
+  pub keys : ℕ
   pub short : length doc ≤ limit
-  pub empty : K ≡ replicate (suc words) 0
-  pub small : words ≤ most-keys
-  pub rows-few : length R ≤ width * words
+  pub empty : K ≡ replicate words 0
+  pub halves : words ≡ 4 + 4 * keys
+  pub some : 0 < keys
+  pub small : keys + keys ≤ most-keys
   pub text-fits : length doc ≤ length T
 
-pub texted : (doc : List ℕ) (words rows bytes : ℕ) → length doc ≤ limit → words ≤ most-keys → rows ≡ width * words → length doc ≤ bytes
-    → Texted doc (replicate (suc words) 0) (replicate rows 0) (replicate bytes 0)
-texted doc words rows bytes l k e h =
+pub texted : (doc : List ℕ) (keys words rows bytes : ℕ) → length doc ≤ limit → words ≡ 4 + 4 * keys → 0 < keys → keys + keys ≤ most-keys → length doc ≤ bytes
+    → Texted doc (replicate words 0) (replicate rows 0) (replicate bytes 0)
+texted doc keys words rows bytes l e p k h =
     record {
       words = words;
+      keys = keys;
       short = l;
       empty = refl;
+      halves = e;
+      some = p;
       small = k;
-      rows-few = omega (arith, length-replicate {A = ℕ} rows 0);
       text-fits = omega (arith, length-replicate {A = ℕ} bytes 0);
     }
 
--- n rows, m text bytes and z escapes were read into rooms of our own, which hold them if there are rows enough
+-- n rows, m text bytes and z escapes were read into rooms of our own, which hold them if there are rows enough and no key was left out of the log
 pub record Read (doc K R T : List ℕ) (n m z : ℕ) : Type 0 where
   pub few : n ≤ limit
-  pub held : width * n ≤ length R → Held doc K R T n m z
+  pub four : 3 < length K
+  pub held : width * n ≤ length R → getD K 3 0 ≡ 0 → Held doc K R T n m z
 
 -- AN ATTEMPT: the answer; or the rows of our own are too few, and nothing lent is changed
 unfoldable pub Attempted : List ℕ → List ℕ → List ℕ → Tried → List ℕ → List ℕ → Type 0
@@ -76,22 +81,15 @@ reads doc K K' R R' T T' a c m z p q f x e w o u v =
     let k = few-text deepest doc t d in
     let l = f .short in
     let j = f .text-fits in
-    let b = f .rows-few in
+    let b = windowed doc (replicate (f .words) 0) K' (flat 0 0 t) (f .keys) 0 (f .keys) 0 (room-first (f .words) (f .keys) (f .halves)) (f .some) (f .small) (omega arith) l
+    (subst (λ (S : List ℕ). Kept doc 0 (flat 0 0 t) (length doc) S K') (f .empty) (o .logged t (g .is))) in
     record {
       few = omega (arith, g .row);
-      held = λ i.
+      four = omega (arith, b .long);
+      held = λ i w.
           record {
-            log =
-                record {
-                  tree = t;
-                  words = f .words;
-                  short = l;
-                  word = d;
-                  kept = subst (λ (S : List ℕ). Kept doc 0 (flat 0 0 t) (length doc) S K') (f .empty) (o .logged t (g .is));
-                  small = f .small;
-                  fits = omega (arith, g .row, count-rows 0 0 t);
-                  few = few-noted deepest doc t d;
-                };
+            log = record { tree = t; word = d; holds = holds-whole doc K' (flat 0 0 t) (f .keys) b w };
+            short = l;
             row = g .row;
             text-count = p ∙ g .text;
             escape-count = q ∙ g .escapes;
@@ -103,8 +101,11 @@ reads doc K K' R R' T T' a c m z p q f x e w o u v =
           };
     }
 
-pub read-holds : (doc K R T : List ℕ) (n m z : ℕ) → Read doc K R T n m z → width * n ≤ length R → Held doc K R T n m z
-read-holds doc K R T n m z f i = f .held i
+pub read-holds : (doc K R T : List ℕ) (n m z : ℕ) → Read doc K R T n m z → width * n ≤ length R → (v : ℕ) → v ≡ getD K 3 0 → v ≤ 0 → Held doc K R T n m z
+read-holds doc K R T n m z f i v e l = f .held i (omega arith)
+
+pub read-four : (doc K R T : List ℕ) (n m z : ℕ) → Read doc K R T n m z → 3 < length K
+read-four doc K R T n m z f = f .four
 
 module _ (doc table text : List ℕ) where
   pub attempt-stop : (a : Answer) → length doc ≤ limit → Blamed doc a → Attempted doc table text (Settled a) table text

@@ -1,4 +1,5 @@
 pub mod Judged
 pub mod Filling
-pub mod Count
+pub mod Cuts
+pub mod Windows
 pub mod Lent

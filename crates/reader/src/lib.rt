@@ -4,6 +4,9 @@ ghost use lib.ListN.{length};
 ghost use Rattle.language.specs.Answered.{number, value, second, third, Answered, Totals, limit};
 ghost use Rattle.reader.specs.Filling.{few-bytes, some-bytes, Texted, Read, Attempted};
 ghost use Rattle.reader.specs.Lent.{Passed};
+
+mod windows;
+
 use answers::answer;
 use judge::blame;
 use judge::check;
@@ -15,10 +18,13 @@ use language::Place;
 use language::Row;
 use language::WIDTH;
 use lined::line_up;
+use notes::FIRST;
+use notes::LEFT;
+use notes::log_word;
 use places::MOST;
-use places::first_again;
 use repeats::Repeat;
 use rooms::Ans;
+use windows::first_repeat;
 
 // Rooms of our own are cleared first, and stand on the stack: so they are small, and smaller for documents of few bytes. These have a row for two bytes, as `- - 1` needs; those for some bytes
 // have fewer, and a document with more rows, or with more bytes, is read into the rooms lent.
@@ -80,6 +86,9 @@ fn settled(
     if rows.len() < WIDTH * n {
         return Tried::TooFew;
     }
+    if 0 < log_word(&*keys, LEFT) {
+        return Tried::TooFew;
+    }
     Tried::Settled(answer(&*doc, &*keys, &*rows, &*bytes, n, m, escapes, table, text))
 }
 
@@ -88,7 +97,7 @@ fn of_few_bytes(doc: &[u8], table: &mut [u32], text: &mut [u8]) -> Tried
     requires { ⌜ length (now doc) ≤ few-bytes ⌝ }
     ensures { λ r. ⌜ Attempted (now (doc .entry)) (now (table .entry)) (now (text .entry)) r (now (table .exit)) (now (text .exit)) ⌝ }
 {
-    let mut keys = [0u32; FEW / 2 + 1];
+    let mut keys = [0u32; FIRST + FEW / 2];
     let mut rows = [0u32; WIDTH * (FEW / 2)];
     let mut bytes = [0u8; FEW];
     attempt(&*doc, &mut keys, &mut rows, &mut bytes, table, text)
@@ -98,7 +107,7 @@ fn of_some_bytes(doc: &[u8], table: &mut [u32], text: &mut [u8]) -> Tried
     requires { ⌜ length (now doc) ≤ some-bytes ⌝ }
     ensures { λ r. ⌜ Attempted (now (doc .entry)) (now (table .entry)) (now (text .entry)) r (now (table .exit)) (now (text .exit)) ⌝ }
 {
-    let mut keys = [0u32; ROWS + 1];
+    let mut keys = [0u32; FIRST + ROWS];
     let mut rows = [0u32; WIDTH * ROWS];
     let mut bytes = [0u8; SOME];
     attempt(&*doc, &mut keys, &mut rows, &mut bytes, table, text)
@@ -118,7 +127,7 @@ fn filled(
     ensures { λ r. ⌜ Answered (now (doc .entry)) (now (table .entry)) (now (text .entry)) (number r) (value r) (second r) (now (table .exit)) (now (text .exit)) ⌝ }
     ensures { λ r. ⌜ Totals (now (doc .entry)) (number r) (third r) ⌝ }
 {
-    match first_again(&*doc, &*keys) {
+    match first_repeat(&*doc, keys) {
         Repeat::At(p) => {
             return Answer::Repeat(Place(p));
         }
@@ -141,7 +150,7 @@ fn of_many_bytes(doc: &[u8], table: &mut [u32], text: &mut [u8]) -> Answer
     ensures { λ r. ⌜ Answered (now (doc .entry)) (now (table .entry)) (now (text .entry)) (number r) (value r) (second r) (now (table .exit)) (now (text .exit)) ⌝ }
     ensures { λ r. ⌜ Totals (now (doc .entry)) (number r) (third r) ⌝ }
 {
-    let mut keys = [0u32; MOST + 1];
+    let mut keys = [0u32; FIRST + 2 * MOST];
     match check(&*doc, table, text, &mut keys, DEEPEST) {
         Ans::No(p) => blame(&*doc, table, text, p),
         Ans::Ok(c) => filled(&*doc, &mut keys, c.row, c.spot(), c.tally(), table, text),

@@ -1,12 +1,12 @@
 -- `answer` meets its contract.
 use native.Mathlib.Omega.{arith}
 use borrow.Author.Needs.{needs}
-use Rattle.answers.specs.Held.{answer-repeat, answer-rows, answer-bytes, answer-ranked, answer-all, answer-total, no-total}
+use Rattle.answers.specs.Held.{answer-placed, answer-repeat, answer-rows, answer-bytes, answer-ranked, answer-all, answer-total, no-total}
 use Rattle.answers.proofs.answer.Statement.{statement}
 use Rattle.answers.proofs.answer.Tie as tie
 
 first-again-requires : tie.Need-first-again-requires
-first-again-requires c κs = search (needs)
+first-again-requires c κs = search (answer-placed, needs)
 
 enum-known-p : tie.Need-enum-known-p
 enum-known-p c = search needs

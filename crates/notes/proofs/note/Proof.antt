@@ -1,67 +1,77 @@
--- `note` notes one key more, where the room has a word for it. Assumes nothing.
-use native.Mathlib.Omega.{arith}
-use borrow.Author.Needs.{needs}
-use Rattle.notes.specs.Noted.{write-first, note-empty, note-fits, note-full}
+-- `note` notes one key more, passes it by, or counts that there is no room for it. Assumes nothing.
+use Rattle.notes.specs.Noted.{noting}
 use Rattle.notes.proofs.note.Statement.{statement}
 use Rattle.notes.proofs.note.Tie as tie
 
 returns : tie.Need-returns
-returns c = search (note-empty, needs)
+returns c = search noting
 
-slice-read-n : tie.Need-slice-read-n
-slice-read-n c = search needs
+log-word-requires : tie.Need-log-word-requires
+log-word-requires c κs = search noting
 
-cast-n : tie.Need-cast-n
-cast-n c = omega (arith, c .slice-known .given 0)
-
-add-n : tie.Need-add-n
-add-n c = omega (arith, c .slice-known .given 0)
-
-mul-keys : tie.Need-mul-keys
-mul-keys c = search needs
-
-add-keys : tie.Need-add-keys
-add-keys c = search needs
+sub-keys : tie.Need-sub-keys
+sub-keys c = search noting
 
 cast-keys : tie.Need-cast-keys
-cast-keys c = search needs
-
-mul-keys-2 : tie.Need-mul-keys-2
-mul-keys-2 c = search needs
+cast-keys c = search noting
 
 slice-write-keys : tie.Need-slice-write-keys
-slice-write-keys c = search needs
-
-cast-keys-2 : tie.Need-cast-keys-2
-cast-keys-2 c = search needs
-
-slice-write-keys-2 : tie.Need-slice-write-keys-2
-slice-write-keys-2 c = search (write-first, needs)
+slice-write-keys c = search noting
 
 same-length : tie.Need-same-length
-same-length c = search needs
+same-length c = search noting
 
 returns-2 : tie.Need-returns-2
-returns-2 c = search (note-fits, needs)
+returns-2 c = search noting
+
+log-word-requires-2 : tie.Need-log-word-requires-2
+log-word-requires-2 c κs = search noting
+
+mul-if3 : tie.Need-mul-if3
+mul-if3 c = search noting
+
+add-if3 : tie.Need-add-if3
+add-if3 c = search noting
+
+add-if3-2 : tie.Need-add-if3-2
+add-if3-2 c = search noting
+
+enter-requires : tie.Need-enter-requires
+enter-requires c κs = search noting
+
+same-length-2 : tie.Need-same-length-2
+same-length-2 c = search noting
 
 returns-3 : tie.Need-returns-3
-returns-3 c = search (note-full, needs)
+returns-3 c = search noting
+
+leave-requires : tie.Need-leave-requires
+leave-requires c κs = search noting
+
+same-length-3 : tie.Need-same-length-3
+same-length-3 c = search noting
+
+returns-4 : tie.Need-returns-4
+returns-4 c = search noting
 
 pub note-spec : {M : Type 1} → statement M
 note-spec =
     tie.close
     (tie.spec
     returns
-    slice-read-n
-    cast-n
-    add-n
-    mul-keys
-    add-keys
+    log-word-requires
+    sub-keys
     cast-keys
-    mul-keys-2
     slice-write-keys
-    cast-keys-2
-    slice-write-keys-2
     same-length
     returns-2
-    returns-3)
+    log-word-requires-2
+    mul-if3
+    add-if3
+    add-if3-2
+    enter-requires
+    same-length-2
+    returns-3
+    leave-requires
+    same-length-3
+    returns-4)

@@ -1,12 +1,12 @@
--- `filled` answers as the log of the keys and the rooms lent allow, and reads the document into them.
+-- `filled` answers as the first repeated key and the rooms lent allow, and reads the document into them.
 use borrow.Author.Needs.{needs}
 use Rattle.reader.specs.Judged.{no-total}
-use Rattle.reader.specs.Lent.{filled-repeat, filled-rows, filled-bytes, filled-ranked, filled-all, filled-total}
+use Rattle.reader.specs.Lent.{passed-begun, filled-repeat, filled-rows, filled-bytes, filled-ranked, filled-all, filled-total}
 use Rattle.reader.proofs.filled.Statement.{statement}
 use Rattle.reader.proofs.filled.Tie as tie
 
-first-again-requires : tie.Need-first-again-requires
-first-again-requires c κs = search needs
+first-repeat-requires : tie.Need-first-repeat-requires
+first-repeat-requires c κs = search (passed-begun, needs)
 
 enum-known-p : tie.Need-enum-known-p
 enum-known-p c = search needs
@@ -45,7 +45,9 @@ pass-requires : tie.Need-pass-requires
 pass-requires c κs = search needs
 
 line-up-requires : tie.Need-line-up-requires
-line-up-requires c κs = filled-ranked _ _ _ _ _ (c .before .before .before .before .before .before .before .before .before .before .before .before .before .before .before .before .before .before .before .before .before .pre) ((c .before .before .before .before .before .before .before .before .before .before .before .before .before .before .before .first-again) .result) ((c .before .before .before .before .before .before .before .before .before .before .before .before .before .before .before .first-again) .ensures) _ _ ((c .before .before .before .before .before .before .before .before .before .before .before .before .if1) .left) _ _ ((c .before .before .before .before .before .before .before .pass) .ensures .1 .0)
+line-up-requires c κs =
+    let told = (c .before .before .before .before .before .before .before .before .before .before .before .before .before .before .before .before .before .first-repeat) in
+    filled-ranked _ _ _ _ _ (c .before .before .before .before .before .before .before .before .before .before .before .before .before .before .before .before .before .before .before .before .before .before .before .pre) (told .result) (told .ensures) _ _ ((c .before .before .before .before .before .before .before .before .before .before .before .before .if1) .left) _ _ ((c .before .before .before .before .before .before .before .pass) .ensures .1 .0)
 
 same-length-4 : tie.Need-same-length-4
 same-length-4 c = search needs
@@ -63,7 +65,7 @@ pub filled-spec : {M : Type 1} → statement M
 filled-spec =
     tie.close
     (tie.spec
-    first-again-requires
+    first-repeat-requires
     enum-known-p
     same-length
     returns

@@ -1,25 +1,20 @@
--- `object_of` gives the row of the object that a word has. Assumes nothing.
-use native.Mathlib.Omega.{arith}
-use Prim.Native.Nat.{_+_}
+-- `object_of` gives the row of the object that a key's words have. Assumes nothing.
+use Rattle.places.specs.Places.{object-is}
 use borrow.Author.Needs.{needs}
 use Rattle.places.proofs.names.object_of.Statement.{statement}
 use Rattle.places.proofs.names.object_of.Tie as tie
 
-add-result : tie.Need-add-result
-add-result c = search needs
+mul-log-word : tie.Need-mul-log-word
+mul-log-word c = search needs
 
-mul-result : tie.Need-mul-result
-mul-result c = search needs
+add-log-word : tie.Need-add-log-word
+add-log-word c = search needs
 
-shared-slice-read-result : tie.Need-shared-slice-read-result
-shared-slice-read-result c = search needs
-
-cast-result : tie.Need-cast-result
-cast-result c = omega (arith, c .shared-slice-known .given (c .before .args .i + 1))
+log-word-requires : tie.Need-log-word-requires
+log-word-requires c κs = search needs
 
 returns : tie.Need-returns
-returns c = (search needs, omega (arith, c .shared-slice-known .given (c .before .args .i + 1)))
+returns c = search (object-is, needs)
 
 pub object-of-spec : {M : Type 1} → statement M
-object-of-spec =
-    tie.close (tie.spec add-result mul-result shared-slice-read-result cast-result returns)
+object-of-spec = tie.close (tie.spec mul-log-word add-log-word log-word-requires returns)
