@@ -8,7 +8,7 @@ use native.Mathlib.Decide.{decLe}
 use lib.ListN.{length, getD}
 use borrow.Author.Needs.{needs}
 use Rattle.notation.specs.Class.{Class, only}
-use Rattle.lined.specs.Counted.{hit, hit-one, hit-below, hit-above, hit-within}
+use Rattle.lined.specs.Counted.{range, hit, hit-one, hit-below, hit-above, hit-within}
 use Rattle.lined.specs.Between.{between, between-none, between-cut, between-more, between-less, between-most}
 
 -- m bytes of the class stand from a up to e
@@ -24,10 +24,20 @@ pub record Clear (c : Class) (doc : List ℕ) (a r : ℕ) : Type 0 where
   pub inside : r ≤ length doc
   pub clear : between c doc a r ≡ 0
 
--- and one at r, or the document's end
-pub record Next (c : Class) (doc : List ℕ) (a r : ℕ) : Type 0 where
+-- and one at r, if r is before e
+pub record Next (c : Class) (doc : List ℕ) (e a r : ℕ) : Type 0 where
   pub none : Clear c doc a r
-  pub found : r < length doc → hit c (getD doc r 0) ≡ 1
+  pub found : r < e → hit c (getD doc r 0) ≡ 1
+
+-- of the i bytes from a on no LF stands before the one at r
+pub record Near (doc : List ℕ) (a i r : ℕ) : Type 0 where
+  pub clear : (j : ℕ) → j ≤ i → j ≤ r → between (only 10) doc a (a + j) ≡ 0
+
+-- the first LF from a on is r away, or r is 32
+pub record Soon (doc : List ℕ) (a r : ℕ) : Type 0 where
+  pub inside : r < 32 → a + r ≤ length doc
+  pub clear : r < 32 → between (only 10) doc a (a + r) ≡ 0
+  pub here : r < 32 → hit (only 10) (getD doc (a + r) 0) ≡ 1
 
 -- i for a byte of the class, and o for any other
 pub record Spot (c : Class) (b i o r : ℕ) : Type 0 where
@@ -83,6 +93,32 @@ module _ (c : Class) (doc : List ℕ) where
   pub counting-all : (a i n m : ℕ) → Counting c doc a (a + i) m → i ≤ n → n ≤ i → m ≡ between c doc a (a + n)
   counting-all a i n m x h k = x .is ∙ ap (λ (j : ℕ). between c doc a (a + j)) (let z : i ≡ n = omega arith in z)
 
+  -- of the first n alone
+  pub some-none : (a n : ℕ) → a ≤ length doc → Counting c doc a (a + min 0 n) 0
+  some-none a n l = subst (λ (j : ℕ). Counting c doc a (a + j) 0) (let z : 0 ≡ min 0 n = omega arith in z) (counting-none a l)
+
+  pub some-byte : (a n i m h g k : ℕ) → Counting c doc a (a + min i n) m → a + i < length doc → h ≡ hit c (getD doc (a + i) 0) → g ≡ max n i → k ≡ min h (g - i)
+      → Counting c doc a (a + min (i + 1) n) (m + k)
+  some-byte a n i m h g k x l y u v = by (decLe n i)
+    where
+      by : Dec (n ≤ i) → Counting c doc a (a + min (i + 1) n) (m + k)
+      by (yes q) =
+          let z : min i n ≡ min (i + 1) n = omega arith in
+          let w : m ≡ m + k = omega arith in
+          subst (λ (o : ℕ). Counting c doc a (a + min (i + 1) n) o) w (subst (λ (j : ℕ). Counting c doc a (a + j) m) z x)
+      by (no q) =
+          let z : min i n ≡ i = omega arith in
+          let w : i + 1 ≡ min (i + 1) n = omega arith in
+          let o : h ≡ k = omega (arith, hit-one c (getD doc (a + i) 0)) in
+          subst (λ (t : ℕ). Counting c doc a (a + min (i + 1) n) (m + t)) o
+          (subst (λ (j : ℕ). Counting c doc a (a + j) (m + h)) w (counting-byte a i m h (subst (λ (j : ℕ). Counting c doc a (a + j) m) z x) l y))
+
+  pub some-all : (a n i m : ℕ) → Counting c doc a (a + min i n) m → n ≤ 32 → 32 ≤ i → m ≡ between c doc a (a + n)
+  some-all a n i m x h k = x .is ∙ ap (λ (j : ℕ). between c doc a (a + j)) (let z : min i n ≡ n = omega arith in z)
+
+  pub counted-to : (a e m : ℕ) → a ≤ e → m ≡ between c doc a (a + (e - a)) → m ≡ between c doc a e
+  counted-to a e m h x = x ∙ ap (between c doc a) (let z : a + (e - a) ≡ e = omega arith in z)
+
   -- of two parts
   pub halves : (a b e m n : ℕ) → a ≤ b → b ≤ e → e ≤ length doc → m ≡ between c doc a b → n ≡ between c doc b e → m + n ≡ between c doc a e
   halves a b e m n h k l y z = omega (arith, between-cut c doc a b e h k l)
@@ -97,11 +133,11 @@ module _ (c : Class) (doc : List ℕ) where
   clear-byte a i h x l y z =
       record { ahead = omega (arith, x .ahead); inside = omega arith; clear = omega (arith, x .clear, between-more c doc a i (x .ahead) l) }
 
-  pub next-here : (a i h : ℕ) → Clear c doc a i → h ≡ hit c (getD doc i 0) → 0 < h → Next c doc a i
-  next-here a i h x y z = record { none = x; found = λ _. omega (arith, hit-one c (getD doc i 0)) }
+  pub next-here : (e a i h : ℕ) → Clear c doc a i → h ≡ hit c (getD doc i 0) → 0 < h → Next c doc e a i
+  next-here e a i h x y z = record { none = x; found = λ _. omega (arith, hit-one c (getD doc i 0)) }
 
-  pub next-end : (a i : ℕ) → Clear c doc a i → length doc ≤ i → Next c doc a i
-  next-end a i x z = record { none = x; found = λ h. absurd (omega arith) }
+  pub next-end : (e a i : ℕ) → Clear c doc a i → e ≤ i → Next c doc e a i
+  next-end e a i x z = record { none = x; found = λ h. absurd (omega arith) }
 
   -- a byte more, and the whole block
   pub first-none : (a : ℕ) → First c doc a 0 64
@@ -165,8 +201,8 @@ module _ (c : Class) (doc : List ℕ) where
   pub first-all : (a i m : ℕ) → First c doc a i m → i ≤ 64 → 64 ≤ i → First c doc a 64 m
   first-all a i m x h k = subst (λ (j : ℕ). First c doc a j m) (let z : i ≡ 64 = omega arith in z) x
 
-  pub first-found : (a i k : ℕ) → Clear c doc a i → i + 64 ≤ length doc → First c doc i 64 k → k < 64 → Next c doc a (i + k)
-  first-found a i k x l f h =
+  pub first-found : (e a i k : ℕ) → Clear c doc a i → i + 64 ≤ length doc → First c doc i 64 k → k < 64 → Next c doc e a (i + k)
+  first-found e a i k x l f h =
       let g = f .some h in
       record {
         none = record { ahead = omega (arith, x .ahead); inside = omega arith; clear = omega (arith, x .clear, g .1, between-cut c doc a i (i + k) (x .ahead) (omega arith) (omega arith)) };
@@ -178,8 +214,8 @@ module _ (c : Class) (doc : List ℕ) where
       record { ahead = omega (arith, x .ahead); inside = l; clear = omega (arith, x .clear, f .all h, between-cut c doc a i (i + 64) (x .ahead) (omega arith) l) }
 
   -- behind a clear part
-  pub next-behind : (a b r : ℕ) → Clear c doc a b → Next c doc b r → Next c doc a r
-  next-behind a b r x y =
+  pub next-behind : (e a b r : ℕ) → Clear c doc a b → Next c doc e b r → Next c doc e a r
+  next-behind e a b r x y =
       let n = y .none in
       record { none = record { ahead = omega (arith, x .ahead, n .ahead); inside = n .inside; clear = omega (arith, x .clear, n .clear, between-cut c doc a b r (x .ahead) (n .ahead) (n .inside)) }; found = y .found }
 
@@ -196,6 +232,50 @@ module _ (c : Class) (doc : List ℕ) where
       by (no m) = omega arith
 
 module _ (doc : List ℕ) where
+  -- the least key: none before it
+  pub near-none : (a r : ℕ) → Near doc a 0 r
+  near-none a r = record { clear = λ j h k. ap (λ (i : ℕ). between (only 10) doc a i) (let z : a + j ≡ a = omega arith in z) ∙ between-none (only 10) doc a }
+
+  pub near-byte : (a i m k r : ℕ) → Near doc a i m → a + i < length doc → (getD doc (a + i) 0 ≡ 10 → k ≡ i) → r ≡ min k m → Near doc a (i + 1) r
+  near-byte a i m k r x l y t = record { clear = λ j g h. by j g h (decLe j i) (decLe 10 (getD doc (a + i) 0)) (decLe (getD doc (a + i) 0) 10) }
+    where
+      b : ℕ
+      b = getD doc (a + i) 0
+
+      past : (j : ℕ) → j ≡ i + 1 → i ≤ m → 0 ≡ hit (only 10) b → between (only 10) doc a (a + j) ≡ 0
+      past j e h z =
+          let u : a + i + 1 ≡ a + j = omega arith in
+          omega (arith, between-more (only 10) doc a (a + i) (omega arith) l, ap (between (only 10) doc a) u, x .clear i (omega arith) h)
+
+      by : (j : ℕ) → j ≤ i + 1 → j ≤ r → Dec (j ≤ i) → Dec (10 ≤ b) → Dec (b ≤ 10) → between (only 10) doc a (a + j) ≡ 0
+      by j g h (yes p) u v = x .clear j p (omega arith)
+      by j g h (no p) (yes u) (yes v) = absurd (let e = y (omega arith) in omega arith)
+      by j g h (no p) (no u) v = past j (omega arith) (omega arith) (hit-below 10 10 b (omega arith))
+      by j g h (no p) (yes u) (no v) = past j (omega arith) (omega arith) (hit-above 10 10 b (omega arith))
+
+  pub near-all : (a i m : ℕ) → Near doc a i m → i ≤ 32 → 32 ≤ i → Near doc a 32 m
+  near-all a i m x h k = subst (λ (j : ℕ). Near doc a j m) (let z : i ≡ 32 = omega arith in z) x
+
+  pub soon-not : (a : ℕ) → Soon doc a 32
+  soon-not a = record { inside = λ h. absurd (omega arith); clear = λ h. absurd (omega arith); here = λ h. absurd (omega arith) }
+
+  pub soon-here : (a k h : ℕ) → Near doc a 32 k → a + 32 ≤ length doc → k ≤ 31 → h ≡ hit (only 10) (getD doc (a + k) 0) → 0 < h → Soon doc a k
+  soon-here a k h x l m y z =
+      record { inside = λ _. omega arith; clear = λ _. x .clear k (omega arith) (omega arith); here = λ _. omega (arith, hit-one (only 10) (getD doc (a + k) 0)) }
+
+  pub soon-next : (e a k : ℕ) → Soon doc a k → k < 32 → Next (only 10) doc e a (a + k)
+  soon-next e a k x h = record { none = record { ahead = omega arith; inside = x .inside h; clear = x .clear h }; found = λ _. x .here h }
+
+  -- no tail byte among bytes below 128
+  pub low-none : (m : ℕ) → m < 128 → Clear (range 128 191) doc 0 0
+  low-none m h = clear-first (range 128 191) doc 0 (omega arith)
+
+  pub low-byte : (i m r : ℕ) → (m < 128 → Clear (range 128 191) doc 0 i) → i < length doc → r ≡ max (getD doc i 0) m → r < 128 → Clear (range 128 191) doc 0 (i + 1)
+  low-byte i m r x l t h = clear-byte (range 128 191) doc 0 i 0 (x (omega arith)) l (hit-below 128 191 (getD doc i 0) (omega arith)) (omega arith)
+
+  pub low-all : (i e m : ℕ) → (m < 128 → Clear (range 128 191) doc 0 i) → i ≤ e → e ≤ i → m < 128 → Clear (range 128 191) doc 0 e
+  low-all i e m x h k l = subst (Clear (range 128 191) doc 0) (let z : i ≡ e = omega arith in z) (x l)
+
   -- backwards to an LF; one stands at a
   pub back-here : (a e i h : ℕ) → a < i → i ≤ e → between (only 10) doc i e ≡ 0 → h ≡ hit (only 10) (getD doc (i - 1) 0) → 0 < h → Behind doc a e i
   back-here a e i h k l z y g = record { later = k; before = l; feed = omega (arith, hit-one (only 10) (getD doc (i - 1) 0)); clear = z }
@@ -234,6 +314,12 @@ module _ (doc : List ℕ) where
         feed = x .feed;
         clear = omega (arith, x .clear, between-cut (only 10) doc r i e (x .before) l m);
       }
+
+  -- just behind the one that is known
+  pub behind-next : (a e : ℕ) → a < e → e - a ≡ 1 → hit (only 10) (getD doc a 0) ≡ 1 → Behind doc a e e
+  behind-next a e h k g =
+      let z : a ≡ e - 1 = omega arith in
+      record { later = h; before = omega arith; feed = ap (λ (j : ℕ). hit (only 10) (getD doc j 0)) (sym z) ∙ g; clear = between-none (only 10) doc e }
 
   -- one LF alone
   pub lines-one : (a e r : ℕ) → a < e → e ≤ length doc → hit (only 10) (getD doc a 0) ≡ 1 → Behind doc a e r → r ≡ a + 1 → 1 ≡ between (only 10) doc a e
