@@ -2,11 +2,11 @@
 use mathlib.Core.Path.{_≡_, refl, sym, ap, _∙_}
 use mathlib.Core.List.{List}
 use mathlib.Core.Bool.{Bool, true, false}
-use Prim.Native.Nat.{ℕ, suc, _+_, _-_, _*_, _/_, _%_, _≤_, _<_}
+use Prim.Native.Nat.{ℕ, zero, suc, _+_, _-_, _*_, _/_, _%_, _^_, _≤_, _<_}
 use native.Mathlib.Omega.{arith}
 use native.Mathlib.Decide.{decLe}
 use lib.ListN.{length, getD, List·getD-eq-default}
-use lib.Dec.{leb}
+use lib.Dec.{leb, eqb}
 use borrow.Author.Needs.{needs}
 use borrow.Author.Tests.{le-leb, lt-leb}
 use mathlib.Core.Logic.{_⊎_, inl, inr}
@@ -188,6 +188,42 @@ module _ (b : ℕ) where
 
 -- ---- lowercase digits
 
+-- a test that is computed for every number below another
+alike : Bool → Bool → Bool
+alike true y = y
+alike false y = pick y false true
+
+alike-is : (x y : Bool) → alike x y ≡ true → x ≡ y
+unfolding alike
+alike-is true true e = refl
+alike-is true false e = absurd (clash e refl)
+alike-is false true e = absurd (clash e refl)
+alike-is false false e = refl
+
+every : (ℕ → Bool) → ℕ → Bool
+every p zero = true
+every p (suc n) = and (p n) (every p n)
+
+both-of : (x y : Bool) → and x y ≡ true → (x ≡ true) × (y ≡ true)
+both-of true y e = (refl, e)
+both-of false y e = absurd (clash e refl)
+
+every-at : (p : ℕ → Bool) (n k : ℕ) → every p n ≡ true → k < n → p k ≡ true
+unfolding every
+every-at p zero k e l = absurd (omega arith)
+every-at p (suc n) k e l = by (both-of (p n) (every p n) e) (λ f m. every-at p n k f m) (decLe n k)
+  where
+    by : (p n ≡ true) × (every p n ≡ true) → (every p n ≡ true → k < n → p k ≡ true) → Dec (n ≤ k) → p k ≡ true
+    by f g (yes m) = ap p (let z : k ≡ n = omega arith in z) ∙ f .0
+    by f g (no m) = g (f .1) (omega arith)
+
+-- the digits from 48 on, a bit for each
+abbrev lows-bits : ℕ
+lows-bits = 35465847065543679
+
+right : ℕ → Bool
+right k = alike (eqb (lows-bits / 2 ^ k % 2) 1) (is lowhex (48 + k))
+
 module _ (b : ℕ) where
   pub low-below : b < 48 → false ≡ is lowhex b
   low-below h = rw (lt-leb 48 b h, lt-leb 97 b (omega arith)) refl
@@ -203,6 +239,13 @@ module _ (b : ℕ) where
 
   pub low-above : 102 < b → false ≡ is lowhex b
   low-above h = rw (le-leb 48 b (omega arith), lt-leb b 57 (omega arith), le-leb 97 b (omega arith), lt-leb b 102 h) refl
+
+  -- by a bit of a number
+  pub low-bit : 48 ≤ b → b ≤ 102 → eqb (lows-bits / 2 ^ (b - 48) % 2) 1 ≡ is lowhex b
+  unfolding right every alike
+  low-bit h k =
+      let z : 48 + (b - 48) ≡ b = omega arith in
+      alike-is (eqb (lows-bits / 2 ^ (b - 48) % 2) 1) (is lowhex (48 + (b - 48))) (every-at right 55 (b - 48) refl (omega arith)) ∙ ap (is lowhex) z
 
   -- the last four bits, and 9 more for a letter
   pub low-sum : is lowhex b ≡ true → (b % 16 + 9 * (b / 64) ≡ hexval b) × (b % 16 + 9 * (b / 64) < 16)

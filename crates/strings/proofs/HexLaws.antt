@@ -115,48 +115,49 @@ module _ (doc : List ℕ) (c : Cursor) (b : ℕ) (v : Bool) (look : b ≡ peek d
         text = refl;
       }
 
-  module _ (no : v ≡ false) (t : Ans) (h : Takes doc c 32 t) where
-    dark : is lowhex (peek doc (c .at)) ≡ false
-    dark = low-none doc (c .at) b v look a no
+  pub stops-here : v ≡ false → (t : Ans) → Takes doc c 32 t → (p : ℕ) → t ≡ No p → Furthers doc c (Stops p)
+  unfolding Furthers
+  stops-here d t h p e =
+      let x = low-none doc (c .at) b v look a d in
+      let z : is (only 32) (peek doc (c .at)) ≡ false = only-no 32 (peek doc (c .at)) (take-other doc c 32 t h p e) in
+      record { off = on-peek doc (c .at) ∙ rw (x, z) refl; is = rw (lead-peek doc (c .at), z) (take-place doc c 32 t h p e ∙ omega arith) }
 
-    pub stops-here : (p : ℕ) → t ≡ No p → Furthers doc c (Stops p)
-    unfolding Furthers
-    stops-here p e =
-        let z : is (only 32) (peek doc (c .at)) ≡ false = only-no 32 (peek doc (c .at)) (take-other doc c 32 t h p e) in
-        record { off = on-peek doc (c .at) ∙ rw (dark, z) refl; is = rw (lead-peek doc (c .at), z) (take-place doc c 32 t h p e ∙ omega arith) }
+-- .. behind a space
+module _ (doc : List ℕ) (c : Cursor) (t : Ans) (h : Takes doc c 32 t) (n : Cursor) (e : t ≡ Ok n) (g : ℕ) (f : Bool) (look-behind : g ≡ peek doc (n .at)) (k : f ≡ is lowhex g) where
+  step : n ≡ onward c 1
+  step = take-next doc c 32 t h n e
 
-    module _ (n : Cursor) (e : t ≡ Ok n) (g : ℕ) (f : Bool) (look-behind : g ≡ peek doc (n .at)) (k : f ≡ is lowhex g) where
-      step : n ≡ onward c 1
-      step = take-next doc c 32 t h n e
+  blank : is (only 32) (peek doc (c .at)) ≡ true
+  blank = only-yes 32 (peek doc (c .at)) (sym (take-byte doc c 32 t h n e))
 
-      blank : is (only 32) (peek doc (c .at)) ≡ true
-      blank = only-yes 32 (peek doc (c .at)) (sym (take-byte doc c 32 t h n e))
+  dark : is lowhex (peek doc (c .at)) ≡ false
+  dark = ap (is lowhex) (sym (take-byte doc c 32 t h n e))
 
-      next-at : n .at ≡ c .at + 1
-      next-at = ap (λ (z : Cursor). z .at) step
+  next-at : n .at ≡ c .at + 1
+  next-at = ap (λ (z : Cursor). z .at) step
 
-      pub further-behind : f ≡ true → Furthers doc c (Begins n)
-      unfolding Furthers furtherR
-      further-behind l =
-          let x = low-is doc (n .at) g f look-behind k l in
-          let w : is lowhex (peek doc (c .at + 1)) ≡ true = rw (← next-at) x in
-          record {
-            on = on-peek doc (c .at) ∙ rw (dark, blank, w) refl;
-            is =
-                alt-peek doc (c .at) lowhex refl pairR (seqR (byteR (is (only 32))) λ _. pairR)
-                ∙ rw (dark, byte-is doc (c .at) 32 32 (omega arith) (take-byte doc c 32 t h n e) refl, next-at) refl;
-            from = omega (arith, next-at);
-            inside = class-in lowhex doc (n .at) refl x;
-            digit = x;
-            row = ap (λ (z : Cursor). z .row) step;
-            text = ap (λ (z : Cursor). z .text) step;
-          }
+  pub further-behind : f ≡ true → Furthers doc c (Begins n)
+  unfolding Furthers furtherR
+  further-behind l =
+      let x = low-is doc (n .at) g f look-behind k l in
+      let w : is lowhex (peek doc (c .at + 1)) ≡ true = rw (← next-at) x in
+      record {
+        on = on-peek doc (c .at) ∙ rw (dark, blank, w) refl;
+        is =
+            alt-peek doc (c .at) lowhex refl pairR (seqR (byteR (is (only 32))) λ _. pairR)
+            ∙ rw (dark, byte-is doc (c .at) 32 32 (omega arith) (take-byte doc c 32 t h n e) refl, next-at) refl;
+        from = omega (arith, next-at);
+        inside = class-in lowhex doc (n .at) refl x;
+        digit = x;
+        row = ap (λ (z : Cursor). z .row) step;
+        text = ap (λ (z : Cursor). z .text) step;
+      }
 
-      pub stops-behind : f ≡ false → Furthers doc c (Stops (n .at))
-      unfolding Furthers
-      stops-behind l =
-          let x = low-none doc (n .at) g f look-behind k l in
-          let w : is lowhex (peek doc (c .at + 1)) ≡ false = rw (← next-at) x in
-          record { off = on-peek doc (c .at) ∙ rw (dark, blank, w) refl; is = rw (lead-peek doc (c .at), blank) next-at }
+  pub stops-behind : f ≡ false → Furthers doc c (Stops (n .at))
+  unfolding Furthers
+  stops-behind l =
+      let x = low-none doc (n .at) g f look-behind k l in
+      let w : is lowhex (peek doc (c .at + 1)) ≡ false = rw (← next-at) x in
+      record { off = on-peek doc (c .at) ∙ rw (dark, blank, w) refl; is = rw (lead-peek doc (c .at), blank) next-at }
 
 pub ruleset furthering = (further-here, stops-here, further-behind, stops-behind, needs)

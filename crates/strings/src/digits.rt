@@ -40,14 +40,20 @@ fn hex_digit(b: u32) -> u32
     16
 }
 
-// Whether a byte is a lowercase hex digit.
+// The lowercase hex digits from 48 on, a bit for each.
+const LOWS: u64 = 0x7E0000000003FF;
+
+// Whether a byte is a lowercase hex digit: by its bit, so that digits and letters are told from others without a branch between them.
 pub fn is_low(b: u32) -> bool
     ensures { λ r. ⌜ r ≡ is lowhex b ⌝ }
 {
-    match b {
-        48..=57 | 97..=102 => true,
-        _ => false,
+    if b < 48 {
+        return false;
     }
+    if 102 < b {
+        return false;
+    }
+    (LOWS >> (b - 48)) % 2 == 1
 }
 
 // The value of a lowercase hex digit. Digits and letters come in no order that a processor could guess: so they are told apart by a sum, and not by a branch.

@@ -51,11 +51,13 @@ pub enum Next {
 fn further(doc: &[u8], c: Cursor) -> Next
     ensures { λ r. ⌜ Furthers (now (doc .entry)) c r ⌝ }
 {
-    if is_low(c.look(&*doc)) {
-        return Next::Begins(c);
-    }
     match c.take(&*doc, 32) {
-        Ans::No(p) => Next::Stops(p),
+        Ans::No(p) => {
+            if is_low(c.look(&*doc)) {
+                return Next::Begins(c);
+            }
+            Next::Stops(p)
+        }
         Ans::Ok(n) => {
             if is_low(n.look(&*doc)) {
                 return Next::Begins(n);

@@ -3,6 +3,12 @@ use Rattle.strings.proofs.HexLaws.{furthering}
 use Rattle.strings.proofs.hex.further.Statement.{statement}
 use Rattle.strings.proofs.hex.further.Tie as tie
 
+take-requires : tie.Need-take-requires
+take-requires c κs = search furthering
+
+enum-known-p : tie.Need-enum-known-p
+enum-known-p c = search furthering
+
 look-requires : tie.Need-look-requires
 look-requires c κs = search furthering
 
@@ -11,12 +17,6 @@ is-low-requires c κs = search furthering
 
 returns : tie.Need-returns
 returns c = search furthering
-
-take-requires : tie.Need-take-requires
-take-requires c κs = search furthering
-
-enum-known-p : tie.Need-enum-known-p
-enum-known-p c = search furthering
 
 enum-known-n : tie.Need-enum-known-n
 enum-known-n c = search furthering
@@ -40,11 +40,11 @@ pub further-spec : {M : Type 1} → statement M
 further-spec =
     tie.close
     (tie.spec
+    take-requires
+    enum-known-p
     look-requires
     is-low-requires
     returns
-    take-requires
-    enum-known-p
     enum-known-n
     look-requires-2
     is-low-requires-2
