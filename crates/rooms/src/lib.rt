@@ -249,19 +249,7 @@ fn copy_whole(doc: &[u8], a: usize, e: usize, text: &mut [u8], x: usize)
     }
 }
 
-// The same where some may have none.
-fn copy_part(doc: &[u8], a: usize, e: usize, text: &mut [u8], x: usize)
-    requires { ⌜ (a ≤ e) × (e ≤ length (now doc)) × (x + e < ample) ⌝ }
-    ensures { λ _. ⌜ now (text .exit) ≡ sets (now (text .entry)) x (slice a e (now (doc .entry))) ⌝ }
-{
-    let mut i = a;
-    while i < e {
-        put_byte(text, x + (i - a), doc[i]);
-        i += 1;
-    }
-}
-
-// The document's bytes from a to e, stored from x on.
+// The document's bytes from a to e, stored from x on, as many as have room.
 pub fn copy(doc: &[u8], a: usize, e: usize, text: &mut [u8], x: usize)
     requires { ⌜ (a ≤ e) × (e ≤ length (now doc)) × (x + e < ample) ⌝ }
     ensures { λ _. ⌜ now (text .exit) ≡ sets (now (text .entry)) x (slice a e (now (doc .entry))) ⌝ }
@@ -273,7 +261,7 @@ pub fn copy(doc: &[u8], a: usize, e: usize, text: &mut [u8], x: usize)
         copy_whole(&*doc, a, e, text, x);
         return;
     }
-    copy_part(&*doc, a, e, text, x);
+    copy_whole(&*doc, a, a + (text.len() - x), text, x);
 }
 
 // The first n of these words from i on, where some may have no room. It calls itself before it stores, so that it is put into no caller: those stay small.
