@@ -82,15 +82,18 @@ static uint32_t write_in(const uint32_t *table, size_t words, size_t rows, const
     return number;
 }
 
+/* More bytes than any profile here is written in. */
+#define OUTPUT 32768
+
 /* A table that was read is sound; what is written is read as the same rows but for spans, and written so again. */
 static void try_written(const uint32_t *table, size_t rows, const uint8_t *text, size_t len, int at_end) {
-    static uint8_t first[YAY_LONGEST], again_text[YAY_LONGEST];
-    static uint32_t again[YAY_TABLE_ROOM(YAY_LONGEST)];
+    static uint8_t first[OUTPUT], again_text[OUTPUT];
+    static uint32_t again[YAY_TABLE_ROOM(OUTPUT)];
     size_t count, short_count, back, bytes, escapes;
-    uint32_t number = write_in(table, rows * YAY_WORDS, rows, text, len, YAY_LONGEST, at_end, &count);
+    uint32_t number = write_in(table, rows * YAY_WORDS, rows, text, len, OUTPUT, at_end, &count);
     expect(number == YAY_OK || number == YAY_LONG, "a table that was read", number);
     if (number != YAY_OK) return;
-    memcpy(first, part(out_room, YAY_LONGEST, at_end), count);
+    memcpy(first, part(out_room, OUTPUT, at_end), count);
     expect(write_in(table, rows * YAY_WORDS, rows, text, len, count - 1, at_end, &short_count) == YAY_TEXT &&
                short_count == count,
            "an output too small", short_count);

@@ -113,7 +113,7 @@ static void print_overlay(const char *fleet, const char *site) {
 /* Stores the profile, as it lies on a tablet, and loads it from there into the same rooms: the same kinds, texts and
  * nesting, with spans in the stored bytes. */
 static void print_stored(void) {
-    static uint8_t stored[YAY_STORED_LONGEST];
+    static uint8_t stored[YAY_STORED_ROOM(YAY_LONGEST, YAY_LONGEST)];
     size_t length;
     uint32_t number = yay_store(table, words, rows, text, text_len, stored, sizeof stored, &length);
     if (number == YAY_OK) number = yay_load(stored, length, table, words, text, sizeof text, &rows, &text_len);

@@ -20,12 +20,12 @@ static void try_names(void) {
     expect(strcmp(yay_number_name(YAY_NOTINT), "NOTINT") == 0, "a name", YAY_NOTINT);
     expect(strcmp(yay_kind_name(YAY_KEY), "key") == 0, "a kind", YAY_KEY);
     expect(strcmp(yay_kind_name(YAY_NULL), "null") == 0, "a kind", YAY_NULL);
-    expect(strcmp(yay_number_name(YAY_WIDE), "WIDE") == 0, "a name", YAY_WIDE);
     expect(strcmp(yay_number_name(YAY_BADFORM), "BADFORM") == 0, "a name", YAY_BADFORM);
     expect(strcmp(yay_number_name(YAY_BADINST), "BADINST") == 0, "a name", YAY_BADINST);
     expect(strcmp(yay_number_name(YAY_CLASH), "CLASH") == 0, "a name", YAY_CLASH);
     for (uint32_t number = 0; number <= YAY_CLASH; number++) {
-        expect(yay_number_name(number)[0] != 0 && yay_number_sentence(number)[0] != 0, "a number", number);
+        int is = number != 12;
+        expect((yay_number_name(number)[0] != 0) == is && (yay_number_sentence(number)[0] != 0) == is, "a number", number);
     }
     for (uint32_t none = YAY_CLASH + 1; none != 0; none = none < 0x80000000u ? none * 2 : 0) {
         expect(yay_number_name(none)[0] == 0 && yay_number_sentence(none)[0] == 0, "no number", none);

@@ -10,7 +10,7 @@
 #include <unistd.h>
 #include "yay.h"
 
-#define ROOM ((size_t)1 << 20)
+#define ROOM ((size_t)1 << 21)
 
 static int tried, wrong;
 

@@ -1,8 +1,8 @@
 /* Measures the stack that yay_read touches, and yay_sound, yay_write, yay_decide, yay_overlay, yay_store and yay_load on
- * the tables that it fills: documents of every class of size, good, refused, repeating and hostile, with many rows and
- * with few, each read into large rooms and into none, in a thread whose stack is painted first; yay_overlay on objects of
- * many keys, 31 levels deep, in both; and yay_load on every class of stored forms, and on such that are none. Fails where
- * a class takes more than yay.h says. */
+ * the tables that it fills: documents of every class of size up to the longest, good, refused, repeating and hostile, with
+ * many rows and with few, each read into large rooms and into none, in a thread whose stack is painted first; yay_overlay
+ * on objects of many keys, 31 levels deep, in both; and yay_load on every class of stored forms, in parts and not, up to
+ * the longest, and on such that are none. Fails where a class takes more than yay.h says. */
 #define _DEFAULT_SOURCE
 #include <pthread.h>
 #include <stdio.h>
@@ -11,7 +11,7 @@
 #include <sys/mman.h>
 #include "yay.h"
 
-#define STACK ((size_t)2 << 20)
+#define STACK ((size_t)512 << 10)
 #define PAINT 0xa5
 
 static uint8_t doc[YAY_LONGEST + 1], text[YAY_TEXT_ROOM(YAY_LONGEST)];
@@ -51,7 +51,7 @@ static void *refuses(void *nothing) {
     return nothing;
 }
 
-/* What is laid over what, and the targets: twice as much as any source here has. */
+/* What is laid over what, and the targets: more than any two sources here have. */
 #define DEEP 31
 #define KEYS ((size_t)20000)
 #define MOST_ROWS (2 * KEYS + 2 * DEEP + 1)
@@ -61,8 +61,8 @@ struct made {
     size_t rows, bytes;
 };
 static struct made made[2];
-static uint32_t laid_table[2 * MOST_ROWS * YAY_WORDS];
-static uint8_t laid_text[16 * KEYS];
+static uint32_t laid_table[YAY_TABLE_ROOM(YAY_LONGEST)];
+static uint8_t laid_text[YAY_TEXT_ROOM(YAY_LONGEST)];
 static size_t laid_rows, laid_bytes;
 
 static void *lays(void *nothing) {
@@ -79,13 +79,18 @@ static void *lays_twice(void *nothing) {
     return nothing;
 }
 
-/* Stored bytes, and where they are loaded. */
+/* Stored bytes, and where they are loaded: more rows than any document has. */
 static uint8_t form[YAY_STORED_LONGEST + 1], loaded_text[YAY_STORED_TEXT_ROOM(YAY_STORED_LONGEST)];
-static uint32_t loaded_table[YAY_STORED_TABLE_ROOM(YAY_STORED_LONGEST)];
+static uint32_t loaded_table[YAY_TABLE_ROOM(YAY_LONGEST)];
 static size_t form_len, loaded_words, loaded_room, loaded_rows, loaded_bytes;
 
+/* What is stored. */
+static const uint32_t *kept_table;
+static const uint8_t *kept_text;
+static size_t kept_rows, kept_bytes;
+
 static void *stores(void *nothing) {
-    number = yay_store(table, words, rows, text, bytes, form, sizeof form, &form_len);
+    number = yay_store(kept_table, kept_rows * YAY_WORDS, kept_rows, kept_text, kept_bytes, form, sizeof form, &form_len);
     return nothing;
 }
 
@@ -154,9 +159,12 @@ static void measure_overlay(void *(*work)(void *)) {
     laid += number == YAY_OK;
 }
 
+/* Longer documents and forms are tried in fewer rooms. */
+#define LARGE ((size_t)40000)
+
 /* The form in large rooms, in no table, and in no text room. */
 static void measure_form(void) {
-    for (int i = 0; i < 3; i++) {
+    for (int i = 0; i < (form_len > 2 * LARGE ? 1 : 3); i++) {
         loaded_words = i == 1 ? 0 : sizeof loaded_table / sizeof *loaded_table;
         loaded_room = i == 2 ? 0 : sizeof loaded_text;
         size_t took = touched(loads) - rest;
@@ -185,7 +193,13 @@ static void measure_forms(void) {
     form[3] = tag;
 }
 
-static void measure_storing(void) {
+/* A table is stored, and its form loaded. */
+static void measure_storing(const uint32_t *words_kept, size_t rows_kept, const uint8_t *text_kept, size_t bytes_kept) {
+    if (!rest) rest = touched(rests);
+    kept_table = words_kept;
+    kept_rows = rows_kept;
+    kept_text = text_kept;
+    kept_bytes = bytes_kept;
     size_t took = touched(stores) - rest;
     if (took > storing) storing = took;
     if (number == YAY_OK) measure_forms();
@@ -196,7 +210,7 @@ static void measure(void) {
     struct class *c = classes;
     if (!rest) rest = touched(rests);
     while (len > c->bytes) c++;
-    for (int i = 0; i < 3; i++) {
+    for (int i = 0; i < (len > LARGE ? 2 : 3); i++) {
         words = i == 1 ? 0 : sizeof table / sizeof *table;
         room = i == 2 ? 0 : sizeof text;
         size_t took = touched(reads) - rest;
@@ -210,7 +224,7 @@ static void measure(void) {
         measure_decision(decides);
         measure_decision(refuses);
         measure_overlay(lays_twice);
-        measure_storing();
+        measure_storing(table, rows, text, bytes);
     }
     documents++;
 }
@@ -260,12 +274,38 @@ static void layers(size_t depth, size_t each, size_t last) {
             printf("stack: %zu levels of keys are not laid over each other: %u\n", depth, (unsigned)number);
             exit(1);
         }
+        measure_storing(made[1].table, made[1].rows, made[1].text, made[1].bytes);
     }
+}
+
+/* The longest stored form, of bytes in 31 arrays or objects, which are all in parts. */
+static void longest_form(uint32_t around) {
+    static uint32_t longest_table[(2 * DEEP + 1) * YAY_WORDS];
+    static uint8_t longest_text[YAY_STORED_LONGEST];
+    size_t each = around == YAY_OBJECT ? 2 : 1, count = DEEP * each + 1, keys = DEEP * (each - 1);
+    size_t content = YAY_STORED_LONGEST - (YAY_STORED_LONGEST / 65535 + 4) * 3 * (DEEP + 1) - 4 * keys;
+    memset(longest_table, 0, sizeof longest_table);
+    for (size_t row = 0, parent = 0; row < count; row++) {
+        uint32_t *w = longest_table + row * YAY_WORDS;
+        int key = each == 2 && row % 2 == 1, last = row + 1 == count;
+        w[YAY_KIND] = last ? YAY_BYTES : key ? YAY_KEY : around;
+        w[YAY_PARENT] = (uint32_t)parent;
+        w[YAY_NEXT] = (uint32_t)(key ? row + 1 : count);
+        if (key || last) w[YAY_TEXT_FROM] = (uint32_t)(last ? keys : row / 2);
+        w[YAY_TEXT_TO] = (uint32_t)(last ? keys + content : key ? row / 2 + 1 : 1);
+        if (!key) parent = row;
+    }
+    memset(longest_text, 'k', keys + content);
+    measure_storing(longest_table, count, longest_text, keys + content);
+    if (form_len + 8192 < YAY_STORED_LONGEST) exit(2);
+    form_len = YAY_STORED_LONGEST + 1;
+    measure_form();
+    if (number != YAY_BADFORM) exit(2);
 }
 
 /* A field of so many bytes of content, if all has room. */
 static void put_field(uint8_t tag, const char *content, size_t n) {
-    if (form_len + 3 + n > YAY_STORED_LONGEST) exit(2);
+    if (form_len + 3 + n > 65538) exit(2);
     form[form_len] = tag;
     form[form_len + 1] = (uint8_t)(n / 256);
     form[form_len + 2] = (uint8_t)(n % 256);
@@ -406,6 +446,34 @@ static void sheet(size_t n, char version, char floor, char installed) {
     measure();
 }
 
+/* An object of so many keys: of three letters, or all of one mark; and with its first key once more. */
+static void many_short_keys(size_t count, int marked) {
+    static const char letters[] = "abcdefghijklmnopqrstuvwxyzABCDEFGHIJKLMNOPQRSTUVWXYZ0123456789_-";
+    static const char *const pairs[] = {"ao", "bm", "ck", "di", "eg", "fe", "gc", "ha"};
+    len = 0;
+    for (size_t i = 0; i <= count; i++) {
+        size_t key = i == count ? 0 : i;
+        if (i == count) measure();
+        for (int place = 0; place < (marked ? 6 : 3); place++) {
+            if (marked) len += (size_t)sprintf((char *)doc + len, "%s", pairs[key >> 3 * place & 7]);
+            else doc[len++] = (uint8_t)letters[key >> 6 * place & 63];
+        }
+        len += (size_t)sprintf((char *)doc + len, ": 1\n");
+    }
+    measure();
+}
+
+/* An object inside 31 arrays of one element, of as many keys as the longest document holds; and with one of them again. */
+static void below_bullets(void) {
+    len = 0;
+    for (int i = 0; i < DEEP; i++) len += (size_t)sprintf((char *)doc + len, "- ");
+    len += (size_t)sprintf((char *)doc + len, "k: 1\n");
+    for (size_t i = 0; len + 200 < YAY_LONGEST; i++) len += (size_t)sprintf((char *)doc + len, "%62sk%zu: 1\n", "", i);
+    measure();
+    len += (size_t)sprintf((char *)doc + len, "%62sk%d: 1\n", "", 7);
+    measure();
+}
+
 static void of_size(size_t n) {
     static const char *const shapes[][3] = {
         {"", "key%zu: \"a value of the key\"\n", ""},
@@ -439,24 +507,9 @@ static void of_size(size_t n) {
     measure();
 }
 
-int main(void) {
-    static const size_t sizes[] = {200, 1000, 1024, 1025, 4000, 8192, 16384, 16385, 24000, 32768, 32769};
-    static const size_t digits[] = {1, 20, 1000, 1900};
+/* Prints what each class and each function has touched; how many are too much, or were not met. */
+static int report(void) {
     int wrong = 0;
-    for (size_t i = 0; i < sizeof digits / sizeof *digits; i++) {
-        sheet(digits[i], '3', '1', '2');
-        sheet(digits[i], '2', '1', '2');
-        sheet(digits[i], '3', '3', '2');
-    }
-    forms();
-    layers(DEEP, 0, 1);
-    layers(DEEP, 20, 20);
-    layers(DEEP, 600, 600);
-    layers(DEEP, 0, 5000);
-    layers(0, 0, 5000);
-    layers(0, 0, KEYS);
-    layers(DEEP, 0, KEYS);
-    for (size_t i = 0; i < sizeof sizes / sizeof *sizes; i++) of_size(sizes[i]);
     for (size_t i = 0; i < sizeof classes / sizeof *classes; i++) {
         struct class *c = &classes[i];
         int more = c->seen > c->most;
@@ -483,6 +536,34 @@ int main(void) {
     if (!kept[YAY_OK] || !kept[YAY_ROWS] || !kept[YAY_TEXT] || !kept[YAY_BADFORM]) {
         wrong++, printf("stack: too little was loaded\n");
     }
+    return wrong;
+}
+
+int main(void) {
+    static const size_t sizes[] = {200, 1000, 1024, 1025, 4000, 8192, 16384, 16385, 24000, 32768, 32769, YAY_LONGEST};
+    static const size_t digits[] = {1, 20, 1000, 1900};
+    for (size_t i = 0; i < sizeof digits / sizeof *digits; i++) {
+        sheet(digits[i], '3', '1', '2');
+        sheet(digits[i], '2', '1', '2');
+        sheet(digits[i], '3', '3', '2');
+    }
+    forms();
+    layers(DEEP, 0, 1);
+    layers(DEEP, 20, 20);
+    layers(DEEP, 600, 600);
+    layers(DEEP, 0, 5000);
+    layers(0, 0, 5000);
+    layers(0, 0, KEYS);
+    layers(DEEP, 0, KEYS);
+    longest_form(YAY_ARRAY);
+    longest_form(YAY_OBJECT);
+    for (size_t i = 0; i < sizeof sizes / sizeof *sizes; i++) of_size(sizes[i]);
+    run("\"", 'x', "\"\n", YAY_LONGEST + 1);
+    many_short_keys(40000, 0);
+    many_short_keys(130000, 0);
+    many_short_keys(60000, 1);
+    below_bullets();
+    int wrong = report();
     printf("stack: %d documents, %d faults\n", documents, wrong);
     return wrong != 0;
 }

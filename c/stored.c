@@ -3,6 +3,9 @@
  * changed in every byte, or lie about every length. `stored FILE..` stores and loads each file too. */
 #include "rooms.h"
 
+/* The longest form that one field has. */
+#define ONE_FIELD 65538
+
 static struct room table_room, text_room, out_room, form_room, rows_room, bytes_room;
 
 struct answer {
@@ -34,11 +37,10 @@ static struct answer store_in(const uint32_t *table, size_t words, size_t rows, 
     a.number = yay_store(table, words, rows, text, len, out, room, &a.first);
     protect_sources(PROT_READ | PROT_WRITE);
     size_t stored = a.number == YAY_OK ? a.first : 0;
-    expect(a.number == YAY_OK || a.number == YAY_BADROW || a.number == YAY_WIDE || a.number == YAY_TEXT, "a number",
-           a.number);
+    expect(a.number == YAY_OK || a.number == YAY_BADROW || a.number == YAY_TEXT, "a number", a.number);
     expect(stored <= room && untouched(out + stored, room - stored, 0xa5), "bytes past the form", stored);
     expect((a.number == YAY_BADROW) == (yay_sound(table, words, rows, text, len) == YAY_BADROW), "soundness", rows);
-    if (a.number == YAY_BADROW || a.number == YAY_WIDE) expect(a.first == 0, "a refusal's count", a.first);
+    if (a.number == YAY_BADROW) expect(a.first == 0, "a refusal's count", a.first);
     if (a.number == YAY_TEXT) expect(a.first > room && a.first <= YAY_STORED_LONGEST, "the bytes needed", a.first);
     return a;
 }
@@ -72,14 +74,16 @@ static uint32_t load_any(const uint8_t *bytes, size_t len, int at_end) {
     if (a.number != YAY_OK) return a.number;
     const uint32_t *table = (const uint32_t *)(void *)part(rows_room, words * 4, at_end);
     const uint8_t *text = part(bytes_room, room, at_end);
-    expect(YAY_STORED_ROOM(a.first, a.second) == len, "three bytes a row and the text", len);
+    size_t least = 3 * a.first + a.second, one_field = len <= ONE_FIELD;
+    expect(one_field ? least == len : least < len && len <= YAY_STORED_ROOM(a.first, a.second), "how long it is", len);
     struct answer back = store_in(table, words, a.first, text, a.second, len, at_end);
     expect(back.number == YAY_OK && back.first == len && memcmp(part(out_room, len, at_end), form, len) == 0,
            "what was loaded is stored otherwise", len);
     for (size_t row = 0; row < a.first; row++) {
         const uint32_t *w = table + row * YAY_WORDS;
         size_t content = (size_t)form[w[YAY_FROM] + 1] * 256 + form[w[YAY_FROM] + 2];
-        expect(form[w[YAY_FROM]] == w[YAY_KIND] && w[YAY_TO] == w[YAY_FROM] + 3 + content, "a span", row);
+        if (one_field) expect(form[w[YAY_FROM]] == w[YAY_KIND] && w[YAY_TO] == w[YAY_FROM] + 3 + content, "a span", row);
+        expect(w[YAY_FROM] + 3 <= w[YAY_TO] && w[YAY_TO] <= len, "where a span ends", row);
         expect(w[YAY_LINE] == 0 && w[YAY_COLUMN] == 0, "a line", row);
     }
     return a.number;
@@ -107,7 +111,7 @@ static struct read read_in(const uint8_t *doc, size_t doc_len, int at_end) {
 
 /* Stores it into outputs of every size, if there are not too many; the length of its form, which is kept. */
 static size_t try_outputs(struct read r, int at_end, uint8_t *kept) {
-    size_t words = r.rows * YAY_WORDS, form_len = YAY_STORED_ROOM(r.rows, r.len);
+    size_t words = r.rows * YAY_WORDS, form_len = 3 * r.rows + r.len;
     for (size_t room = 0; room < form_len; room += form_len / 300 + 1) {
         struct answer a = store_in(r.table, words, r.rows, r.text, r.len, room, at_end);
         expect(a.number == YAY_TEXT && a.first == form_len, "an output too short", room);
@@ -181,9 +185,12 @@ static void try_damaged(const uint8_t *good, size_t len) {
     }
 }
 
-/* A string of so many bytes, alone or in an array: the widest content, and one byte more. */
+/* The bytes of a field with such a content, its parts counted. */
+static size_t field(size_t content) { return content + 3 * ((content ? content - 1 : 0) / 65535 + 1); }
+
+/* A string of so many bytes, alone or in an array: the widest contents of one field and of two, and some more. */
 static void try_wide(size_t content, int array) {
-    size_t len = array ? content - 3 : content, rows = array ? 2 : 1;
+    size_t len = array ? content - 3 : content, rows = array ? 2 : 1, form_len = array ? field(field(len)) : field(len);
     uint32_t *table = (uint32_t *)(void *)part(table_room, rows * YAY_WORDS * 4, 1);
     uint8_t *text = part(text_room, len, 1);
     memset(table, 0, rows * YAY_WORDS * 4);
@@ -194,23 +201,20 @@ static void try_wide(size_t content, int array) {
         table[YAY_NEXT] = 2;
     }
     uint32_t *string = table + (rows - 1) * YAY_WORDS;
-    string[YAY_KIND] = YAY_STRING;
+    string[YAY_KIND] = YAY_INTEGER;
     string[YAY_TEXT_TO] = (uint32_t)len;
     string[YAY_NEXT] = (uint32_t)rows;
-    int wide = content > 65535;
-    struct answer a = store_in(table, rows * YAY_WORDS, rows, text, len, YAY_STORED_LONGEST + 9, 1);
-    expect(wide ? a.number == YAY_WIDE : a.number == YAY_OK && a.first == content + 3, "a wide content", content);
-    a = store_in(table, rows * YAY_WORDS, rows, text, len, 9, 1);
-    expect(a.number == (wide ? YAY_WIDE : YAY_TEXT), "WIDE before TEXT", content);
-    string[YAY_KIND] = YAY_INTEGER;
-    expect(store_in(table, rows * YAY_WORDS, rows, text, len, 9, 1).number == YAY_BADROW, "BADROW before WIDE", content);
-    if (wide) return;
+    expect(store_in(table, rows * YAY_WORDS, rows, text, len, 9, 1).number == YAY_BADROW, "BADROW before TEXT", content);
     string[YAY_KIND] = YAY_STRING;
-    store_in(table, rows * YAY_WORDS, rows, text, len, content + 3, 1);
-    static uint8_t form[YAY_STORED_LONGEST + 1];
-    memcpy(form, part(out_room, content + 3, 1), content + 3);
-    expect(load_any(form, content + 3, 1) == YAY_OK, "a wide form", content);
-    expect(load_any(form, content + 2, 1) == YAY_BADFORM && load_any(form, content + 4, 1) == YAY_BADFORM, "a length", content);
+    struct answer a = store_in(table, rows * YAY_WORDS, rows, text, len, form_len - 1, 1);
+    expect(a.number == YAY_TEXT && a.first == form_len, "a byte too few", content);
+    store_in(table, rows * YAY_WORDS, rows, text, len, form_len + 9, 1);
+    a = store_in(table, rows * YAY_WORDS, rows, text, len, form_len, 1);
+    expect(a.number == YAY_OK && a.first == form_len, "a wide content", content);
+    static uint8_t form[3 * 65538];
+    memcpy(form, part(out_room, form_len, 1), form_len);
+    expect(load_any(form, form_len, 1) == YAY_OK, "a wide form", content);
+    expect(load_any(form, form_len - 1, 1) == YAY_BADFORM && load_any(form, form_len + 1, 1) == YAY_BADFORM, "a length", content);
 }
 
 /* Small random words as a table, and small random bytes as a form. */
@@ -235,7 +239,7 @@ static void try_random(void) {
 
 /* A file, stored and loaded. */
 static void try_file(const char *name) {
-    static uint8_t doc[YAY_LONGEST + 1], form[YAY_STORED_LONGEST];
+    static uint8_t doc[YAY_LONGEST + 1], form[ONE_FIELD];
     FILE *file = fopen(name, "rb");
     expect(file != NULL, name, 0);
     if (file == NULL) return;
@@ -256,16 +260,18 @@ int main(int count, char **files) {
                                        "{}\n",
                                        "a: \"\"\nb: [<00ff>, -.5, true]\n\"\": {c: {d: null}}\n",
                                        "{a: 1, b: {a: 2, b: [[], {}]}, \"\xf0\x9f\x98\x80\": nan}\n"};
-    static uint8_t form[YAY_STORED_LONGEST];
+    static uint8_t form[ONE_FIELD];
     for (size_t i = 0; i < sizeof rooms / sizeof *rooms; i++) *rooms[i] = make_room();
     for (size_t i = 0; i < sizeof docs / sizeof *docs; i++) {
         size_t len = 0;
         for (int at_end = 0; at_end < 2; at_end++) len = try_document((const uint8_t *)docs[i], strlen(docs[i]), at_end, form);
         try_damaged(form, len);
     }
-    for (size_t content = 65533; content < 65539; content++) {
-        try_wide(content, 0);
-        try_wide(content, 1);
+    for (size_t more = 0; more < 6; more++) {
+        for (int array = 0; array < 2; array++) {
+            try_wide(65533 + more, array);
+            try_wide(131068 + more, array);
+        }
     }
     try_random();
     for (int i = 1; i < count; i++) try_file(files[i]);

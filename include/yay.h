@@ -23,7 +23,7 @@ extern "C" {
 #endif
 
 /* The most bytes of a document, the most containers one inside another, and the words of a row. */
-#define YAY_LONGEST 32768
+#define YAY_LONGEST 1048576
 #define YAY_NESTING 32
 #define YAY_WORDS 9
 
@@ -32,7 +32,7 @@ extern "C" {
 #define YAY_MOST 16777216
 
 /* The stack that a call of yay_read touches at most, in bytes, as c/stack.c measures it: for a document of at most
- * 1,024 bytes, and for any. So a thread of 128 KB reads every document. yay_sound, yay_write, yay_decide,
+ * 1,024 bytes, and for any, up to the longest. So a thread of 128 KB reads every document. yay_sound, yay_write, yay_decide,
  * yay_overlay, yay_store and yay_load touch no more than YAY_STACK, whatever the tables and the stored bytes. */
 #define YAY_STACK_FEW (48 * 1024)
 #define YAY_STACK (112 * 1024)
@@ -45,12 +45,16 @@ extern "C" {
 #define YAY_TABLE_ROOM(doc_len) ((doc_len) * YAY_WORDS)
 #define YAY_TEXT_ROOM(doc_len) (doc_len)
 
-/* The most bytes of a stored form: a tag, a length of two bytes, and a content of at most 65,535. */
-#define YAY_STORED_LONGEST 65538
+/* The most bytes of a stored form that is loaded. A document's is far shorter: at most
+ * YAY_STORED_ROOM(YAY_LONGEST, YAY_LONGEST). */
+#define YAY_STORED_LONGEST 16777216
 
-/* The bytes of the stored form of a table of so many rows and text bytes, as yay_read gives them; and words and text
- * bytes that are enough for any stored form of so many bytes, since each row has three of them that are no text. */
-#define YAY_STORED_ROOM(rows, text_bytes) (3 * (rows) + (text_bytes))
+/* Bytes that are enough for the stored form of a table of so many rows and text bytes, as yay_read gives them: three a
+ * row, the text, and three for each part but the last of contents over 65,535 bytes, which are fewer than one in 512;
+ * and words and text bytes that are enough for any stored form of so many bytes, since each row has three of them that
+ * are no text. */
+#define YAY_STORED_ROOM(rows, text_bytes) \
+    (3 * (rows) + (text_bytes) + (3 * (rows) + (text_bytes)) / 512)
 #define YAY_STORED_TABLE_ROOM(stored_len) ((stored_len) / 3 * YAY_WORDS)
 #define YAY_STORED_TEXT_ROOM(stored_len) (stored_len)
 
@@ -68,8 +72,8 @@ extern "C" {
                          table is not sound */
 #define YAY_NONE 10   /* the key isn't in the object */
 #define YAY_NOTINT 11 /* a text compared isn't an integer's text */
-#define YAY_WIDE 12     /* a content to be stored has more than 65,535 bytes */
-#define YAY_BADFORM 13  /* the bytes aren't a sound table's stored form */
+/* 12 is no number: it was that of contents over 65,535 bytes, which are stored in parts now. */
+#define YAY_BADFORM 13  /* the bytes aren't a sound table's stored form, or are more than YAY_STORED_LONGEST */
 #define YAY_BADSHEET 14 /* the table isn't a sound one of a release sheet */
 #define YAY_BADINST 15  /* the table isn't a sound one of an installed version */
 #define YAY_CLASH 16    /* a key has an object in one of two tables and another value in the other */
@@ -168,18 +172,22 @@ uint32_t yay_overlay(const uint32_t *lower, size_t lower_words, size_t lower_row
 
 /* Stores a sound table as tagged fields, one for each row: one byte tag, the row's kind; two bytes length, high byte
  * first; then the content, which is the text for kinds 4 to 7 and 10, nothing for 1 to 3, and the children's fields in
- * order for 8 and 9. One tree has one stored form; spans, lines and columns are not in it.
+ * order for 8 and 9. While more than 65,535 bytes of a content remain, the next 65,535 of them stand in a field with the
+ * tag 11, wherever that cuts the fields inside, and the field behind it goes on; the last has the true tag. One tree has
+ * one stored form; spans, lines and columns are not in it.
  * YAY_OK: *count bytes of `out` were written, at most YAY_STORED_LONGEST; those behind them are as before.
- * YAY_BADROW: the table is not sound. YAY_WIDE: a content would have more than 65,535 bytes. *count is 0.
- * YAY_TEXT: *count bytes are needed, and out_len is less. */
+ * YAY_BADROW: the table is not sound. *count is 0.
+ * YAY_TEXT: *count bytes are needed, and out_len, which counts for at most YAY_MOST, is less. */
 uint32_t yay_store(const uint32_t *table, size_t words, size_t rows, const uint8_t *text, size_t text_len, uint8_t *out,
                    size_t out_len, size_t *count);
 
 /* Loads a stored form of stored_len bytes into a table of table_words words and a text room of text_len bytes. It gives
- * the same kinds, texts and nesting; the span of a row runs from its field's tag to the end of its content, in the stored
- * bytes, and lines and columns are 0. What was loaded is sound, and is stored as the same bytes.
+ * the same kinds, texts and nesting; the span of a row runs from its field's first tag, which is 11 where it has parts,
+ * to the end of its last byte, in the stored bytes, and lines and columns are 0. What was loaded is sound, and is stored
+ * as the same bytes.
  * YAY_OK: *first is the number of rows, *second that of text bytes; words and bytes past them are as before.
- * YAY_BADFORM, tested first: the bytes are no sound table's stored form. *first and *second are 0.
+ * YAY_BADFORM, tested first: the bytes are no sound table's stored form, or more than YAY_STORED_LONGEST. *first and
+ * *second are 0.
  * YAY_ROWS, then YAY_TEXT: *first rows, or bytes, are needed, and *second is 0. */
 uint32_t yay_load(const uint8_t *stored, size_t stored_len, uint32_t *table, size_t table_words, uint8_t *text,
                   size_t text_len, size_t *first, size_t *second);

@@ -10,7 +10,7 @@
 /* The name of a number, as "SYNTAX"; "" for one that yay.h does not have. */
 static inline const char *yay_number_name(uint32_t number) {
     static const char *const names[] = {"OK",     "LONG", "CHAR",   "SYNTAX", "DEEP", "END",      "REPEAT",  "ROWS", "TEXT",
-                                        "BADROW", "NONE", "NOTINT", "WIDE",   "BADFORM", "BADSHEET", "BADINST", "CLASH"};
+                                        "BADROW", "NONE", "NOTINT", "",       "BADFORM", "BADSHEET", "BADINST", "CLASH"};
     return number < sizeof names / sizeof *names ? names[number] : "";
 }
 
@@ -18,7 +18,7 @@ static inline const char *yay_number_name(uint32_t number) {
 static inline const char *yay_number_sentence(uint32_t number) {
     static const char *const sentences[] = {
         "all is good",
-        "the document has more than 32768 bytes",
+        "the document has more than 1048576 bytes",
         "this byte belongs to no allowed character",
         "no document goes on like this",
         "more than 32 containers stand one inside another",
@@ -29,7 +29,7 @@ static inline const char *yay_number_sentence(uint32_t number) {
         "the table is not sound, or has no such row that could be asked this",
         "the key isn't in the object",
         "a text compared isn't an integer's text",
-        "a content has more than 65535 bytes",
+        "",
         "this is no stored form",
         "this is no release sheet",
         "this is no installed version",

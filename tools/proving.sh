@@ -6,7 +6,7 @@ log=$1
 shift
 mkdir -p "$(dirname "$log")"
 crates=$(sed -n 's/^yay://p' crates.txt | wc -w)
-echo "Making the library: its $((crates + 1)) crates are proved first, which takes about eight minutes on two processors;"
+echo "Making the library: its $((crates + 1)) crates are proved first, which takes about a quarter of an hour on two processors;"
 echo "crates that were proved before and are unchanged take no time. The whole log is $log."
 "$@" 2>&1 | tee "$log" | awk -v all="$((crates + 1))" '
     function show(what) { printf "%3d of %d: %s\n", ++done, all, what; fflush() }

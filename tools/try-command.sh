@@ -31,7 +31,7 @@ expect 'written into itself' 0 "$("$yay" write build/house.yay -o build/house.ya
 expect 'in the house style then' 0 "$("$yay" fmt --check build/house.yay; echo $?)"
 expect 'with the same values' "$("$yay" json examples/gate.yay)" "$("$yay" json build/house.yay)"
 expect 'a full disk is an error of write' 2 "$("$yay" write examples/gate.yay > /dev/full 2> /dev/null; echo $?)"
-(printf '['; for ((i = 0; i < 10000; i++)); do printf '1, '; done; echo '1]') > build/list.yay
+(printf '['; yes '1, ' | head -n 300000 | tr -d '\n'; echo '1]') > build/list.yay
 expect 'too long to be written leaves the file' "1 $(cksum < build/house.yay)" \
     "$("$yay" write build/list.yay -o build/house.yay 2> /dev/null; echo $? "$(cksum < build/house.yay)")"
 # No file may grow: the one beside cannot be made whole.
@@ -108,15 +108,16 @@ if command -v script > /dev/null; then
 fi
 
 # 128 KB of stack is enough for any document, with all that the command itself takes of it; the reader's part is YAY_STACK.
-keys() { for ((i = 0; i < $1; i++)); do echo "k$i: $i"; done; }
+keys() { seq 0 $(($1 - 1)) | sed 's/.*/k&: &/'; }
 keys 90 > build/few.yay
 keys 1400 > build/some.yay
 keys 2900 > build/long.yay
-(keys 2900; echo k0: 0) > build/again.yay
+keys 75000 > build/longest.yay
+(keys 75000; echo k0: 0) > build/again.yay
 in_small_stack() { (ulimit -s 128; "$yay" check -q "build/$1.yay" 2> /dev/null; echo $?); }
-for name in few some long list; do expect "the document $name in a stack of 128 KB" 0 "$(in_small_stack $name)"; done
+for name in few some long longest list; do expect "the document $name in a stack of 128 KB" 0 "$(in_small_stack $name)"; done
 written_in_small_stack() { (ulimit -s 128; "$yay" write "build/$1.yay" 2> /dev/null | cksum); }
-for name in few some long; do
+for name in few some long longest; do
     expect "$name written in a stack of 128 KB" "$("$yay" write "build/$name.yay" | cksum)" "$(written_in_small_stack $name)"
     expect "$name stored in a stack of 128 KB" 0 "$(ulimit -s 128; "$yay" store "build/$name.yay" -o "build/$name.stored"; echo $?)"
     expect "$name loaded in a stack of 128 KB" 0 "$(ulimit -s 128; "$yay" check -q --stored "build/$name.stored"; echo $?)"

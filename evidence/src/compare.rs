@@ -6,6 +6,7 @@ mod asked;
 pub mod deciding;
 pub mod faults;
 pub mod forms;
+pub mod large;
 pub mod overlaying;
 pub mod places;
 pub mod run;
@@ -18,7 +19,7 @@ pub mod writing;
 use crate::documents::grow::Meant;
 use crate::documents::Rng;
 use crate::second::questions::{self, Lent};
-use crate::second::{Answer, Counts, Given, Refusal, Second, LONGEST, ROWS, TEXT, WORDS};
+use crate::second::{Answer, Counts, Given, Refusal, Second, ROWS, TEXT, WORDS};
 use std::ops::Range;
 
 /// What a reader says, as the C interface has it: 0, rows, text bytes and escapes; or the number, the place, 0 and 0.
@@ -118,27 +119,18 @@ impl Tally {
 
 /// Words and bytes behind the lent rooms, which no reader may touch either.
 const GUARD: usize = 8;
-/// Far too large rooms, as words and bytes.
-const FAR: (usize, usize) = (WORDS * (LONGEST + 100), LONGEST + 100);
+/// So many words and bytes more than are needed are far too large rooms.
+const FAR: (usize, usize) = (WORDS * 33_000, 33_000);
 
+#[derive(Default)]
 pub struct Comparer {
     second: Second,
-    /// What the rooms hold before a reader gets them.
+    /// What the rooms hold before a reader gets them; they grow with what is lent.
     old_table: Vec<u32>,
     old_room: Vec<u8>,
     table: Vec<u32>,
     room: Vec<u8>,
     pub tally: Tally,
-}
-
-impl Default for Comparer {
-    fn default() -> Self {
-        let old_table: Vec<u32> =
-            (0..(FAR.0 + GUARD) as u32).map(|i| 0xA500_0000 ^ i.wrapping_mul(0x9E37_79B1)).collect();
-        let old_room: Vec<u8> = (0..FAR.1 + GUARD).map(|i| (i as u8).wrapping_mul(31) ^ 0x5A).collect();
-        let (table, room) = (old_table.clone(), old_room.clone());
-        Comparer { second: Second::new(), old_table, old_room, table, room, tally: Tally::default() }
-    }
 }
 
 impl Comparer {
@@ -174,6 +166,20 @@ impl Comparer {
         asked::difference(reader.questions()?, words, text, &mut rng, &mut self.tally)
     }
 
+    /// Rooms of so many words and bytes, that hold what is to stay.
+    fn lend(&mut self, words: usize, bytes: usize) {
+        for i in self.old_table.len()..words {
+            self.old_table.push(0xA500_0000 ^ (i as u32).wrapping_mul(0x9E37_79B1));
+        }
+        for i in self.old_room.len()..bytes {
+            self.old_room.push((i as u8).wrapping_mul(31) ^ 0x5A);
+        }
+        self.table.resize(words.max(self.table.len()), 0);
+        self.room.resize(bytes.max(self.room.len()), 0);
+        self.table[..words].copy_from_slice(&self.old_table[..words]);
+        self.room[..bytes].copy_from_slice(&self.old_room[..bytes]);
+    }
+
     fn in_rooms(
         &mut self,
         reader: &mut dyn Reader,
@@ -184,9 +190,8 @@ impl Comparer {
     ) -> Option<String> {
         let expected = answer_in(meant, words, bytes);
         self.tally.numbers[expected.map_or_else(|refusal| refusal.number as usize, |_| 0)] += 1;
+        self.lend(words + GUARD, bytes + GUARD);
         let (table, room) = (&mut self.table[..words + GUARD], &mut self.room[..bytes + GUARD]);
-        table.copy_from_slice(&self.old_table[..words + GUARD]);
-        room.copy_from_slice(&self.old_room[..bytes + GUARD]);
         let said = reader.read(doc, &mut table[..words], &mut room[..bytes]);
         let (rows, text): (&[u32], &[u8]) = match (expected, meant) {
             (Ok(_), Ok(given)) => (&given.words, &given.text),
@@ -226,6 +231,9 @@ fn answer_in(meant: &Meant, words: usize, bytes: usize) -> Answer {
     Ok(counts)
 }
 
+/// From so many words on, exact rooms and those that are one word or one byte short are enough.
+const LARGE: usize = WORDS * 40_000;
+
 /// Empty, exact, one word or one byte short, larger and random rooms, as words and bytes.
 fn rooms(meant: &Meant, every: bool, rng: &mut Rng) -> Vec<(usize, usize)> {
     let mut rooms = match meant {
@@ -244,8 +252,12 @@ fn rooms(meant: &Meant, every: bool, rng: &mut Rng) -> Vec<(usize, usize)> {
             ]
         }
     };
+    if matches!(meant, Ok(given) if given.words.len() >= LARGE) {
+        rooms.truncate(3);
+    }
     if every || rng.once_in(100) {
-        rooms.push(FAR);
+        let (words, bytes) = meant.as_ref().map_or((0, 0), |given| (given.words.len(), given.text.len()));
+        rooms.push((words + FAR.0, bytes + FAR.1));
     }
     rooms
 }

@@ -5,6 +5,7 @@ pub mod deep;
 pub mod grow;
 pub mod hostile;
 pub mod keys;
+pub mod large;
 pub mod mutate;
 pub mod pieces;
 pub mod rng;

@@ -2,6 +2,8 @@
 
 #[cfg(feature = "decided")]
 pub mod deciding;
+#[cfg(feature = "stored")]
+pub mod large;
 #[cfg(feature = "overlaid")]
 pub mod overlaying;
 #[cfg(feature = "stored")]

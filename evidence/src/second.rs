@@ -28,7 +28,7 @@ use std::mem::take;
 use tree::Tree;
 
 /// The most bytes a document may have.
-pub const LONGEST: usize = 32_768;
+pub const LONGEST: usize = 1_048_576;
 /// The most containers one inside another.
 pub const NESTING: usize = 32;
 /// Words of a row.

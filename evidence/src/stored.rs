@@ -1,5 +1,5 @@
 //! Tables to be stored and bytes to be loaded: trees made beside their stored form, sound or not, contents about as wide as
-//! they may be, forms damaged in every byte, head and tag, fields in the wrong place, and random ones.
+//! one field holds and wider, in parts, forms damaged in every byte, head and tag, fields in the wrong place, and random ones.
 
 pub mod borders;
 pub mod damage;
@@ -23,6 +23,7 @@ pub enum Source {
     Deep,
     Keys,
     Wide,
+    Parts,
     Changed,
     Cut,
     Behind,
@@ -33,7 +34,7 @@ pub enum Source {
 }
 
 /// What the sources are called, in their order.
-pub const SOURCES: [&str; 16] = [
+pub const SOURCES: [&str; 17] = [
     "borders",
     "tables, sound and damaged",
     "tables made with their form",
@@ -43,6 +44,7 @@ pub const SOURCES: [&str; 16] = [
     "forms down to 33 levels",
     "forms of many keys",
     "forms of wide contents",
+    "parts cut otherwise",
     "one byte changed",
     "cut short",
     "bytes behind",
@@ -55,7 +57,7 @@ pub const SOURCES: [&str; 16] = [
 /// What is tried, with its answer where that is known from how it was made.
 #[derive(Clone, Debug)]
 pub enum Item {
-    /// A table to be stored: its stored form, BADROW or WIDE.
+    /// A table to be stored: its stored form, or BADROW.
     Table { table: Table, source: Source, known: Option<Result<Vec<u8>, u32>> },
     /// Bytes to be loaded: their rows and text, or BADFORM.
     Bytes { bytes: Vec<u8>, source: Source, known: Option<Result<Loaded, u32>> },

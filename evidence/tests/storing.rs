@@ -6,12 +6,14 @@ use evidence::compare::storing::{Comparer, SecondStores};
 use evidence::documents::Rng;
 use evidence::hex;
 use evidence::second::questions::{Lent, BADROW};
-use evidence::second::stored::{lent, load, loaded, store, stored, Loaded, BADFORM, WIDE, WIDEST};
+use evidence::second::stored::{lent, load, loaded, store, stored, Loaded, BADFORM, WIDEST};
 use evidence::second::write::written;
 use evidence::second::{Second, ROWS, TEXT, WORDS};
 use evidence::stored::borders::{borders, VECTORS};
+use evidence::stored::made::made;
 use evidence::stored::stream::Stream;
 use evidence::stored::Item;
+use evidence::tables::trees::{plain, Node};
 use evidence::tables::Table;
 
 fn table(doc: &[u8]) -> Table {
@@ -47,7 +49,7 @@ fn refusals_in_their_order() {
     let (widest, wider) = (string(WIDEST), string(WIDEST + 1));
     let mut out = vec![7; WIDEST + 9];
     assert_eq!(store(&Lent { table: &wider, rows: 1, text: &text[..9] }, &mut []), (BADROW, 0));
-    assert_eq!(store(&Lent { table: &wider, rows: 1, text: &text }, &mut []), (WIDE, 0));
+    assert_eq!(store(&Lent { table: &wider, rows: 1, text: &text }, &mut out[..WIDEST + 6]), (TEXT, WIDEST + 7));
     assert_eq!(store(&Lent { table: &widest, rows: 1, text: &text }, &mut []), (TEXT, WIDEST + 3));
     assert!(out.iter().all(|byte| *byte == 7));
     assert_eq!(store(&Lent { table: &widest, rows: 1, text: &text }, &mut out), (0, WIDEST + 3));
@@ -58,6 +60,40 @@ fn refusals_in_their_order() {
     assert_eq!(load(form, &mut [7; WORDS - 1], &mut []), (ROWS, 1, 0));
     assert_eq!(load(form, &mut [7; WORDS], &mut room[1..]), (TEXT, WIDEST, 0));
     assert_eq!(load(form, &mut [7; WORDS], &mut room), (0, 1, WIDEST));
+}
+
+#[test]
+fn what_parts_look_like() {
+    let text = |bytes: usize| vec![b'a'; bytes];
+    let string = |bytes: usize| stored(&plain(&Node::Leaf(6, text(bytes)), true).lent()).expect("a form");
+    assert_eq!(string(65_535)[..4], [6, 255, 255, b'a']);
+    assert_eq!(string(65_536)[..4], [11, 255, 255, b'a']);
+    assert_eq!(string(65_536)[65_537..], [b'a', 6, 0, 1, b'a']);
+    assert_eq!(string(131_070)[65_538..65_542], [6, 255, 255, b'a']);
+    assert_eq!(string(131_071)[131_075..], [b'a', 6, 0, 1, b'a']);
+    // A cut inside the head of the second element counts in its span; one just behind the first counts in neither.
+    let spans = |first: usize, second: Node| {
+        let form = made(&Node::Array(vec![Node::Leaf(6, text(first)), second])).bytes;
+        let rows = loaded(&form).expect("a form").words;
+        rows.chunks(WORDS).map(|row| (row[1], row[2])).collect::<Vec<_>>()
+    };
+    assert_eq!(spans(65_530, Node::Leaf(4, b"7".to_vec())), [(0, 65_543), (3, 65_536), (65_536, 65_543)]);
+    assert_eq!(spans(65_532, Node::Leaf(1, Vec::new())), [(0, 65_544), (3, 65_538), (65_541, 65_544)]);
+}
+
+/// A stored form of 16,777,216 bytes is loaded, one of a byte more is not, and is needed to store it.
+#[test]
+fn the_longest_stored_form() {
+    let (heads, room) = (256 * 3, 1 << 24);
+    let table = |bytes: usize| plain(&Node::Leaf(7, vec![9; bytes]), true);
+    let mut out = vec![0; room + 9];
+    let longest = table(room - heads);
+    assert_eq!(store(&longest.lent(), &mut out), (0, room));
+    assert_eq!(loaded(&out[..room]).map(|loaded| loaded.text.len()), Ok(room - heads));
+    let longer = table(room - heads + 1);
+    assert_eq!(store(&longer.lent(), &mut out), (TEXT, room + 1));
+    let form = stored(&longer.lent()).expect("a form");
+    assert_eq!((form.len(), loaded(&form)), (room + 1, Err(BADFORM)));
 }
 
 #[test]

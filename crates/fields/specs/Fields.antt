@@ -1,12 +1,12 @@
 -- FIELDS OF ROWS: what the code of a row's field, of its content and of its children's fields asks, and how it keeps its promise. Assumes nothing.
-use mathlib.Core.Path.{_≡_, refl, sym, ap, subst, _∙_}
+use mathlib.Core.Path.{_≡_, refl, sym, ap, ap₂, subst, _∙_}
 use mathlib.Core.List.{List, [], _∷_, _++_, append-assoc, append-nil}
 use mathlib.Core.Bool.{true, false}
 use Prim.Native.Nat.{ℕ, suc, _+_, _-_, _*_, _/_, _%_, _≤_, _<_}
 use native.Mathlib.Omega.{arith}
 use native.Mathlib.Decide.{decLe}
 use lib.ListN.{length, getD, set, length-append}
-use lib.Seq.{sets, slice, length-slice}
+use lib.Seq.{sets, slice, length-slice, length-sets}
 use lib.Dec.{leb}
 use borrow.Author.Tests.{le-leb, lt-leb}
 use Rattle.language.specs.Kind.{TRUE, KEY}
@@ -18,9 +18,10 @@ use Rattle.shaped.specs.Leaves.{word-row, part-row, part-is, part-fits}
 use Rattle.shaped.specs.Shaped.{Scalar, is-null, is-false, is-true, is-integer, is-float, is-string, is-bytes, shaped-leaf, shaped-array, shaped-object}
 use Rattle.fields.specs.Puts.{Puts, puts-none, puts-as, puts-then}
 use Rattle.fields.specs.Rows.{Kept, kept-key, kept-value, Kepts, kepts-none, kepts-more, elements-kept, pairs-kept, scalar-low, size-some, sizes-some, At, Along, word-in, kind-word, next-word, node-along}
-use Rattle.stored.specs.Form.{tagged, head, tag, content, forms, form}
+use Rattle.stored.specs.Form.{head, widest, tag, cut, content, forms, form}
+use Rattle.stored.specs.Parts.{cut-length}
 use Rattle.stored.specs.Lengths.{scalar-content}
-use Rattle.stored.specs.Answering.{longest}
+use Rattle.fields.specs.Spread.{Closes, sets-over, slice-sets}
 
 -- three stores in a row
 pub three : (o p q s : List ℕ) (x a b c : ℕ) → p ≡ set o x a → q ≡ set p (x + 1) b → s ≡ set q (x + 2) c → s ≡ sets o x (a ∷ b ∷ c ∷ [])
@@ -35,21 +36,18 @@ module _ (table text : List ℕ) where
     pub tree : Tree
     pub kept : Kept tree
     pub here : At table text r tree
-    pub room : x + length (form tree) ≤ longest
     pub fits : x + length (form tree) ≤ n
 
   pub record Content (n r x : ℕ) : Type 0 where
     pub tree : Tree
     pub kept : Kept tree
     pub here : At table text r tree
-    pub room : x + length (content tree) ≤ longest
     pub fits : x + length (content tree) ≤ n
 
   pub record Fields (n from stop x : ℕ) : Type 0 where
     pub trees : Forest
     pub kept : Kepts trees
     pub here : Along table text from stop trees
-    pub room : x + length (forms trees) ≤ longest
     pub fits : x + length (forms trees) ≤ n
 
   -- ---- a field: its content, and then its head
@@ -66,7 +64,7 @@ module _ (table text : List ℕ) where
 
   module _ {n r x : ℕ} (h : Field n r x) where
     pub field-content : Content n r (x + 3)
-    field-content = record { tree = h .tree; kept = h .kept; here = h .here; room = omega (arith, h .room); fits = omega (arith, h .fits) }
+    field-content = record { tree = h .tree; kept = h .kept; here = h .here; fits = omega (arith, h .fits, cut-length (tag (h .tree)) (content (h .tree))) }
 
     pub field-kind : width * r + 0 < length table
     field-kind = word-in table text (h .here) 0 (omega arith)
@@ -79,38 +77,50 @@ module _ (table text : List ℕ) where
       unfolding field-content
       inside = f field-content
 
-      pub head-rises : x + 3 ≤ y
-      head-rises = let e = inside .ends in omega arith
-
-      pub head-room : {m : ℕ} → m ≡ y - (x + 3) → x + 3 + m ≤ longest
-      head-room d = let e = inside .ends in omega (arith, h .room)
-
       module _ {kind : ℕ} (e : kind ≡ getD table (width * r + 0) 0) where
-        pub head-kind : kind < 256
-        head-kind = let k = kind-word table text (h .here) e in let l = kept-low (h .kept) in omega arith
+        true-tag : kind ≡ tag (h .tree)
+        true-tag = kind-word table text (h .here) e ∙ sym (tag-kind (h .tree))
 
-        pub field-puts : {m : ℕ} {q : List ℕ} → m ≡ y - (x + 3) → q ≡ sets p x (kind ∷ m / 256 ∷ m % 256 ∷ []) → Puts (form (h .tree)) x y o q
-        field-puts {m} {q} d w =
-            let c = content (h .tree) in
-            let i = inside in
-            let l : m ≡ length c = omega (arith, i .ends) in
-            let k : kind ≡ tag (h .tree) = kind-word table text (h .here) e ∙ sym (tag-kind (h .tree)) in
-            let z : q ≡ sets o x (kind ∷ m / 256 ∷ m % 256 ∷ c) =
-            w ∙ (ap (λ (b : List ℕ). sets b x (kind ∷ m / 256 ∷ m % 256 ∷ [])) (i .holds) ∙ row-behind o x (x + 3) (kind ∷ m / 256 ∷ m % 256 ∷ []) c (omega arith)) in
-            record {
-              ends = omega (arith, i .ends);
-              holds = z ∙ (ap (λ (b : ℕ). sets o x (b ∷ m / 256 ∷ m % 256 ∷ c)) k ∙ ap (λ (b : ℕ). sets o x (tag (h .tree) ∷ b / 256 ∷ b % 256 ∷ c)) l);
-            }
+        module _ (b : n ≡ length o) where
+          size-is : length (form (h .tree)) ≡ length (content (h .tree)) + 3 * ((length (content (h .tree)) - 1) / 65535 + 1)
+          unfolding widest
+          size-is = cut-length (tag (h .tree)) (content (h .tree))
+
+          written : slice (x + 3) y p ≡ content (h .tree)
+          written =
+              let i = inside in
+              ap₂ (λ (w : List ℕ) (j : ℕ). slice (x + 3) j w) (i .holds) (i .ends) ∙ slice-sets o (x + 3) (content (h .tree)) (omega (arith, h .fits, size-is))
+
+          pub field-closes : Closes p x kind y
+          field-closes =
+              let i = inside in
+              let l = kept-low (h .kept) in
+              let k = kind-word table text (h .here) e in
+              let m : length (content (h .tree)) ≡ y - (x + 3) = omega (arith, i .ends) in
+              let q : length p ≡ length o = ap length (i .holds) ∙ length-sets o (x + 3) (content (h .tree)) in
+              record {
+                low = omega arith;
+                rises = omega (arith, i .ends);
+                fits = subst (λ j. x + j + 3 * ((j - 1) / 65535 + 1) ≤ length p) m (omega (arith, h .fits, size-is));
+              }
+
+          pub field-puts : {z : ℕ} {q : List ℕ} → Puts (cut kind (slice (x + 3) y p)) x z p q → Puts (form (h .tree)) x z o q
+          field-puts {z} {q} w =
+              let c = content (h .tree) in
+              let g : Puts (form (h .tree)) x z p q = puts-as (ap₂ (λ (k : ℕ) (s : List ℕ). cut k s) true-tag written) w in
+              let i : sets p x (form (h .tree)) ≡ sets o x (form (h .tree)) =
+              ap (λ (s : List ℕ). sets s x (form (h .tree))) (inside .holds) ∙ sets-over o x (x + 3) (form (h .tree)) c (omega arith) (omega (arith, size-is)) (omega (arith, h .fits)) in
+              record { ends = g .ends; holds = g .holds ∙ i }
 
   -- ---- a container's content: its children's fields
 
-  record Opened (r : ℕ) (t : Tree) : Type 0 where
-    trees : Forest
-    kept : Kepts trees
-    here : Along table text (r + 1) (getD table (width * r + 6) 0) trees
-    is : content t ≡ forms trees
+  pub record Opened (r : ℕ) (t : Tree) : Type 0 where
+    pub trees : Forest
+    pub kept : Kepts trees
+    pub here : Along table text (r + 1) (getD table (width * r + 6) 0) trees
+    pub is : content t ≡ forms trees
 
-  opened : {r : ℕ} {t : Tree} → Kept t → 8 ≤ kindOf t → kindOf t ≤ 9 → At table text r t → Opened r t
+  pub opened : {r : ℕ} {t : Tree} → Kept t → 8 ≤ kindOf t → kindOf t ≤ 9 → At table text r t → Opened r t
   unfolding content
   opened (kept-key x) l m h = absurd (omega arith)
   opened (kept-value (shaped-leaf x)) l m h = absurd (let z = scalar-low x in omega arith)
@@ -124,7 +134,7 @@ module _ (table text : List ℕ) where
     pub content-fields : Fields n (r + 1) stop x
     content-fields =
         let o = children in
-        record { trees = o .trees; kept = o .kept; here = subst (λ i. Along table text (r + 1) i (o .trees)) (sym f) (o .here); room = omega (arith, h .room, ap length (o .is)); fits = omega (arith, h .fits, ap length (o .is)) }
+        record { trees = o .trees; kept = o .kept; here = subst (λ i. Along table text (r + 1) i (o .trees)) (sym f) (o .here); fits = omega (arith, h .fits, ap length (o .is)) }
 
     pub content-puts : {y : ℕ} {o p : List ℕ} → ((i : Fields n (r + 1) stop x) → Puts (forms (i .trees)) x y o p) → Puts (content (h .tree)) x y o p
     unfolding content-fields
@@ -132,10 +142,10 @@ module _ (table text : List ℕ) where
 
   -- ---- a leaf's content: the part of the text that its words tell
 
-  record Texted (t : Tree) (from to : ℕ) : Type 0 where
-    rises : from ≤ to
-    inside : to ≤ length text
-    is : content t ≡ slice from to text
+  pub record Texted (t : Tree) (from to : ℕ) : Type 0 where
+    pub rises : from ≤ to
+    pub inside : to ≤ length text
+    pub is : content t ≡ slice from to text
 
   scalar-bare : {kind : ℕ} {s : List ℕ} → Scalar kind s → kind ≤ 3 → s ≡ []
   scalar-bare is-null h = refl
@@ -171,7 +181,7 @@ module _ (table text : List ℕ) where
   unfolding content
   key-content a e s = refl
 
-  texted : {r : ℕ} {t : Tree} → Kept t → (kindOf t ≡ 8 → ⊥) → (kindOf t ≡ 9 → ⊥) → At table text r t → Texted t (getD table (width * r + 3) 0) (getD table (width * r + 4) 0)
+  pub texted : {r : ℕ} {t : Tree} → Kept t → (kindOf t ≡ 8 → ⊥) → (kindOf t ≡ 9 → ⊥) → At table text r t → Texted t (getD table (width * r + 3) 0) (getD table (width * r + 4) 0)
   texted (kept-key {a = a} {e = e} {s = s} x) m n h = text-part (key-content a e s) refl h
   texted {r} (kept-value (shaped-leaf {kind = kind} {a = a} {e = e} {s = s} x)) m n h = by (decLe kind 3)
     where
@@ -212,9 +222,6 @@ module _ (table text : List ℕ) where
       pub leaf-fits : x + (to - from) ≤ b
       leaf-fits = let l = leaf-inside in omega (arith, h .asked .fits, ap length leaf-is, length-slice from to text l)
 
-      pub leaf-room : x + (to - from) < 65539
-      leaf-room = let l = leaf-inside in omega (arith, h .asked .room, ap length leaf-is, length-slice from to text l)
-
       pub leaf-puts : {y : ℕ} {o p : List ℕ} → y ≡ x + (to - from) → p ≡ sets o x (slice from to text) → Puts (content (h .asked .tree)) x y o p
       leaf-puts z w = let l = leaf-inside in puts-as (sym leaf-is) (record { ends = omega (arith, length-slice from to text l); holds = w })
 
@@ -254,16 +261,16 @@ module _ (table text : List ℕ) where
   -- ---- children's fields, one behind another
 
   -- the first of rows that are left
-  record Turn (at stop : ℕ) (ts : Forest) : Type 0 where
-    tree : Tree
-    rest : Forest
-    is : ts ≡ more tree rest
-    kept : Kept tree
-    kepts : Kepts rest
-    here : At table text at tree
-    behind : Along table text (getD table (width * at + 6) 0) stop rest
+  pub record Turn (at stop : ℕ) (ts : Forest) : Type 0 where
+    pub tree : Tree
+    pub rest : Forest
+    pub is : ts ≡ more tree rest
+    pub kept : Kept tree
+    pub kepts : Kepts rest
+    pub here : At table text at tree
+    pub behind : Along table text (getD table (width * at + 6) 0) stop rest
 
-  turn : {at stop : ℕ} (ts : Forest) → Kepts ts → Along table text at stop ts → at < stop → Turn at stop ts
+  pub turn : {at stop : ℕ} (ts : Forest) → Kepts ts → Along table text at stop ts → at < stop → Turn at stop ts
   unfolding sizes
   turn none kepts-none h l = absurd (omega (arith, h .ends))
   turn {at} {stop} (more t ts) (kepts-more x xs) h l =
@@ -306,7 +313,7 @@ module _ (table text : List ℕ) where
       by none a = refl
       by (more t us) a = absurd (omega (arith, a .ends, sizes-some t us))
 
-  module _ {b x stop at y : ℕ} {ts : Forest} {out out' : List ℕ} (room : x + length (forms ts) ≤ longest) (fits : x + length (forms ts) ≤ b) (h : Left x stop ts at y out out') (l : at < stop) where
+  module _ {b x stop at y : ℕ} {ts : Forest} {out out' : List ℕ} (fits : x + length (forms ts) ≤ b) (h : Left x stop ts at y out out') (l : at < stop) where
     one : Turn at stop (h .trees)
     one = turn (h .trees) (h .kept) (h .here) l
 
@@ -319,7 +326,7 @@ module _ (table text : List ℕ) where
         let w = form (one .tree) in
         let u = forms (one .rest) in
         let m : length (forms ts) ≡ length (h .bytes) + (length w + length u) = ap length all-is ∙ omega (arith, length-append (h .bytes) (w ++ u), length-append w u) in
-        record { tree = one .tree; kept = one .kept; here = one .here; room = omega (arith, h .puts .ends); fits = omega (arith, h .puts .ends) }
+        record { tree = one .tree; kept = one .kept; here = one .here; fits = omega (arith, h .puts .ends) }
 
     pub turn-word : (i : ℕ) → i ≤ 8 → width * at + i < length table
     turn-word i m = word-in table text (one .here) i m
@@ -347,8 +354,8 @@ module _ (table text : List ℕ) where
         }
 
 -- found by what the code has read
-pub ruleset leafing = (leaf-start, leaf-end, leaf-rises, leaf-inside, leaf-fits, leaf-room, leaf-puts)
+pub ruleset leafing = (leaf-start, leaf-end, leaf-rises, leaf-inside, leaf-fits, leaf-puts)
 
 pub ruleset contents = (content-kind, content-next, content-leaf, leaf-content, array-fields, object-fields, array-puts, object-puts, fewer-fields)
 
-pub ruleset fielding = (field-kind, field-fewer, field-content, head-rises, head-room, head-kind, field-puts)
+pub ruleset fielding = (field-kind, field-fewer, field-content, field-closes, field-puts)

@@ -5,14 +5,16 @@ ghost use Prim.Native.Nat.{_+_, _-_, _*_, _/_, _%_, _≤_, _<_};
 ghost use lib.ListN.{length, getD};
 ghost use lib.Seq.{sets, slice};
 ghost use Rattle.language.specs.Tree.{width};
-ghost use Rattle.stored.specs.Answering.{longest};
 ghost use Rattle.stored.specs.Form as form;
 ghost use Rattle.fields.specs.Puts.{Puts};
+ghost use Rattle.fields.specs.Spread.{between, Moves, Spreads, Closes};
 ghost use Rattle.fields.specs.Fields.{Field, Content, Leaf, Fields};
 ghost use Rattle.fields.specs.Ends.{endBelow};
+ghost use Rattle.fields.specs.Measured.{Measured, MeasuredAll};
 use language::Kind;
 use language::WIDTH;
 use rooms::put_byte;
+use stored::WIDEST;
 
 // A word of a row.
 fn word(table: &[u32], r: usize, i: usize) -> usize
@@ -40,7 +42,7 @@ pub fn text_end(table: &[u32], rows: usize) -> usize
 
 // Tag and length, high byte first.
 fn head(out: &mut [u8], x: usize, kind: usize, n: usize)
-    requires { ⌜ (kind < 256) × (x + 3 + n ≤ longest) ⌝ }
+    requires { ⌜ (kind < 256) × (n < 65536) × (x + 3 ≤ length (now out)) ⌝ }
     ensures { λ _. ⌜ now (out .exit) ≡ sets (now (out .entry)) x (kind ∷ n / 256 ∷ n % 256 ∷ []) ⌝ }
 {
     put_byte(out, x, kind as u8);
@@ -60,6 +62,69 @@ pub fn part(text: &[u8], a: usize, e: usize, out: &mut [u8], x: usize)
     }
 }
 
+// The n bytes at a, moved on to b. The last come first, since both places may have bytes in common.
+fn shift(out: &mut [u8], a: usize, b: usize, n: usize)
+    requires { ⌜ (a ≤ b) × (b + n ≤ length (now out)) ⌝ }
+    ensures { λ _. ⌜ now (out .exit) ≡ sets (now (out .entry)) b (slice a (a + n) (now (out .entry))) ⌝ }
+{
+    let mut i = n;
+    while 0 < i {
+        i -= 1;
+        out[b + i] = out[a + i];
+    }
+}
+
+// A part, or the end of a content: the k-th, of m bytes, is moved behind the heads of those before it.
+fn part_at(out: &mut [u8], x: usize, k: usize, tag: usize, m: usize)
+    requires { ⌜ Moves (length (now out)) x k tag m ⌝ }
+    ensures { λ _. ⌜ now (out .exit) ≡ sets (now (out .entry)) (x + 65538 * k) (form.tagged tag (slice (x + 3 + 65535 * k) (x + 3 + 65535 * k + m) (now (out .entry)))) ⌝ }
+{
+    let at = x + (WIDEST + 3) * k;
+    shift(out, x + 3 + WIDEST * k, at + 3, m);
+    head(out, at, tag, m);
+}
+
+// A content of n bytes, more than one field holds, which stands behind the place of its first head, in its parts: the last come first.
+fn parts(out: &mut [u8], x: usize, kind: usize, n: usize)
+    requires { ⌜ Spreads (now out) x kind n ⌝ }
+    ensures { λ _. ⌜ now (out .exit) ≡ sets (now (out .entry)) x (form.cut kind (between (now (out .entry)) x kind n)) ⌝ }
+{
+    let mut k = (n - 1) / WIDEST;
+    let mut m = n - WIDEST * k;
+    let mut tag = kind;
+    while 0 < k {
+        part_at(out, x, k, tag, m);
+        k -= 1;
+        m = WIDEST;
+        tag = 11;
+    }
+    head(out, x, tag, m);
+}
+
+// The heads of a content of n bytes.
+fn heads(n: usize) -> usize
+    ensures { λ h. ⌜ (h ≡ 3 * ((n - 1) / 65535 + 1)) × (h ≤ n + 3) ⌝ }
+{
+    if WIDEST < n {
+        return 3 * ((n - 1) / WIDEST + 1);
+    }
+    3
+}
+
+// A content from x + 3 up to y gets its heads; the place behind it.
+fn closed(out: &mut [u8], x: usize, kind: usize, y: usize) -> usize
+    requires { ⌜ Closes (now out) x kind y ⌝ }
+    ensures { λ z. ⌜ Puts (form.cut kind (slice (x + 3) y (now (out .entry)))) x z (now (out .entry)) (now (out .exit)) ⌝ }
+{
+    let n = y - (x + 3);
+    if n <= WIDEST {
+        head(out, x, kind, n);
+        return y;
+    }
+    parts(out, x, kind, n);
+    x + n + heads(n)
+}
+
 // The content of a row that is no container's: its text, which kinds 1 to 3 have none of.
 fn leaf(table: &[u32], text: &[u8], r: usize, out: &mut [u8], x: usize) -> usize
     requires { ⌜ Leaf (now table) (now text) (length (now out)) r x ⌝ }
@@ -77,8 +142,7 @@ pub fn field(table: &[u32], text: &[u8], r: usize, out: &mut [u8], x: usize) -> 
     ensures { λ y. ⌜ ((h : Field (now (table .entry)) (now (text .entry)) (length (now (out .entry))) r x) → Puts (form.form (h .tree)) x y (now (out .entry)) (now (out .exit))) ⌝ }
 {
     let y = content(&*table, &*text, r, out, x + 3);
-    head(out, x, word(&*table, r, 0), y - (x + 3));
-    y
+    closed(out, x, word(&*table, r, 0), y)
 }
 
 // Its content: the fields of the children, or the text.
@@ -108,4 +172,42 @@ fn fields(table: &[u32], text: &[u8], from: usize, stop: usize, out: &mut [u8], 
         at = word(&*table, at, 6);
     }
     y
+}
+
+// The cycle. How many bytes the field of row r has.
+pub fn field_length(table: &[u32], r: usize) -> usize
+    requires { ⌜ Measured (now table) r ⌝ }
+    ensures { λ n. ⌜ ((h : Measured (now (table .entry)) r) → n ≡ length (form.form (h .tree))) ⌝ }
+{
+    let n = content_length(&*table, r);
+    n + heads(n)
+}
+
+// How many its content has.
+fn content_length(table: &[u32], r: usize) -> usize
+    requires { ⌜ Measured (now table) r ⌝ }
+    ensures { λ n. ⌜ ((h : Measured (now (table .entry)) r) → n ≡ length (form.content (h .tree))) ⌝ }
+{
+    let kind = word(&*table, r, 0);
+    if kind == 8 {
+        return fields_length(&*table, r + 1, word(&*table, r, 6));
+    }
+    if kind == 9 {
+        return fields_length(&*table, r + 1, word(&*table, r, 6));
+    }
+    word(&*table, r, 4) - word(&*table, r, 3)
+}
+
+// How many the fields of the children in the rows from `from` up to `stop` have.
+fn fields_length(table: &[u32], from: usize, stop: usize) -> usize
+    requires { ⌜ MeasuredAll (now table) from stop ⌝ }
+    ensures { λ n. ⌜ ((h : MeasuredAll (now (table .entry)) from stop) → n ≡ length (form.forms (h .trees))) ⌝ }
+{
+    let mut row = from;
+    let mut n = 0;
+    while row < stop {
+        n += field_length(&*table, row);
+        row = word(&*table, row, 6);
+    }
+    n
 }

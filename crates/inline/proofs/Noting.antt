@@ -25,7 +25,10 @@ use Rattle.rooms.specs.Contract.{Takes, Ready, Taken, Answers, Reaches}
 use Rattle.rooms.specs.Laws
 use Rattle.numbers.specs.Plain.{plainR}
 use Rattle.notes.specs.Flat.{flats}
-use Rattle.notes.specs.Noted.{noted}
+use Rattle.notes.specs.Handed.{Handed}
+use Rattle.notes.specs.Lie.{KeyAt}
+use Rattle.spelt.specs.Texts.{key-own}
+use Rattle.spelt.specs.Reading.{Keyed as Stood}
 use Rattle.notes.specs.Notes.{Gives, gives-ok, gives-fmap, gives-behind, Kept, Notes, one, kept-wide, kept-trees, kept-node, notes-known, notes-bad}
 use Rattle.notes.specs.Bare.{Always, Bare, notes-bare, keyed, kept-key}
 use Rattle.inline.specs.declared.Sep.{Sep}
@@ -145,14 +148,14 @@ module _ (doc : List ℕ) (c : Cursor) (p : ℕ) (r : Reader Tree) (a : Ans) (R 
     label : Taken doc c p (labelR (c .at) (drop (c .at) doc)) m 0 R R' T T'
     label = Laws.taken doc c p _ R R' T T' a m e w
 
-    label-kept : S' ≡ noted S p (c .at) → Kept doc (c .at) (flats (c .row) p (forest (label .tree ∷ []))) (m .at) S S'
+    label-kept : Handed doc S p (c .at) S' → Kept doc (c .at) (flats (c .row) p (forest (label .tree ∷ []))) (m .at) S S'
     unfolding labelR
     label-kept h =
         let g = keyed doc (c .at) (λ k. seqR (wordR (58 ∷ 32 ∷ [])) λ _. retR k) (subst (λ (u : Out Tree). Gives u (label .tree) (m .at)) (sym (label .is)) gives-ok) in
         let b = colon-gives (g .ends) (drop (g .ends) doc) (leaf KEY (c .at) (g .ends) (g .text)) (g .behind) in
         rw (b .0) (kept-key (c .row) p (g .text) (record { escapes = g .text .escapes; is = g .is; ahead = g .ahead; inside = omega (arith, b .1, label .span .inside) }) (b .1) h)
 
-    pub pair-noted : (S'' : List ℕ) → S' ≡ noted S p (c .at) → Notes (members false) doc (m .at) (m .row) p (r (m .at) (drop (m .at) doc)) S' S''
+    pub pair-noted : (S'' : List ℕ) → Handed doc S p (c .at) S' → Notes (members false) doc (m .at) (m .row) p (r (m .at) (drop (m .at) doc)) S' S''
         → Notes (members true) doc (c .at) (c .row) p (inlinePairR r (c .at) (drop (c .at) doc)) S S''
     unfolding sizes
     pair-noted S'' h x =
@@ -167,9 +170,17 @@ module _ (doc : List ℕ) (c : Cursor) (p : ℕ) (r : Reader Tree) (a : Ans) (R 
               rw (f .is) (kept-trees (c .row) p (label .tree ∷ []) (f .value ∷ []) (label-kept h) (subst (λ (q : ℕ). Kept doc (m .at) (flats q p (forest (f .value ∷ []))) b S' S'') row k));
         }
 
-pub at-fits : (doc : List ℕ) (c : Cursor) → Ready doc c → c .at ≤ limit
-at-fits doc c d = omega (arith, d .small, d .inside)
+-- a key stands where one was read
+module _ (doc : List ℕ) (c : Cursor) (p : ℕ) (a : Ans) (R R' T T' : List ℕ) (w : Answers doc c p (labelR (c .at) (drop (c .at) doc)) a R R' T T') (m : Cursor) (e : a ≡ Ok m) where
+  pub label-key : Ready doc c → Stood doc (c .at)
+  unfolding labelR
+  label-key d =
+      let l = Laws.taken doc c p _ R R' T T' a m e w in
+      let g = keyed doc (c .at) (λ k. seqR (wordR (58 ∷ 32 ∷ [])) λ _. retR k) (subst (λ (u : Out Tree). Gives u (l .tree) (m .at)) (sym (l .is)) gives-ok) in
+      let b = colon-gives (g .ends) (drop (g .ends) doc) (leaf KEY (c .at) (g .ends) (g .text)) (g .behind) in
+      let key : KeyAt doc (c .at) (g .text .bytes) (g .ends) = record { escapes = g .text .escapes; is = g .is; ahead = g .ahead; inside = omega (arith, b .1, l .span .inside) } in
+      record { short = d .small; key = key-own doc (c .at) (g .ends) (g .text .bytes) key }
 
-pub ruleset noting = (deep-noted, scalar-noted, digits-noted, array-noted, object-noted, shut-noted, none-noted, bad-noted, last-noted, element-noted, label-bad, pair-noted, at-fits, needs)
+pub ruleset noting = (deep-noted, scalar-noted, digits-noted, array-noted, object-noted, shut-noted, none-noted, bad-noted, last-noted, element-noted, label-bad, pair-noted, label-key, needs)
 
 pub ruleset noting-line = (marked-noted, line-noted, needs)

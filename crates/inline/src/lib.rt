@@ -230,7 +230,7 @@ fn pair(
     match label(&*doc, rows, text, c, parent) {
         Ans::No(p) => Sep::Bad(p),
         Ans::Ok(n) => {
-            note(keys, parent, c.at);
+            note(&*doc, keys, parent, c.at, allow);
             element(&*doc, rows, text, keys, n, parent, allow, 125)
         }
     }

@@ -23,7 +23,10 @@ use Rattle.characters.specs.declared.Skip.{Skip}
 use Rattle.characters.specs.declared.Skip.the-variants
 use Rattle.characters.specs.Reads.{Ends, Skips}
 use Rattle.notes.specs.Flat.{flats}
-use Rattle.notes.specs.Noted.{noted}
+use Rattle.language.specs.Answered.{limit}
+use Rattle.notes.specs.Handed.{Handed}
+use Rattle.spelt.specs.Texts.{key-own}
+use Rattle.spelt.specs.Reading.{Keyed}
 use Rattle.notes.specs.Lie.{KeyAt}
 use Rattle.notes.specs.Bare.{kept-key}
 use Rattle.notes.specs.Notes.{Gives, Mapped, gives-fmap, Kept, kept-wide, kept-trees, kept-node, kept-none, Notes, one, notes-known, notes-bad, notes-same, kept-known}
@@ -100,7 +103,7 @@ module _ (doc : List ℕ) (c : Cursor) (p : ℕ) (a : Ans) (R R' T T' : List ℕ
     unfolding Members
     property-cut-notes q z = notes-bad q (Colons.property-cut doc c p a R R' T T' w m t e h k n q z)
 
-    pub property-notes : (d : Cursor) (S₁ : List ℕ) → t ≡ Ok d → S₁ ≡ noted S p (c .at)
+    pub property-notes : (d : Cursor) (S₁ : List ℕ) → t ≡ Ok d → Handed doc S p (c .at) S₁
         → Notes one doc (d .at) (d .row) p (restR (onR k n) (nestedR k (suc (suc n))) (d .at) (drop (d .at) doc)) S₁ S' → Own
     unfolding size sizes
     property-notes d S₁ z l x =
@@ -123,6 +126,15 @@ module _ (doc : List ℕ) (c : Cursor) (p : ℕ) (a : Ans) (R R' T T' : List ℕ
               let q = gives-fmap (field (got .tree)) _ (subst (λ (o : Out (Member true)). Gives o v b) (Colons.property-is doc c p a R R' T T' w m t e h d z k n [] []) g) in
               rw (q .is) (kept-trees (c .row) p (got .tree ∷ []) (q .value ∷ []) first (x₁ .kept (q .value) b (q .gives)));
         }
+
+-- a key stands where one was read
+pub property-key : (doc : List ℕ) (c : Cursor) (p : ℕ) (a : Ans) (R R' T T' : List ℕ) → Answers doc c p (keyR (c .at) (drop (c .at) doc)) a R R' T T' → (m : Cursor) → a ≡ Ok m → length doc ≤ limit → Keyed doc (c .at)
+property-key doc c p a R R' T T' w m e l =
+    let got = Laws.taken doc c p _ R R' T T' a m e w in
+    let u = key-leaf (c .at) (drop (c .at) doc) (got .tree) (m .at) (drop (m .at) doc) (got .is) in
+    let key : KeyAt doc (c .at) (u .0 .bytes) (m .at) =
+    record { escapes = u .0 .escapes; is = got .is ∙ ap (λ (v : Tree). ok v (m .at) (drop (m .at) doc)) (u .1); ahead = got .span .ahead; inside = got .span .inside } in
+    record { short = l; key = key-own doc (c .at) (m .at) (u .0 .bytes) key }
 
 pub ruleset property-noting = (property-none-notes, property-cut-notes, property-notes, needs)
 

@@ -77,7 +77,7 @@ fn property(
         Ans::Ok(n) => match n.take(&*doc, 58) {
             Ans::No(p) => Block::Bad(p),
             Ans::Ok(m) => {
-                note(keys, parent, c.at);
+                note(&*doc, keys, parent, c.at, allow);
                 behind(&*doc, rows, text, keys, m, parent, col, allow)
             }
         },

@@ -11,9 +11,9 @@ use Rattle.language.specs.Document.{Document}
 use Rattle.language.specs.Lines.{linesOf}
 use Rattle.language.specs.Lent.{wordsIn, bytesIn}
 
--- "more than 32,768 bytes"; "at most 32 containers one inside another"
+-- "Raise the length limit" to 1,048,576 bytes (02, Ticket 11); "at most 32 containers one inside another"
 abbrev pub limit : ℕ
-limit = 32768
+limit = 1048576
 
 abbrev pub deepest : ℕ
 deepest = 32

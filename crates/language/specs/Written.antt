@@ -36,7 +36,7 @@ pub data Written (table : List ℕ) (rows : ℕ) (text out : List ℕ) : ℕ →
       → Written table rows text out 0 (length (house t)) (house t ++ drop (length (house t)) out)
   -- "A table that isn't sound is BADROW, tested first"
   bad : (Sound table rows text → ⊥) → Written table rows text out BADROW 0 out
-  -- "Written bytes over 32,768 are refused as LONG"
+  -- "Written bytes over" the limit "are refused as LONG", "the writer's LONG read with the new limit" (Ticket 11)
   long : (t : Tree) → Holds table rows text t → limit < length (house t) → Written table rows text out LONG 0 out
   -- "a lent output too short as TEXT with the bytes needed"
   needs : (t : Tree) → Holds table rows text t → length (house t) ≤ limit → bytesIn out < length (house t)

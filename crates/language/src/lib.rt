@@ -9,8 +9,8 @@ ghost use Prim.Native.Nat.{_/_};
 // "A row is nine words" (02, Ticket 8).
 pub const WIDTH: usize = 9;
 
-// LONG: "more than 32,768 bytes".
-pub const LIMIT: usize = 32768;
+// LONG: more than 1,048,576 bytes (02, Ticket 11).
+pub const LIMIT: usize = 1048576;
 
 // "at most 32 containers one inside another".
 pub const DEEPEST: usize = 32;

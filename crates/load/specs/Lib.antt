@@ -1,8 +1,3 @@
-pub mod Heads
-pub mod Tested
-pub mod Walk
-pub mod Containers
-pub mod Keys
-pub mod Filling
-pub mod Children
 pub mod Loading
+pub mod Testing
+pub mod Rooms

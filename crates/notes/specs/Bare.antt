@@ -14,45 +14,10 @@ use Rattle.exact.specs.Lines.{reached}
 use Rattle.strings.specs.Spans.{spannedR}
 use Rattle.strings.specs.Keys.{nameR, keyR, key-ll}
 use Rattle.notes.specs.Flat.{flat, flats, flats-one}
-use Rattle.notes.specs.Noted.{noted, noteds}
+use Rattle.notes.specs.Handed.{Handed, took-none, took-more}
 use Rattle.notes.specs.Lie.{KeyAt, keys-none, keys-more}
 use Rattle.notes.specs.Notes.{Gives, gives-ok, gives-none, gives-reached, gives-bind, Kept, kept-none, Notes, one, notes-known}
-
--- ---- every value that an answer gives is such a one, with the place where it ends
-
-pub record Every {X : Type 0} (P : X → ℕ → Type 0) (o : Out X) : Type 0 where
-  pub holds : (v : X) (a : ℕ) → Gives o v a → P v a
-
--- .. wherever it ends
-abbrev pub Always : {X : Type 0} → (X → Type 0) → Out X → Type 0
-Always P o = Every (λ v a. P v) o
-
-module _ {X : Type 0} {P : X → ℕ → Type 0} where
-  pub every-ok : {v : X} {a : ℕ} {s : List ℕ} → P v a → Every P (ok v a s)
-  every-ok {v} {a} {s} h = record { holds = go }
-    where
-      go : (w : X) (b : ℕ) → Gives (ok v a s) w b → P w b
-      go w b gives-ok = h
-
-  every-pick : (y : Bool) {o o′ : Out X} → Every P o → Every P o′ → Every P (pick y o o′)
-  every-pick true x z = x
-  every-pick false x z = z
-
-  pub every-alt : (f : ℕ → Bool) (r q : Reader X) (at : ℕ) (s : List ℕ) → ((at : ℕ) (s : List ℕ) → Every P (r at s)) → ((at : ℕ) (s : List ℕ) → Every P (q at s)) → Every P (altR f r q at s)
-  every-alt f r q at [] x z = z at []
-  every-alt f r q at (b ∷ s) x z = every-pick (f b) (x at (b ∷ s)) (z at (b ∷ s))
-
-  -- by what comes last
-  pub every-bind : {Y : Type 0} (o : Out Y) (k : Y → Reader X) → ((v : Y) (a : ℕ) (s : List ℕ) → Every P (k v a s)) → Every P (bind o k)
-  every-bind o k h = record { holds = λ w b x. let g = gives-bind o k x in h (g .value) (g .middle) (g .left) .holds w b (g .second) }
-
-  -- .. or by what comes first too
-  pub every-with : {Y : Type 0} {Q : Y → ℕ → Type 0} (o : Out Y) (k : Y → Reader X) → Every Q o → ((v : Y) (a : ℕ) → Q v a → (s : List ℕ) → Every P (k v a s)) → Every P (bind o k)
-  every-with o k y h =
-      record { holds = λ w b x. let g = gives-bind o k x in h (g .value) (g .middle) (y .holds (g .value) (g .middle) (g .first)) (g .left) .holds w b (g .second) }
-
-  pub every-reached : {o : Out X} → Every P o → (far : ℕ) (v : X) (a : ℕ) (s : List ℕ) → o ≡ reached far v a s → P v a
-  every-reached h far v a s e = h .holds v a (subst (λ (u : Out X). Gives u v a) (sym e) (gives-reached far v a s))
+pub use Rattle.named.specs.Every.{Every, Always, every-ok, every-alt, every-bind, every-with, every-reached}
 
 -- ---- a tree with no key in it
 
@@ -111,8 +76,8 @@ keyed {X} doc at k {v} {a} g = go (key-is doc at)
     go (key-not p e) = absurd (gives-none (subst (λ (u : Out Tree). Gives (bind u k) v a) e g))
 
 -- the key of a member is noted
-pub kept-key : {doc : List ℕ} {at m a : ℕ} (row parent : ℕ) (s : Decoded) {S S' : List ℕ} → KeyAt doc at (s .bytes) m → m ≤ a → S' ≡ noted S parent at → Kept doc at (flats row parent (forest (leaf KEY at m s ∷ []))) a S S'
-unfolding flat noteds
+pub kept-key : {doc : List ℕ} {at m a : ℕ} (row parent : ℕ) (s : Decoded) {S S' : List ℕ} → KeyAt doc at (s .bytes) m → m ≤ a → Handed doc S parent at S' → Kept doc at (flats row parent (forest (leaf KEY at m s ∷ []))) a S S'
+unfolding flat
 kept-key {at = at} {m} {a} row parent s k h e =
     let z : at ≤ at = omega arith in
-    record { log = e; lie = keys-more {q = parent} z k (keys-none {a = m} {e = a} h) }
+    record { log = took-more e took-none; lie = keys-more {q = parent} z k (keys-none {a = m} {e = a} h) }

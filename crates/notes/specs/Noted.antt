@@ -1,6 +1,7 @@
 -- WHAT A ROOM HOLDS once keys are noted in it: four words that say how far it has come, and behind them two for each key. Assumes nothing.
-use mathlib.Core.Path.{_≡_, refl}
+use mathlib.Core.Path.{_≡_, refl, _∙_}
 use mathlib.Core.List.{List, [], _∷_, _++_}
+use mathlib.Core.Bool.{Bool, true, false}
 use Prim.Native.Nat.{ℕ, _+_, _-_, _*_, _/_, _%_, _≤_, _<_}
 use native.Mathlib.Omega.{arith}
 use lib.ListN.{length, getD, set, length-set}
@@ -95,3 +96,26 @@ pub ruleset noting = (note-small, note-passed, note-entered, note-left, needs)
 
 pub left-one : (S : List ℕ) (k : ℕ) → k ≡ getD S 3 0 → set S 3 ((k + 1) % 4294967296) ≡ set S 3 ((getD S 3 0 + 1) % 4294967296)
 left-one S k e = rw e refl
+
+-- a room keeps its length
+pub length-noted : (S : List ℕ) (q a : ℕ) → length (noted S q a) ≡ length S
+unfolding noted entered halved
+length-noted S q a = by (leb (length S) 3) (leb 1 (getD S 1 0)) (leb (4 + 2 * getD S 0 0 + 2) (length S)) (eqb (getD S 0 0 + 1) (halfOf E))
+  where
+    n : ℕ
+    n = getD S 0 0
+
+    E : List ℕ
+    E = set (set (set S (4 + 2 * getD S 0 0) q) (4 + 2 * getD S 0 0 + 1) a) 0 ((getD S 0 0 + 1) % 4294967296)
+
+    e : length E ≡ length S
+    e =
+        length-set (set (set S (4 + 2 * getD S 0 0) q) (4 + 2 * getD S 0 0 + 1) a) 0 ((getD S 0 0 + 1) % 4294967296)
+        ∙ (length-set (set S (4 + 2 * getD S 0 0) q) (4 + 2 * getD S 0 0 + 1) a ∙ length-set S (4 + 2 * getD S 0 0) q)
+
+    by : (b c d h : Bool) → length (pick b S (pick c (set S 1 (getD S 1 0 - 1)) (pick d (pick h (set E 1 (getD E 2 0)) E) (set S 3 ((getD S 3 0 + 1) % 4294967296))))) ≡ length S
+    by true c d h = refl
+    by false true d h = length-set S 1 (getD S 1 0 - 1)
+    by false false true true = length-set E 1 (getD E 2 0) ∙ e
+    by false false true false = e
+    by false false false h = length-set S 3 ((getD S 3 0 + 1) % 4294967296)

@@ -1,11 +1,25 @@
-// The keys noted while a document is passed over: for each its object's row and its first byte.
+// The keys handed on while a document is passed over. A small room notes for each its object's row and its first byte; a large one sieves them, or notes those that pass a filter.
 ghost use mathlib.Core.Path.{_≡_};
+ghost use mathlib.Core.List.{_++_};
 ghost use Prim.Native.Nat.{_+_, _*_, _%_, _≤_, _<_};
-ghost use lib.ListN.{length, getD, set};
+ghost use lib.ListN.{length, getD, set, take, drop};
 ghost use Rattle.language.specs.Answered.{limit};
+ghost use Rattle.spelt.specs.Texts.{spelled};
+ghost use Rattle.spelt.specs.Reading.{Keyed};
+ghost use Rattle.sieve.specs.Sieve.{large};
 ghost use Rattle.notes.specs.Noted.{entered, noted};
+ghost use Rattle.notes.specs.Handed.{log, factorOf, passing, Sifting, Sown, Sifts, Handed};
+use sieve::FILTER;
+use sieve::LARGE;
+use sieve::LOG;
+use sieve::MODE;
+use sieve::ROUND;
+use sieve::bit;
+use sieve::class_of;
+use sieve::sieve;
+use spelt::hash;
 
-// A room for keys has four words before the first: how many are noted; how many are passed by before the next is; how many once half of the room is full; how many came when it was full.
+// A log has four words before the first key: how many are noted; how many are passed by before the next is; how many once half of the log is full; how many came when it was full.
 pub const NOTED: usize = 0;
 
 pub const PASS: usize = 1;
@@ -27,7 +41,7 @@ pub fn log_word(keys: &[u32], i: usize) -> usize
     keys[i] as usize
 }
 
-// The n-th key of the room takes its two words. Once half of the room is full, keys may be passed by.
+// The n-th key of the log takes its two words. Once half of the log is full, keys may be passed by.
 fn enter(keys: &mut [u32], n: usize, object: u32, at: usize)
     requires { ⌜ (4 + 2 * n + 2 ≤ length (now keys)) × (n < 4294967296) × (at ≤ limit) ⌝ }
     ensures { λ _. ⌜ now (keys .exit) ≡ entered (now (keys .entry)) n object at ⌝ }
@@ -49,7 +63,7 @@ fn leave(keys: &mut [u32])
 }
 
 // Notes the key of an object that begins at a place, or passes it by; one for which there is no room is counted.
-pub fn note(keys: &mut [u32], object: u32, at: usize)
+fn put(keys: &mut [u32], object: u32, at: usize)
     requires { ⌜ at ≤ limit ⌝ }
     ensures { λ _. ⌜ now (keys .exit) ≡ noted (now (keys .entry)) object at ⌝ }
 {
@@ -67,4 +81,69 @@ pub fn note(keys: &mut [u32], object: u32, at: usize)
         return;
     }
     leave(keys);
+}
+
+// The factor of a round's hash.
+fn factor(round: usize) -> usize
+    requires { ⌜ round ≤ 4294967296 ⌝ }
+    ensures { λ r. ⌜ r ≡ factorOf round ⌝ }
+{
+    (2654435761 + 180000002 * round) % WORDS
+}
+
+// Whether a key passes the filter.
+fn passes(doc: &[u8], keys: &[u32], object: usize, at: usize) -> bool
+    requires { ⌜ Sifting (now doc) (now keys) object at ⌝ }
+    ensures { λ r. ⌜ r ≡ passing (now (keys .entry)) object (spelled (now (doc .entry)) at) ⌝ }
+{
+    let round = log_word(&*keys, ROUND);
+    if round < 1 {
+        return true;
+    }
+    let h = hash(&*doc, at, object, factor(round));
+    bit(&*keys, FILTER, class_of(h))
+}
+
+// Notes a key in the log of a large room.
+fn list(keys: &mut [u32], object: u32, at: usize)
+    requires { ⌜ (length (now keys) ≡ large) × (at ≤ limit) ⌝ }
+    ensures { λ _. ⌜ now (keys .exit) ≡ noted (take log (now (keys .entry))) object at ++ drop log (now (keys .entry)) ⌝ }
+{
+    put(&mut keys[..LOG], object, at);
+}
+
+// Sieves a key of an object at a depth.
+fn sow(doc: &[u8], keys: &mut [u32], object: usize, at: usize, d: usize)
+    requires { ⌜ Sifting (now doc) (now keys) object at ⌝ }
+    ensures { λ _. ⌜ Sown (now (doc .entry)) (now (keys .entry)) object at (now (keys .exit)) ⌝ }
+{
+    let round = log_word(&*keys, ROUND);
+    let h = hash(&*doc, at, object, factor(round + 1));
+    sieve(keys, d, object, h);
+}
+
+// A key handed to a large room.
+fn sift(doc: &[u8], keys: &mut [u32], object: u32, at: usize, d: usize)
+    requires { ⌜ Sifting (now doc) (now keys) object at ⌝ }
+    ensures { λ _. ⌜ Sifts (now (doc .entry)) (now (keys .entry)) object at (now (keys .exit)) ⌝ }
+{
+    if passes(&*doc, &*keys, object as usize, at) {
+        if log_word(&*keys, MODE) < 1 {
+            list(keys, object, at);
+            return;
+        }
+        sow(&*doc, keys, object as usize, at, d);
+    }
+}
+
+// Handed the key of an object that begins at a place; its depth is a hint that picks a list.
+pub fn note(doc: &[u8], keys: &mut [u32], object: u32, at: usize, d: usize)
+    requires { ⌜ Keyed (now doc) at ⌝ }
+    ensures { λ _. ⌜ Handed (now (doc .entry)) (now (keys .entry)) object at (now (keys .exit)) ⌝ }
+{
+    if keys.len() == LARGE {
+        sift(&*doc, keys, object, at, d);
+        return;
+    }
+    put(keys, object, at);
 }

@@ -1,11 +1,9 @@
 pub mod Places
-pub mod Pieces
 pub mod Chosen
+pub mod Sifted
 pub mod Words
 pub mod Spots
 pub mod Log
-pub mod Left
-pub mod Spelling
 pub mod Names
 pub mod Walks
 pub mod Joins

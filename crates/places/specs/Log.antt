@@ -20,6 +20,8 @@ use Rattle.repeats.specs.Later.{Names, names-map, Later, names-few, zeros}
 use Rattle.repeats.specs.Twice.{later-twice, twice-later-key}
 use Rattle.places.specs.Places.{placeKeys, most-keys, Placed}
 use Rattle.places.specs.Chosen.{chosen, leftOut, chosen-some, chosen-few, some-keys, windows, chosen-windows, left-windows, windows-all}
+use Rattle.places.specs.Sifted.{took-plain}
+use Rattle.notes.specs.Noted.{noteds}
 use Rattle.places.specs.Words.{Words, Room, Counted, noteds-counted}
 use Rattle.places.specs.Spots.{lists-words, spots, spots-order}
 
@@ -81,9 +83,9 @@ keys-count _ (keys-none h) = omega arith
 keys-count (named q b s ∷ ns) (keys-more h k y) = let z = keys-count ns y in omega (arith, k .ahead)
 
 -- the room S was emptied, and passes w keys by before the first it takes, and g once half of it is full
-module _ (doc S keys : List ℕ) (ks : List Named) (h w g : ℕ) (x : Room S h 0 w g 0) (f : h + h ≤ most-keys) (l : length doc ≤ limit) (k : Kept doc 0 ks (length doc) S keys) where
+module _ (doc S keys : List ℕ) (ks : List Named) (h w g : ℕ) (x : Room S h 0 w g 0) (f : h + h ≤ most-keys) (l : length doc ≤ limit) (e : keys ≡ noteds S ks) (k : Keys doc 0 ks (length doc)) where
   counted : Counted S h 0 0 (chosen h g w 0 ks) (leftOut h g w 0 ks) keys
-  counted = let c = keys-count ks (k .lie) in rw (k .log) (noteds-counted S h g w 0 0 ks x (omega arith) (omega arith))
+  counted = let c = keys-count ks k in rw e (noteds-counted S h g w 0 0 ks x (omega arith) (omega arith))
 
   takes : Holds doc keys (chosen h g w 0 ks)
   takes =
@@ -95,7 +97,7 @@ module _ (doc S keys : List ℕ) (ks : List Named) (h w g : ℕ) (x : Room S h 0
         room = omega (arith, c .long);
         few = omega arith;
         words = subst (λ (n : ℕ). Words keys n 0 (chosen h g w 0 ks)) (zero-add (count (chosen h g w 0 ks))) (c .words);
-        lie = some-keys (chosen-some h g w 0 ks) (k .lie);
+        lie = some-keys (chosen-some h g w 0 ks) k;
       }
 
 -- half a room of keys from the i-th on, and half a room from the j-th on; those behind are counted
@@ -105,13 +107,18 @@ pub record Windowed (doc keys : List ℕ) (ks : List Named) (h i j : ℕ) : Type
   pub long : length keys ≡ 4 + 4 * h
 
 pub windowed : (doc S keys : List ℕ) (ks : List Named) (h i j g : ℕ) → Room S h 0 i g 0 → 0 < h → h + h ≤ most-keys → i + h + g ≡ j → length doc ≤ limit
-    → Kept doc 0 ks (length doc) S keys → Windowed doc keys ks h i j
-windowed doc S keys ks h i j g x o f e l k =
+    → keys ≡ noteds S ks → Keys doc 0 ks (length doc) → Windowed doc keys ks h i j
+windowed doc S keys ks h i j g x o f e l u k =
     record {
-      holds = subst (Holds doc keys) (chosen-windows h i j g ks o e) (takes doc S keys ks h i g x f l k);
-      left = counted doc S keys ks h i g x f l k .left ∙ (zero-add _ ∙ left-windows h i j g ks o e);
-      long = counted doc S keys ks h i g x f l k .long;
+      holds = subst (Holds doc keys) (chosen-windows h i j g ks o e) (takes doc S keys ks h i g x f l u k);
+      left = counted doc S keys ks h i g x f l u k .left ∙ (zero-add _ ∙ left-windows h i j g ks o e);
+      long = counted doc S keys ks h i g x f l u k .long;
     }
+
+-- .. in a small room, after a pass over a document
+pub windowed-plain : (doc S keys : List ℕ) (ks : List Named) (h i j g : ℕ) → Room S h 0 i g 0 → 0 < h → h + h ≤ most-keys → i + h + g ≡ j → length doc ≤ limit
+    → Kept doc 0 ks (length doc) S keys → Windowed doc keys ks h i j
+windowed-plain doc S keys ks h i j g x o f e l k = windowed doc S keys ks h i j g x o f e l (took-plain (k .log) (λ n. omega (arith, x .long))) (k .lie)
 
 -- a room of nothing but zeros takes the first keys
 pub room-first : (n h : ℕ) → n ≡ 4 + 4 * h → Room (replicate n 0) h 0 0 0 0

@@ -9,6 +9,8 @@ use Rattle.language.specs.Answered.{limit}
 use Rattle.exact.specs.Out.{Out, ok, soft, bad}
 use Rattle.strings.specs.Keys.{keyR}
 use Rattle.notes.specs.Lie.{KeyAt}
+pub use Rattle.spelt.specs.Texts.{textIn, endIn, spelled-is, ends-is, key-text, key-end, key-own}
+unfoldable pub use Rattle.spelt.specs.Texts.{spelled, ends}
 use Rattle.repeats.specs.Numbering.{Numbering}
 
 -- the row of the object of the i-th key noted, and the place where it begins
@@ -26,44 +28,6 @@ object-is keys i r e = e
 pub place-is : (keys : List ℕ) (i r : ℕ) → r ≡ getD keys (4 + 2 * i + 1) 0 → r ≡ placeAt keys i
 unfolding placeAt
 place-is keys i r e = e
-
--- the text of a tree that is read, and the place behind it
-abbrev pub textIn : Out Tree → List ℕ
-textIn (ok t m s) = textOf t
-textIn (soft p t m s) = textOf t
-textIn (bad p) = []
-
-abbrev pub endIn : Out Tree → ℕ
-endIn (ok t m s) = m
-endIn (soft p t m s) = m
-endIn (bad p) = p
-
--- .. of the key at a place
-unfoldable pub spelled : List ℕ → ℕ → List ℕ
-spelled doc a = textIn (keyR a (drop a doc))
-
-unfoldable pub ends : List ℕ → ℕ → ℕ
-ends doc a = endIn (keyR a (drop a doc))
-
-module _ (doc : List ℕ) (t : Tree) (a m : ℕ) (u : List ℕ) (e : keyR a (drop a doc) ≡ ok t m u) where
-  pub spelled-is : spelled doc a ≡ textOf t
-  unfolding spelled
-  spelled-is = ap textIn e
-
-  pub ends-is : ends doc a ≡ m
-  unfolding ends
-  ends-is = ap endIn e
-
-module _ (doc : List ℕ) (a m : ℕ) (s : List ℕ) (k : KeyAt doc a s m) where
-  pub key-text : spelled doc a ≡ s
-  unfolding textOf
-  key-text = spelled-is doc _ a m _ (k .is)
-
-  pub key-end : ends doc a ≡ m
-  key-end = ends-is doc _ a m _ (k .is)
-
-  pub key-own : KeyAt doc a (spelled doc a) (ends doc a)
-  key-own = rw (key-text, key-end) k
 
 abbrev pub placeKeys : List ℕ → List ℕ → Numbering
 placeKeys doc keys =

@@ -11,7 +11,6 @@ ghost use Rattle.places.specs.Log.{Told};
 
 mod names;
 mod sorted;
-mod spelling;
 
 use names::marks_of;
 use names::object_of;
@@ -32,6 +31,8 @@ pub const MOST: usize = 6560;
 const FEW: usize = 512;
 
 const SOME: usize = 2048;
+
+const MANY: usize = 3280;
 
 // A chain is looked through so far.
 const STEPS: usize = 16;
@@ -130,6 +131,17 @@ fn among_some(doc: &[u8], keys: &[u32], n: usize) -> Repeat
     repeated(&*doc, &*keys, &mut heads, &mut links, &mut marks, n)
 }
 
+// The same over links for many keys: those that a long document's log has at a time, whose room leaves less of the stack.
+fn among_many(doc: &[u8], keys: &[u32], n: usize) -> Repeat
+    requires { ⌜ Placed (now doc) (now keys) n × (n ≤ 3280) ⌝ }
+    ensures { λ r. ⌜ Names (Later (placeKeys (now (doc .entry)) (now (keys .entry))) n) r ⌝ }
+{
+    let mut heads = [0u16; 4096];
+    let mut links = [0u16; MANY];
+    let mut marks = [0u32; MANY];
+    repeated(&*doc, &*keys, &mut heads, &mut links, &mut marks, n)
+}
+
 // The same over links for as many keys as are looked through at a time.
 fn among_all(doc: &[u8], keys: &[u32], n: usize) -> Repeat
     requires { ⌜ Placed (now doc) (now keys) n ⌝ }
@@ -158,6 +170,12 @@ fn by_class(doc: &[u8], keys: &[u32], n: usize, class: usize) -> Repeat
                 return among_some(&*doc, &*keys, n);
             }
             by_class(&*doc, &*keys, n, 2)
+        }
+        2 => {
+            if n <= MANY {
+                return among_many(&*doc, &*keys, n);
+            }
+            by_class(&*doc, &*keys, n, 3)
         }
         _ => among_all(&*doc, &*keys, n),
     }

@@ -8,9 +8,6 @@ ghost use Rattle.repeats.specs.Numbering.{Same};
 ghost use Rattle.repeats.specs.Order.{Ordered};
 ghost use Rattle.places.specs.Places.{objectAt, placeAt, spelled, placeKeys};
 ghost use Rattle.places.specs.Names.{Bare, Keyed, MarksOf, Compared, Stand};
-use super::spelling::Given;
-use super::spelling::begin;
-use super::spelling::next;
 use characters::Reading;
 use characters::Took;
 use characters::is_key;
@@ -19,6 +16,9 @@ use notes::log_word;
 use repeats::Order;
 use repeats::stirred;
 use rooms::Cursor;
+use spelt::Given;
+use spelt::begin;
+use spelt::next;
 
 // What a text leads to: its mark, and a number that picks its chain.
 pub struct Marks {

@@ -19,7 +19,7 @@ use Rattle.notes.specs.Flat.{flat}
 use Rattle.notes.specs.Notes.{Kept}
 use Rattle.repeats.specs.Stands.{Stands, stands-sets}
 use Rattle.places.specs.Places.{most-keys}
-use Rattle.places.specs.Log.{windowed, room-first, holds-whole}
+use Rattle.places.specs.Log.{windowed-plain, room-first, holds-whole}
 use Rattle.answers.specs.Held.{Held}
 use Rattle.judge.specs.Blamed.{Blamed}
 use Rattle.judge.specs.Contract.{Known, Checked, Filled, Logged}
@@ -81,7 +81,7 @@ reads doc K K' R R' T T' a c m z p q f x e w o u v =
     let k = few-text deepest doc t d in
     let l = f .short in
     let j = f .text-fits in
-    let b = windowed doc (replicate (f .words) 0) K' (flat 0 0 t) (f .keys) 0 (f .keys) 0 (room-first (f .words) (f .keys) (f .halves)) (f .some) (f .small) (omega arith) l
+    let b = windowed-plain doc (replicate (f .words) 0) K' (flat 0 0 t) (f .keys) 0 (f .keys) 0 (room-first (f .words) (f .keys) (f .halves)) (f .some) (f .small) (omega arith) l
     (subst (λ (S : List ℕ). Kept doc 0 (flat 0 0 t) (length doc) S K') (f .empty) (o .logged t (g .is))) in
     record {
       few = omega (arith, g .row);
@@ -135,3 +135,11 @@ module _ (doc table text : List ℕ) where
         → Answered doc table text (number a) (value a) (second a) table″ text″
     unfolding Attempted
     tried-again a table″ text″ e y = let z : (table′ ≡ table) × (text′ ≡ text) = rw e at x in rw (z .0, z .1) at y
+
+-- the rooms lent came through a pass unchanged
+pub attempt-same : (doc table table₁ table₂ text text₁ text₂ : List ℕ) (r : Tried) → (table₁ ≡ table) × (text₁ ≡ text) → Attempted doc table₁ text₁ r table₂ text₂ → Attempted doc table text r table₂ text₂
+attempt-same doc table table₁ table₂ text text₁ text₂ r e x = rw (e .0, e .1) at x
+
+pub attempt-stop-same : (doc table table₁ table₂ text text₁ text₂ : List ℕ) (a : Answer) → length doc ≤ limit → Blamed doc a → table₁ ≡ table → text₁ ≡ text → table₂ ≡ table₁ → text₂ ≡ text₁
+    → Attempted doc table text (Settled a) table₂ text₂
+attempt-stop-same doc table table₁ table₂ text text₁ text₂ a l x e f g h = rw (g ∙ e, h ∙ f) (attempt-stop doc table text a l x)

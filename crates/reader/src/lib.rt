@@ -3,8 +3,10 @@ ghost use Prim.Native.Nat.{_≤_};
 ghost use lib.ListN.{length};
 ghost use Rattle.language.specs.Answered.{number, value, second, third, Answered, Totals, limit};
 ghost use Rattle.reader.specs.Filling.{few-bytes, some-bytes, Texted, Read, Attempted};
-ghost use Rattle.reader.specs.Lent.{Passed};
+ghost use Rattle.reader.specs.Rounds.{Swept, Repeated};
+ghost use Rattle.reader.specs.Lent.{Passed, Noted};
 
+mod rounds;
 mod windows;
 
 use answers::answer;
@@ -22,15 +24,21 @@ use notes::FIRST;
 use notes::LEFT;
 use notes::log_word;
 use places::MOST;
+use places::first_again;
 use repeats::Repeat;
 use rooms::Ans;
-use windows::first_repeat;
+use rounds::first_repeat;
+use sieve::LARGE;
+use sieve::MODE;
 
 // Rooms of our own are cleared first, and stand on the stack: so they are small, and smaller for documents of few bytes. These have a row for two bytes, as `- - 1` needs; those for some bytes
 // have fewer, and a document with more rows, or with more bytes, is read into the rooms lent.
 const FEW: usize = 1024;
 
 const SOME: usize = 16384;
+
+// The log takes all keys of documents of so many bytes.
+const MANY: usize = 32768;
 
 const ROWS: usize = 1700;
 
@@ -113,21 +121,22 @@ fn of_some_bytes(doc: &[u8], table: &mut [u32], text: &mut [u8]) -> Tried
     attempt(&*doc, &mut keys, &mut rows, &mut bytes, table, text)
 }
 
-// The answer for a document of n rows, m text bytes and so many escapes whose keys are noted: it is read again, into the rooms lent.
+// The answer for a document of n rows, m text bytes and so many escapes whose first repeated key is known: it is read again, into the rooms lent.
 fn filled(
     doc: &[u8],
-    keys: &mut [u32],
+    first: Repeat,
     n: usize,
     m: usize,
     escapes: usize,
     table: &mut [u32],
     text: &mut [u8],
 ) -> Answer
-    requires { ⌜ Passed (now doc) (now keys) n m escapes ⌝ }
+    requires { ⌜ Passed (now doc) n m escapes × Repeated (now doc) first ⌝ }
     ensures { λ r. ⌜ Answered (now (doc .entry)) (now (table .entry)) (now (text .entry)) (number r) (value r) (second r) (now (table .exit)) (now (text .exit)) ⌝ }
     ensures { λ r. ⌜ Totals (now (doc .entry)) (number r) (third r) ⌝ }
 {
-    match first_repeat(&*doc, keys) {
+    let mut none = [0u32; 1];
+    match first {
         Repeat::At(p) => {
             return Answer::Repeat(Place(p));
         }
@@ -139,21 +148,72 @@ fn filled(
     if text.len() < m {
         return Answer::Text(m);
     }
-    pass(&*doc, table, text, &mut keys[..0], DEEPEST);
+    pass(&*doc, table, text, &mut none, DEEPEST);
     line_up(&*doc, table, n);
     Answer::Accepted(Row(n), m, escapes)
 }
 
-// The answer for any document: it is passed over first, and its keys are noted.
-fn of_many_bytes(doc: &[u8], table: &mut [u32], text: &mut [u8]) -> Answer
+// The same for a document whose keys are noted, if the log had room for all.
+fn noted(
+    doc: &[u8],
+    keys: &[u32],
+    n: usize,
+    m: usize,
+    escapes: usize,
+    table: &mut [u32],
+    text: &mut [u8],
+) -> Tried
+    requires { ⌜ Noted (now doc) (now keys) n m escapes ⌝ }
+    ensures { λ r. ⌜ Attempted (now (doc .entry)) (now (table .entry)) (now (text .entry)) r (now (table .exit)) (now (text .exit)) ⌝ }
+{
+    if 0 < log_word(&*keys, LEFT) {
+        return Tried::TooFew;
+    }
+    let first = first_again(&*doc, &*keys);
+    Tried::Settled(filled(&*doc, first, n, m, escapes, table, text))
+}
+
+// The answer for a document of many bytes: it is passed over first, and its keys are noted.
+fn of_many_bytes(doc: &[u8], table: &mut [u32], text: &mut [u8]) -> Tried
+    requires { ⌜ length (now doc) ≤ limit ⌝ }
+    ensures { λ r. ⌜ Attempted (now (doc .entry)) (now (table .entry)) (now (text .entry)) r (now (table .exit)) (now (text .exit)) ⌝ }
+{
+    let mut keys = [0u32; FIRST + 2 * MOST];
+    match check(&*doc, table, text, &mut keys, DEEPEST) {
+        Ans::No(p) => Tried::Settled(blame(&*doc, table, text, p)),
+        Ans::Ok(c) => noted(&*doc, &keys, c.row, c.spot(), c.tally(), table, text),
+    }
+}
+
+// The answer for a document whose keys were sieved.
+fn sieved(
+    doc: &[u8],
+    keys: &mut [u32],
+    n: usize,
+    m: usize,
+    escapes: usize,
+    table: &mut [u32],
+    text: &mut [u8],
+) -> Answer
+    requires { ⌜ Passed (now doc) n m escapes × Swept (now doc) (now keys) 1 ⌝ }
+    ensures { λ r. ⌜ Answered (now (doc .entry)) (now (table .entry)) (now (text .entry)) (number r) (value r) (second r) (now (table .exit)) (now (text .exit)) ⌝ }
+    ensures { λ r. ⌜ Totals (now (doc .entry)) (number r) (third r) ⌝ }
+{
+    let first = first_repeat(&*doc, keys);
+    filled(&*doc, first, n, m, escapes, table, text)
+}
+
+// The answer for any document: it is passed over first, and its keys are sieved.
+fn of_any_bytes(doc: &[u8], table: &mut [u32], text: &mut [u8]) -> Answer
     requires { ⌜ length (now doc) ≤ limit ⌝ }
     ensures { λ r. ⌜ Answered (now (doc .entry)) (now (table .entry)) (now (text .entry)) (number r) (value r) (second r) (now (table .exit)) (now (text .exit)) ⌝ }
     ensures { λ r. ⌜ Totals (now (doc .entry)) (number r) (third r) ⌝ }
 {
-    let mut keys = [0u32; FIRST + 2 * MOST];
+    let mut keys = [0u32; LARGE];
+    keys[MODE] = 1;
     match check(&*doc, table, text, &mut keys, DEEPEST) {
         Ans::No(p) => blame(&*doc, table, text, p),
-        Ans::Ok(c) => filled(&*doc, &mut keys, c.row, c.spot(), c.tally(), table, text),
+        Ans::Ok(c) => sieved(&*doc, &mut keys, c.row, c.spot(), c.tally(), table, text),
     }
 }
 
@@ -210,7 +270,16 @@ fn by_class(doc: &[u8], table: &mut [u32], text: &mut [u8], class: usize) -> Ans
                 Tried::TooFew => by_class(&*doc, table, text, 2),
             }
         }
-        _ => of_many_bytes(&*doc, table, text),
+        2 => {
+            if MANY < n {
+                return by_class(&*doc, table, text, 3);
+            }
+            match of_many_bytes(&*doc, table, text) {
+                Tried::Settled(a) => a,
+                Tried::TooFew => by_class(&*doc, table, text, 3),
+            }
+        }
+        _ => of_any_bytes(&*doc, table, text),
     }
 }
 

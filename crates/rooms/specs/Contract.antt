@@ -20,9 +20,9 @@ use Rattle.rooms.specs.declared.Far.the-variants.{Upto, Not}
 use Rattle.rooms.specs.declared.Block.{Block}
 use Rattle.rooms.specs.declared.Block.the-variants.{Done, Bad}
 
--- what the numbers of one document are below: places, rows, counts, and a sum of a few of them
+-- what the numbers of one document, or of stored bytes, are below: places, rows, counts, and a sum of a few of them
 abbrev pub ample : ℕ
-ample = 4 * limit
+ample = 32 * limit
 
 -- the last column where anything of a document stands, also with one container more than may stand inside another
 abbrev pub columns : ℕ

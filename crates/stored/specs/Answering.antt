@@ -6,39 +6,26 @@ use native.Mathlib.Omega.{arith}
 use lib.ListN.{length, drop}
 use Rattle.language.specs.Tree.{Tree, width, unlined, size, textOf, rowsOf, Once}
 use Rattle.language.specs.Answered.{deepest, ROWS, TEXT}
-use Rattle.language.specs.Lent.{wordsIn, bytesIn}
+use Rattle.language.specs.Lent.{lent, wordsIn, bytesIn}
 use Rattle.language.specs.Sound.{Holds}
 use Rattle.shaped.specs.Shaped.{Shaped}
 use Rattle.shaped.specs.Bare.{alike-size, alike-text}
 use Rattle.shaped.specs.Holds.{profile-shaped}
-use Rattle.stored.specs.Form.{head, content, form, widest, Wide, wide-here, placed}
-use Rattle.stored.specs.Lengths.{form-length, content-narrow}
+use Rattle.stored.specs.Form.{head, widest, form, loaded}
+use Rattle.stored.specs.Lengths.{form-plain, form-most}
 use Rattle.stored.specs.Unspanned.{placed-alike}
-use Rattle.stored.specs.Stored.{WIDE, Stores, stores, wide, needs}
+use Rattle.stored.specs.Stored.{Stores, stores, needs}
 use Rattle.stored.specs.Loaded.{BADFORM, Kept, Loads, loads, bad-form, rows, bytes}
-use Rattle.stored.specs.Keeps.{kept-shaped, kept-few, KeptLike, shaped-kept}
+use Rattle.stored.specs.Keeps.{kept-shaped, KeptLike, shaped-kept}
 
--- no longer than a field with the widest content
-abbrev pub longest : ℕ
-longest = widest + head
+-- ---- storing: however many parts there are, the bytes are few enough to be counted
 
--- ---- storing: the bytes needed are told by rows and text, and wide is what is longer
+pub holds-most : {table : List ℕ} {n : ℕ} {text : List ℕ} (t : Tree) → Holds table n text t → length (form t) ≤ 8 * lent
+holds-most t h = let e = form-most (profile-shaped (h .profile)) in omega (arith, h .count, h .rows-fit, h .text-fits)
 
-pub holds-count : {table : List ℕ} {n : ℕ} {text : List ℕ} (t : Tree) → Holds table n text t → length (form t) ≡ head * n + length (textOf t)
-holds-count t h = form-length (profile-shaped (h .profile)) ∙ ap (λ (m : ℕ). head * m + length (textOf t)) (h .count)
-
-short : (t : Tree) → length (form t) ≤ longest → Wide t → ⊥
-short t l = content-narrow t (omega arith)
-
-module _ {table : List ℕ} {n : ℕ} {text out : List ℕ} (t : Tree) (h : Holds table n text t) where
-  pub store-wide : longest < length (form t) → Stores table n text out WIDE 0 out
-  store-wide l = wide t h (wide-here (let k : widest < length (content t) = omega arith in k))
-
-  pub store-needs : length (form t) ≤ longest → bytesIn out < length (form t) → Stores table n text out TEXT (length (form t)) out
-  store-needs l m = needs t h (short t l) m
-
-  pub store-done : length (form t) ≤ longest → length (form t) ≤ bytesIn out → Stores table n text out 0 (length (form t)) (form t ++ drop (length (form t)) out)
-  store-done l m = stores t h (short t l) m
+-- .. and where one field holds them, rows and text tell how many they are
+pub holds-short : {table : List ℕ} {n : ℕ} {text : List ℕ} (t : Tree) → Holds table n text t → head * n + length (textOf t) ≤ head + widest → length (form t) ≡ head * n + length (textOf t)
+holds-short t h l = form-plain (profile-shaped (h .profile)) (omega (arith, h .count)) ∙ ap (λ (m : ℕ). head * m + length (textOf t)) (h .count)
 
 -- ---- loading
 
@@ -48,17 +35,17 @@ pub record Found (stored : List ℕ) (t : Tree) : Type 0 where
   pub once : Once t
   pub bytes : form t ≡ stored
 
-found-kept : {stored : List ℕ} (t : Tree) → Found stored t → length stored ≤ longest → KeptLike stored t
-found-kept t x l = shaped-kept t (x .shaped) (x .once) (short t (let e = ap length (x .bytes) in omega arith)) (x .bytes)
+found-kept : {stored : List ℕ} (t : Tree) → Found stored t → length stored ≤ lent → KeptLike stored t
+found-kept t x l = shaped-kept t (x .shaped) (x .once) (x .bytes) l
 
 module _ {stored table text : List ℕ} where
-  pub load-long : longest < length stored → Loads stored table text BADFORM 0 0 table text
-  load-long l = bad-form (λ t x. let h = kept-few x in omega arith)
+  pub load-long : lent < length stored → Loads stored table text BADFORM 0 0 table text
+  load-long l = bad-form (λ t x. omega (arith, x .few))
 
   pub load-bad : ((t : Tree) → Found stored t → ⊥) → Loads stored table text BADFORM 0 0 table text
   load-bad f = bad-form (λ t x. f t (record { shaped = kept-shaped x; once = x .holds .profile .once; bytes = x .bytes }))
 
-  module _ (t : Tree) (x : Found stored t) (l : length stored ≤ longest) where
+  module _ (t : Tree) (x : Found stored t) (l : length stored ≤ lent) where
     pub load-rows : wordsIn table < width * size t → Loads stored table text ROWS (size t) 0 table text
     load-rows m =
         let k = found-kept t x l in
@@ -80,12 +67,12 @@ module _ {stored table text : List ℕ} where
         0
         (size t)
         (length (textOf t))
-        (rowsOf unlined 0 0 0 (placed 0 t) ++ drop (width * size t) table)
+        (rowsOf unlined 0 0 0 (loaded t) ++ drop (width * size t) table)
         (textOf t ++ drop (length (textOf t)) text)
     load-done m o =
         let k = found-kept t x l in
         let u = k .tree in
         let e : size t ≡ size u = sym (alike-size u t (k .alike)) in
         let f : textOf t ≡ textOf u = sym (alike-text u t (k .alike)) in
-        let g : placed 0 t ≡ placed 0 u = sym (placed-alike u t (k .alike) 0) in
+        let g : loaded t ≡ loaded u = sym (placed-alike u t (k .alike) (λ i. i)) in
         rw (e, f, g) (loads u (k .kept) (omega arith) (omega (arith, ap length f)))

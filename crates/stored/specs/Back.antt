@@ -14,25 +14,29 @@ use Rattle.rooms.specs.Forest.{length-rows}
 use Rattle.shaped.specs.RowsAt.{RowsAt}
 use Rattle.shaped.specs.Bare.{alike-size, alike-text, alike-at}
 use Rattle.shaped.specs.Holds.{at-holds, stored-at, sound-tree}
-use Rattle.stored.specs.Form.{form, Wide, placed}
-use Rattle.stored.specs.Lengths.{narrow-rows, narrow-text}
-use Rattle.stored.specs.Unspanned.{form-alike, placed-like, wide-alike}
-use Rattle.stored.specs.Stored.{Stores, stores, bad-row, wide, needs}
+use Rattle.stored.specs.Form.{form, loaded}
+use Rattle.stored.specs.Lengths.{few-rows, few-text}
+use Rattle.stored.specs.Unspanned.{form-alike, placed-like}
+use Rattle.stored.specs.Stored.{Stores, stores, bad-row, needs}
 use Rattle.stored.specs.Loaded.{Kept, Loads, loads, bad-form, rows, bytes}
 use Rattle.stored.specs.Keeps.{kept-shaped, kept-alike}
 use Rattle.stored.specs.Unique.{one-store, one-load}
 
 -- ---- loaded
 
+kept-form-few : {stored : List ℕ} {t : Tree} → Kept stored t → length (form t) ≤ lent
+kept-form-few x = let e = ap length (x .bytes) in omega (arith, x .few)
+
 -- the rows with the spans of the stored bytes, and the text, at the start of rooms, hold the tree itself
-pub kept-holds : {stored : List ℕ} (t : Tree) (others rest : List ℕ) → Kept stored t → Holds (rowsOf unlined 0 0 0 (placed 0 t) ++ others) (size t) (textOf t ++ rest) t
+pub kept-holds : {stored : List ℕ} (t : Tree) (others rest : List ℕ) → Kept stored t → Holds (rowsOf unlined 0 0 0 (loaded t) ++ others) (size t) (textOf t ++ rest) t
 kept-holds t others rest x =
-    let p = placed 0 t in
-    let a = placed-like 0 t in
+    let p = loaded t in
+    let a = placed-like (λ i. i) t in
     let e = alike-size p t a in
     let f = alike-text p t a in
-    let few = narrow-rows t (kept-shaped x) (x .narrow) in
-    let short = narrow-text t (kept-shaped x) (x .narrow) in
+    let l = kept-form-few x in
+    let few = few-rows t (kept-shaped x) l in
+    let short = few-text t (kept-shaped x) l in
     let w = rowsOf unlined 0 0 0 p ++ others in
     let h : RowsAt w (textOf p ++ rest) 0 0 0 p = stored-at p unlined others rest (omega (arith, ap length f)) in
     let k : RowsAt w (textOf t ++ rest) 0 0 0 p = subst (λ (s : List ℕ). RowsAt w (s ++ rest) 0 0 0 p) f h in
@@ -58,19 +62,18 @@ load-sound x = let r = loaded-holds x refl in record { tree = r .tree; holds = r
 
 -- the number 0: the first n bytes of the output are the stored form of the tree that the table holds
 pub stored-kept : {table : List ℕ} {n : ℕ} {text out : List ℕ} {c v : ℕ} {out′ : List ℕ} (t : Tree) → Stores table n text out c v out′ → c ≡ 0 → Holds table n text t → Kept (take v out′) t
-stored-kept {table} {n} {text} {out} t (stores u k g l) e h =
+stored-kept {table} {n} {text} {out} t (stores u k l) e h =
     let a = sound-tree table n text t u h k in
     record {
       table = table;
       rows = n;
       text = text;
       holds = h;
-      narrow = λ w. g (wide-alike t u a w);
       bytes = form-alike t u a ∙ sym (take-append-seam (form u) (drop (length (form u)) out));
+      few = let b = ap length (take-append-seam (form u) (drop (length (form u)) out)) in omega arith;
     }
 stored-kept t (bad-row f) e h = absurd (omega arith)
-stored-kept t (wide u k w) e h = absurd (omega arith)
-stored-kept t (needs u k g l) e h = absurd (omega arith)
+stored-kept t (needs u k l) e h = absurd (omega arith)
 
 -- WHAT WAS STORED IS LOADED: given the rooms, with as many rows and its text's bytes, and table and text hold that tree, spans aside
 pub record ReadBack (table : List ℕ) (n : ℕ) (text : List ℕ) (c v s : ℕ) (table′ text′ : List ℕ) : Type 0 where
@@ -115,6 +118,6 @@ loaded-stores {stored} {out = out} {b = b} {out′ = out′} x l y =
     let r = loaded-holds x refl in
     let t = r .tree in
     let f : form t ≡ stored = r .kept .bytes in
-    let e = one-store y (stores t (r .holds) (r .kept .narrow) (omega (arith, ap length f))) in
+    let e = one-store y (stores t (r .holds) (omega (arith, ap length f))) in
     let z : take b out′ ≡ take (length (form t)) (form t ++ drop (length (form t)) out) = rw (e .1, e .2) refl in
     record { zero-is = e .0; bytes-are = e .1 ∙ ap length f; same = z ∙ (take-append-seam (form t) (drop (length (form t)) out) ∙ f) }

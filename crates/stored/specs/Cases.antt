@@ -9,18 +9,17 @@ use Rattle.stored.specs.declared.Storing.{Storing}
 use Rattle.stored.specs.declared.Storing.the-variants as S
 use Rattle.stored.specs.declared.Loading.{Loading}
 use Rattle.stored.specs.declared.Loading.the-variants as L
-use Rattle.stored.specs.Stored.{WIDE, storingNumber, storingCount, Stores}
+use Rattle.stored.specs.Stored.{storingNumber, storingCount, Stores}
 use Rattle.stored.specs.Loaded.{BADFORM, loadingNumber, loadingValue, loadingSecond, Loads}
 use Rattle.stored.specs.Unique.{one-store, one-load}
 
 storingOf : ℕ → ℕ → Storing
-storingOf n c = pick (eqb n 0) (S.Done c) (pick (eqb n BADROW) S.BadRow (pick (eqb n WIDE) S.TooWide (S.TooShort c)))
+storingOf n c = pick (eqb n 0) (S.Done c) (pick (eqb n BADROW) S.BadRow (S.TooShort c))
 
 is-storing : (a : Storing) → storingOf (storingNumber a) (storingCount a) ≡ a
 unfolding storingOf
 is-storing (S.Done n) = refl
 is-storing S.BadRow = refl
-is-storing S.TooWide = refl
 is-storing (S.TooShort n) = refl
 
 storing-tells : (a b : Storing) → storingNumber a ≡ storingNumber b → storingCount a ≡ storingCount b → a ≡ b

@@ -1,11 +1,11 @@
 -- WHAT STORED BYTES HOLD: one tree, spans aside (`kept-alike`); and any tree as documents have them, without repeated keys, whose form the bytes are, is one that a sound table holds (`shaped-kept`). Assumes nothing.
 use mathlib.Core.Path.{_≡_, refl, sym, ap, subst, _∙_}
 use mathlib.Core.List.{List, [], _++_}
-use Prim.Native.Nat.{ℕ, _+_, _≤_, _<_}
-use native.Mathlib.Omega.{arith}
+use Prim.Native.Nat.{ℕ, _≤_}
 use lib.ListN.{length}
 use Rattle.language.specs.Tree.{Tree, unlined, size, textOf, rowsOf, Once}
 use Rattle.language.specs.Answered.{deepest}
+use Rattle.language.specs.Lent.{lent}
 use Rattle.language.specs.Alike.{Alike}
 use Rattle.language.specs.Sound.{Profile}
 use Rattle.language.specs.House.{house}
@@ -14,9 +14,9 @@ use Rattle.shaped.specs.Bare.{alike-size, alike-text}
 use Rattle.shaped.specs.Once.{alike-once}
 use Rattle.shaped.specs.Holds.{profile-shaped, stored-holds}
 use Rattle.house.specs.Document.{house-document}
-use Rattle.stored.specs.Form.{head, form, widest, Wide}
-use Rattle.stored.specs.Lengths.{narrow-content, narrow-rows, narrow-text}
-use Rattle.stored.specs.Unspanned.{form-alike, wide-alike}
+use Rattle.stored.specs.Form.{form}
+use Rattle.stored.specs.Lengths.{few-rows, few-text}
+use Rattle.stored.specs.Unspanned.{form-alike}
 use Rattle.stored.specs.Apart.{form-tells}
 use Rattle.stored.specs.Loaded.{Kept}
 
@@ -27,21 +27,17 @@ module _ {stored : List ℕ} where
   pub kept-alike : {t u : Tree} → Kept stored t → Kept stored u → Alike t u
   kept-alike x y = form-tells (kept-shaped x) (kept-shaped y) (x .bytes ∙ sym (y .bytes))
 
-  -- the root's content is not wide, so the bytes are few
-  pub kept-few : {t : Tree} → Kept stored t → length stored ≤ widest + head
-  kept-few {t} x = let h = narrow-content t (x .narrow) in omega (arith, ap length (x .bytes))
-
--- a profile that is not wide is kept as its form: its rows and its text are few enough for a sound table
-pub profile-kept : (t : Tree) → Profile t → (Wide t → ⊥) → Kept (form t) t
-profile-kept t p f =
+-- a profile of few bytes is kept as its form: its rows and its text are few enough for a sound table
+pub profile-kept : (t : Tree) → Profile t → length (form t) ≤ lent → Kept (form t) t
+profile-kept t p l =
     let x = profile-shaped p in
     record {
       table = rowsOf unlined 0 0 0 t ++ [];
       rows = size t;
       text = textOf t ++ [];
-      holds = stored-holds t unlined [] [] p (narrow-rows t x f) (narrow-text t x f);
-      narrow = f;
+      holds = stored-holds t unlined [] [] p (few-rows t x l) (few-text t x l);
       bytes = refl;
+      few = l;
     }
 
 -- A TREE LIKE this one is kept
@@ -50,14 +46,15 @@ pub record KeptLike (stored : List ℕ) (t : Tree) : Type 0 where
   pub kept : Kept stored tree
   pub alike : Alike tree t
 
-pub shaped-kept : {stored : List ℕ} (t : Tree) → Shaped deepest t → Once t → (Wide t → ⊥) → form t ≡ stored → KeptLike stored t
-shaped-kept t x o f e =
+pub shaped-kept : {stored : List ℕ} (t : Tree) → Shaped deepest t → Once t → form t ≡ stored → length stored ≤ lent → KeptLike stored t
+shaped-kept {stored} t x o e l =
     let r = house-document deepest t x in
     let u = r .tree in
     let a = sym (r .alike) in
+    let g : form u ≡ stored = form-alike u t (r .alike) ∙ e in
     let p : Profile u = record { document = house t; word = r .word; once = alike-once t u a o } in
     record {
       tree = u;
-      kept = subst (λ (s : List ℕ). Kept s u) (form-alike u t (r .alike) ∙ e) (profile-kept u p (λ w. f (wide-alike u t (r .alike) w)));
+      kept = subst (λ (s : List ℕ). Kept s u) g (profile-kept u p (subst (λ (s : List ℕ). length s ≤ lent) (sym g) l));
       alike = r .alike;
     }

@@ -2,6 +2,7 @@
 pub mod Form
 pub mod Stored
 pub mod Loaded
+pub mod Parts
 pub mod Lengths
 pub mod Unspanned
 pub mod Apart
@@ -11,4 +12,10 @@ pub mod Cases
 pub mod Back
 pub mod Answering
 pub mod Fields
+pub mod Old
+pub mod OldForms
+pub mod Bytes
+pub mod OldLengths
+pub mod OldApart
+pub mod OldFiles
 pub mod Vectors

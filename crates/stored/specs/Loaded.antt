@@ -1,4 +1,4 @@
--- WHAT LOADING PROMISES (02, Ticket 4). Assumes nothing.
+-- WHAT LOADING PROMISES (02, Ticket 4, mended by Ticket 11). Assumes nothing.
 use mathlib.Core.Path.{_≡_}
 use mathlib.Core.List.{List, _++_}
 use Prim.Native.Nat.{ℕ, _*_, _≤_, _<_}
@@ -7,9 +7,9 @@ use Rattle.stored.specs.declared.Loading.{Loading}
 use Rattle.stored.specs.declared.Loading.the-variants.{Done, BadForm, Rows, Text}
 use Rattle.language.specs.Tree.{Tree, width, unlined, size, textOf, rowsOf}
 use Rattle.language.specs.Answered.{ROWS, TEXT}
-use Rattle.language.specs.Lent.{wordsIn, bytesIn}
+use Rattle.language.specs.Lent.{lent, wordsIn, bytesIn}
 use Rattle.language.specs.Sound.{Holds}
-use Rattle.stored.specs.Form.{form, Wide, placed}
+use Rattle.stored.specs.Form.{form, loaded}
 
 -- "Number 13, BADFORM, place 0"
 abbrev pub BADFORM : ℕ
@@ -34,14 +34,14 @@ loadingSecond BadForm = 0
 loadingSecond (Rows rows) = 0
 loadingSecond (Text bytes) = 0
 
--- the bytes are a "sound table's stored form": some table holds the tree, and it is stored as these bytes
+-- the bytes are a "sound table's stored form": some table holds the tree, and it is stored as these bytes. "A stored file over 16,777,216 bytes is BADFORM" (Ticket 11)
 pub record Kept (stored : List ℕ) (t : Tree) : Type 0 where
   pub table : List ℕ
   pub rows : ℕ
   pub text : List ℕ
   pub holds : Holds table rows text t
-  pub narrow : Wide t → ⊥
   pub bytes : form t ≡ stored
+  pub few : length stored ≤ lent
 
 -- THE PROMISE OF `load`: the stored bytes; table and text room as they were lent; the number and its two values; table and text room afterwards. "All refusals leave table and text room unchanged" (01)
 pub data Loads (stored table text : List ℕ) : ℕ → ℕ → ℕ → List ℕ → List ℕ → Type 0 where
@@ -54,7 +54,7 @@ pub data Loads (stored table text : List ℕ) : ℕ → ℕ → ℕ → List ℕ
       0
       (size t)
       (length (textOf t))
-      (rowsOf unlined 0 0 0 (placed 0 t) ++ drop (width * size t) table)
+      (rowsOf unlined 0 0 0 (loaded t) ++ drop (width * size t) table)
       (textOf t ++ drop (length (textOf t)) text)
   -- "exactly if the bytes are no sound table's stored form"
   bad-form : ((t : Tree) → Kept stored t → ⊥) → Loads stored table text BADFORM 0 0 table text

@@ -9,40 +9,30 @@ use Rattle.language.specs.Alike.{Alike}
 use Rattle.language.specs.Sound.{Holds}
 use Rattle.shaped.specs.Bare.{alike-size, alike-text}
 use Rattle.shaped.specs.Holds.{sound-tree}
-use Rattle.stored.specs.Form.{form, Wide, placed}
-use Rattle.stored.specs.Unspanned.{form-alike, placed-alike, wide-alike}
-use Rattle.stored.specs.Stored.{Stores, stores, bad-row, wide, needs}
+use Rattle.stored.specs.Form.{form, loaded}
+use Rattle.stored.specs.Unspanned.{form-alike, placed-alike}
+use Rattle.stored.specs.Stored.{Stores, stores, bad-row, needs}
 use Rattle.stored.specs.Loaded.{Kept, Loads, loads, bad-form, rows, bytes}
 use Rattle.stored.specs.Keeps.{kept-alike}
 
 -- ---- storing
 
 module _ {table : List ℕ} {n : ℕ} {text : List ℕ} where
-  -- what one table holds is stored in one way, or too wide in every way
+  -- what one table holds is stored in one way
   same-form : (t u : Tree) → Holds table n text t → Holds table n text u → form t ≡ form u
   same-form t u h k = form-alike t u (sound-tree table n text t u h k)
 
-  same-wide : (t u : Tree) → Holds table n text t → Holds table n text u → Wide t → Wide u
-  same-wide t u h k = wide-alike t u (sound-tree table n text t u h k)
-
 pub one-store : {table : List ℕ} {n : ℕ} {text out : List ℕ} {c v c₂ v₂ : ℕ} {out′ out″ : List ℕ} → Stores table n text out c v out′ → Stores table n text out c₂ v₂ out″
     → (c ≡ c₂) × (v ≡ v₂) × (out′ ≡ out″)
-one-store {out = out} (stores t h f l) (stores u k g m) = let e = same-form t u h k in (refl, ap length e, ap (λ (w : List ℕ). w ++ drop (length w) out) e)
-one-store (stores t h f l) (bad-row g) = absurd (g (record { tree = t; holds = h }))
-one-store (stores t h f l) (wide u k w) = absurd (f (same-wide u t k h w))
-one-store (stores t h f l) (needs u k g m) = absurd (let e = ap length (same-form t u h k) in omega arith)
-one-store (bad-row f) (stores u k g m) = absurd (f (record { tree = u; holds = k }))
+one-store {out = out} (stores t h l) (stores u k m) = let e = same-form t u h k in (refl, ap length e, ap (λ (w : List ℕ). w ++ drop (length w) out) e)
+one-store (stores t h l) (bad-row g) = absurd (g (record { tree = t; holds = h }))
+one-store (stores t h l) (needs u k m) = absurd (let e = ap length (same-form t u h k) in omega arith)
+one-store (bad-row f) (stores u k m) = absurd (f (record { tree = u; holds = k }))
 one-store (bad-row f) (bad-row g) = (refl, refl, refl)
-one-store (bad-row f) (wide u k w) = absurd (f (record { tree = u; holds = k }))
-one-store (bad-row f) (needs u k g m) = absurd (f (record { tree = u; holds = k }))
-one-store (wide t h w) (stores u k g m) = absurd (g (same-wide t u h k w))
-one-store (wide t h w) (bad-row g) = absurd (g (record { tree = t; holds = h }))
-one-store (wide t h w) (wide u k z) = (refl, refl, refl)
-one-store (wide t h w) (needs u k g m) = absurd (g (same-wide t u h k w))
-one-store (needs t h f l) (stores u k g m) = absurd (let e = ap length (same-form t u h k) in omega arith)
-one-store (needs t h f l) (bad-row g) = absurd (g (record { tree = t; holds = h }))
-one-store (needs t h f l) (wide u k w) = absurd (f (same-wide u t k h w))
-one-store (needs t h f l) (needs u k g m) = (refl, ap length (same-form t u h k), refl)
+one-store (bad-row f) (needs u k m) = absurd (f (record { tree = u; holds = k }))
+one-store (needs t h l) (stores u k m) = absurd (let e = ap length (same-form t u h k) in omega arith)
+one-store (needs t h l) (bad-row g) = absurd (g (record { tree = t; holds = h }))
+one-store (needs t h l) (needs u k m) = (refl, ap length (same-form t u h k), refl)
 
 -- ---- loading
 
@@ -53,15 +43,15 @@ module _ {stored : List ℕ} (t u : Tree) (x : Kept stored t) (y : Kept stored u
   same-text : textOf t ≡ textOf u
   same-text = alike-text t u (kept-alike x y)
 
-  same-placed : placed 0 t ≡ placed 0 u
-  same-placed = placed-alike t u (kept-alike x y) 0
+  same-placed : loaded t ≡ loaded u
+  same-placed = placed-alike t u (kept-alike x y) (λ i. i)
 
 pub one-load : {stored table text : List ℕ} {c v s c₂ v₂ s₂ : ℕ} {table′ text′ table″ text″ : List ℕ} → Loads stored table text c v s table′ text′
     → Loads stored table text c₂ v₂ s₂ table″ text″ → (c ≡ c₂) × (v ≡ v₂) × (s ≡ s₂) × (table′ ≡ table″) × (text′ ≡ text″)
 one-load {table = table} {text = text} (loads t x l m) (loads u y i j) =
     let e = same-size t u x y in
     let f = same-text t u x y in
-    let g : rowsOf unlined 0 0 0 (placed 0 t) ++ drop (width * size t) table ≡ rowsOf unlined 0 0 0 (placed 0 u) ++ drop (width * size u) table =
+    let g : rowsOf unlined 0 0 0 (loaded t) ++ drop (width * size t) table ≡ rowsOf unlined 0 0 0 (loaded u) ++ drop (width * size u) table =
     ap₂ (λ (w : Tree) (n : ℕ). rowsOf unlined 0 0 0 w ++ drop (width * n) table) (same-placed t u x y) e in
     (refl, e, ap length f, g, ap (λ (w : List ℕ). w ++ drop (length w) text) f)
 one-load (loads t x l m) (bad-form f) = absurd (f t x)

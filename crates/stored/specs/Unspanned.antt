@@ -1,12 +1,11 @@
 -- THE STORED FORM DOES NOT DEPEND ON SPANS (`form-alike`), nor does the tree that it holds (`placed-alike`), which is like the one stored (`placed-like`). Assumes nothing.
 use mathlib.Core.Path.{_≡_, refl, sym, ap, ap₂, subst, _∙_}
 use mathlib.Core.List.{List}
-use Prim.Native.Nat.{ℕ, _+_, _<_}
+use Prim.Native.Nat.{ℕ, _+_}
 use lib.ListN.{length}
 use Rattle.language.specs.Tree.{Tree, leaf, node, Forest, none, more}
 use Rattle.language.specs.Alike.{unspan, unspans, Alike}
-use Rattle.stored.specs.Form.{tagged, head, tag, content, forms, form, widest, Wide, wide-here, placed, placeds}
-use Rattle.stored.specs.Lengths.{wide-over}
+use Rattle.stored.specs.Form.{cut, tag, content, forms, form, inside, placed, placeds}
 
 tag-unspan : (t : Tree) → tag (unspan t) ≡ tag t
 unfolding unspan
@@ -27,24 +26,24 @@ mutual
 mutual
   unfolding unspan placed
 
-  placed-unspan : (a : ℕ) (t : Tree) → placed a (unspan t) ≡ placed a t
-  placed-unspan a (leaf k f e s) = rw (content-unspan (leaf k f e s))
-  placed-unspan a (node k f e c ts) = rw (content-unspan (node k f e c ts), placeds-unspan (a + head) ts)
+  placed-unspan : (at : ℕ → ℕ) (t : Tree) → placed at (unspan t) ≡ placed at t
+  placed-unspan at (leaf k f e s) = rw (content-unspan (leaf k f e s))
+  placed-unspan at (node k f e c ts) = rw (content-unspan (node k f e c ts), placeds-unspan (λ i. at (inside i)) ts)
 
-  placeds-unspan : (a : ℕ) (ts : Forest) → placeds a (unspans ts) ≡ placeds a ts
-  placeds-unspan a none = refl
-  placeds-unspan a (more t ts) = rw (content-unspan t, placed-unspan a t, placeds-unspan (a + length (form t)) ts)
+  placeds-unspan : (at : ℕ → ℕ) (ts : Forest) → placeds at (unspans ts) ≡ placeds at ts
+  placeds-unspan at none = refl
+  placeds-unspan at (more t ts) = rw (tag-unspan t, content-unspan t, placed-unspan at t, placeds-unspan (λ i. at (length (form t) + i)) ts)
 
 mutual
   unfolding unspan placed
 
-  pub placed-like : (a : ℕ) (t : Tree) → Alike (placed a t) t
-  placed-like a (leaf k f e s) = refl
-  placed-like a (node k f e c ts) = rw (placeds-like (a + head) ts)
+  pub placed-like : (at : ℕ → ℕ) (t : Tree) → Alike (placed at t) t
+  placed-like at (leaf k f e s) = refl
+  placed-like at (node k f e c ts) = rw (placeds-like (λ i. at (inside i)) ts)
 
-  placeds-like : (a : ℕ) (ts : Forest) → unspans (placeds a ts) ≡ unspans ts
-  placeds-like a none = refl
-  placeds-like a (more t ts) = rw (placed-like a t, placeds-like (a + length (form t)) ts)
+  placeds-like : (at : ℕ → ℕ) (ts : Forest) → unspans (placeds at ts) ≡ unspans ts
+  placeds-like at none = refl
+  placeds-like at (more t ts) = rw (placed-like at t, placeds-like (λ i. at (length (form t) + i)) ts)
 
 module _ (t u : Tree) (h : Alike t u) where
   tag-alike : tag t ≡ tag u
@@ -55,10 +54,7 @@ module _ (t u : Tree) (h : Alike t u) where
 
   -- "One tree has one stored form"
   pub form-alike : form t ≡ form u
-  form-alike = ap₂ (λ (k : ℕ) (c : List ℕ). tagged k c) tag-alike content-alike
+  form-alike = ap₂ (λ (k : ℕ) (c : List ℕ). cut k c) tag-alike content-alike
 
-  pub placed-alike : (a : ℕ) → placed a t ≡ placed a u
-  placed-alike a = sym (placed-unspan a t) ∙ (ap (placed a) h ∙ placed-unspan a u)
-
-  pub wide-alike : Wide t → Wide u
-  wide-alike w = wide-here (subst (λ (l : List ℕ). widest < length l) content-alike (wide-over w))
+  pub placed-alike : (at : ℕ → ℕ) → placed at t ≡ placed at u
+  placed-alike at = sym (placed-unspan at t) ∙ (ap (placed at) h ∙ placed-unspan at u)

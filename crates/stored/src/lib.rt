@@ -1,17 +1,16 @@
-// What `store` and `load` answer (document 02, Ticket 4); its definitions and what follows from them stand in specs/.
+// What `store` and `load` answer (document 02, Tickets 4 and 11); its definitions and what follows from them stand in specs/.
 ghost use mathlib.Core.Path.{_≡_};
 ghost use Rattle.stored.specs.Stored as S;
 ghost use Rattle.stored.specs.Loaded as L;
 use language::Row;
 
-// A field with the widest content: its head and 65,535 bytes. A content below the root is shorter than the root's, so that one tells whether some content is too wide.
-pub const LONGEST: usize = 65538;
+// What one field holds at most; a longer content is stored in parts of so many bytes.
+pub const WIDEST: usize = 65535;
 
-// The count of bytes stored; that the table is not sound; that a content is over 65,535 bytes; or how many bytes the output would need.
+// The count of bytes stored; that the table is not sound; or how many bytes the output would need.
 pub enum Storing {
     Done(usize),
     BadRow,
-    TooWide,
     TooShort(usize),
 }
 
@@ -31,7 +30,6 @@ impl Storing {
         match self {
             Storing::Done(_) => 0,
             Storing::BadRow => 9,
-            Storing::TooWide => 12,
             Storing::TooShort(_) => 8,
         }
     }
@@ -42,7 +40,6 @@ impl Storing {
         match self {
             Storing::Done(bytes) => bytes,
             Storing::BadRow => 0,
-            Storing::TooWide => 0,
             Storing::TooShort(bytes) => bytes,
         }
     }

@@ -7,6 +7,7 @@ use float::is_float;
 use integers::is_integer;
 use language::Kind;
 use script::is_script;
+pub use script::size;
 ghost use mathlib.Core.Path.{_≡_};
 ghost use mathlib.Core.Bool.{true};
 ghost use Prim.Native.Nat.{_≤_};

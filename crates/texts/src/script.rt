@@ -56,7 +56,7 @@ fn long(w: u32, d: u32, f: u32) -> usize
 }
 
 // How many bytes the character has that begins with these bytes; 0: none does.
-fn size(b: u32, c: u32, d: u32, f: u32) -> usize
+pub fn size(b: u32, c: u32, d: u32, f: u32) -> usize
     requires { ⌜ (b < 256) × (c < 256) ⌝ }
     ensures { λ r. ⌜ Led b c d f r ⌝ }
 {

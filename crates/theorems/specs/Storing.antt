@@ -1,9 +1,9 @@
--- THE THEOREMS OF THE STORED FORM (02, Ticket 4), by name. What they say stands in `stored` (Form, Stored, Loaded; Back, Fields) and `spans` (Placed).
+-- THE THEOREMS OF THE STORED FORM (02, Tickets 4 and 11), by name. What they say stands in `stored` (Form, Stored, Loaded; Back, Fields, Old) and `spans` (Placed).
 use mathlib.Core.Path.{_≡_, sym, _∙_}
 use mathlib.Core.Logic.{_↔_}
 use mathlib.Core.List.{List, _++_}
-use Prim.Native.Nat.{ℕ, _*_, _≤_}
-use lib.ListN.{length, take}
+use Prim.Native.Nat.{ℕ, _+_, _*_, _≤_, _<_}
+use lib.ListN.{length, getD, take, drop}
 use Rattle.language.specs.Tree.{Tree, width, textOf}
 use Rattle.language.specs.Lent.{wordsIn, bytesIn}
 use Rattle.language.specs.Alike.{Alike}
@@ -12,7 +12,7 @@ use Rattle.shaped.specs.Holds.{profile-shaped}
 use Rattle.spans.specs.Placed.{Within}
 use Rattle.stored.specs.declared.Storing.{Storing}
 use Rattle.stored.specs.declared.Loading.{Loading}
-use Rattle.stored.specs.Form.{form, placed}
+use Rattle.stored.specs.Form.{tagged, head, widest, PART, cut, form, inside, loaded}
 use Rattle.stored.specs.Stored.{storingNumber, storingCount, Stores}
 use Rattle.stored.specs.Loaded.{loadingNumber, loadingValue, loadingSecond, Kept, Loads}
 use Rattle.stored.specs.Unspanned as unspanned
@@ -21,6 +21,10 @@ use Rattle.stored.specs.Unique as unique
 use Rattle.stored.specs.Cases as cases
 use Rattle.stored.specs.Back as back
 use Rattle.stored.specs.Fields as fields
+use Rattle.stored.specs.Old as old
+use Rattle.stored.specs.OldForms as oldForms
+use Rattle.stored.specs.OldFiles as oldFiles
+use Rattle.stored.specs.Parts as parts
 
 -- ONE TREE HAS ONE STORED FORM: trees are equal but for spans exactly if their bytes are
 pub one-stored : (t u : Tree) → Profile t → Profile u → Alike t u ↔ (form t ≡ form u)
@@ -62,6 +66,24 @@ pub loaded-stores : (stored table text : List ℕ) (n m : ℕ) (table′ text′
     → Stores table′ n text′ out c b out′ → back.StoredBack stored c b out′
 loaded-stores stored table text n m table′ text′ out c b out′ x l y = back.loaded-stores x l y
 
--- EACH SPAN of what stored bytes hold runs from its field's tag to the end of its content there
-pub stored-spans : (stored : List ℕ) (t : Tree) → Kept stored t → (u : Tree) → Within u (placed 0 t) → fields.SpanIs stored u
+-- EACH SPAN of what stored bytes hold runs from its field's first tag to the end of its last byte there
+pub stored-spans : (stored : List ℕ) (t : Tree) → Kept stored t → (u : Tree) → Within u (loaded t) → fields.SpanIs stored u
 stored-spans stored t x u w = fields.span-field stored t (x .bytes) u w
+
+-- A tree whose contents are all at most 65,535 bytes has the stored form of Ticket 4, and its spans there
+pub old-stored : (t : Tree) → (old.Wide t → ⊥) → (form t ≡ old.form t) × (loaded t ≡ old.placed 0 t)
+old-stored t f = (oldForms.old-form t f, oldForms.old-placed t f)
+
+-- OLD STORED FILES READ AS BEFORE: of a file that one field holds, as all files of Ticket 4 were, the trees kept are those whose form of Ticket 4 it is
+pub old-files : (stored : List ℕ) (t : Tree) → length stored ≤ head + widest → Profile t → Kept stored t ↔ (old.form t ≡ stored)
+old-files stored t l p = oldFiles.old-files stored t l p
+
+-- A CONTENT IN ITS PARTS: one field up to 65,535 bytes; else a full part, and the rest in its parts; and where each byte stands
+pub part-none : (kind : ℕ) (s : List ℕ) → length s ≤ widest → cut kind s ≡ tagged kind s
+part-none kind s l = parts.cut-short kind s l
+
+pub part-next : (kind : ℕ) (s : List ℕ) → widest < length s → cut kind s ≡ tagged PART (take widest s) ++ cut kind (drop widest s)
+part-next kind s l = parts.cut-long kind s l
+
+pub part-byte : (kind : ℕ) (s : List ℕ) (i : ℕ) → i < length s → getD (cut kind s) (inside i) 0 ≡ getD s i 0
+part-byte kind s i l = parts.cut-byte kind s i l

@@ -217,7 +217,7 @@ pub extern "C" fn yay_overlay(
     answer.number()
 }
 
-// 0 with the bytes stored; 8 with the bytes needed; or 9 or 12 with 0.
+// 0 with the bytes stored; 8 with the bytes needed; or 9 with 0.
 #[no_mangle]
 pub extern "C" fn yay_store(
     table: &[u32],

@@ -1,5 +1,5 @@
-//! Figures for docs/BENCHMARKS.md: `bench`. To see where time goes, a shape read by the proved reader alone, again and
-//! again: `perf record -g bench SHAPE [SECONDS]`.
+//! Figures for docs/BENCHMARKS.md: `bench`, or `bench large` for those of large documents alone. To see where time goes, a
+//! shape read by the proved reader alone, again and again: `perf record -g bench SHAPE [SECONDS]`.
 
 use evidence::documents::hostile::HOSTILE;
 use evidence::documents::shapes::SHAPES;
@@ -98,17 +98,17 @@ fn mark(good: bool) -> &'static str {
     }
 }
 
-/// Flat objects of many keys beside arrays of as many bytes; how many lists of keys cost more than they may.
+/// Flat objects of keys, as many as 32 KB hold, beside arrays of as many bytes; how many lists of keys cost more than they may.
 fn repeats(bench: &mut Bench) -> usize {
     println!("| Keys | How many | µs | As strings of an array, µs | Times | Second reader, µs |");
     println!("|---|---:|---:|---:|---:|---:|");
     let mut bad = 0;
     let lists = [
         ("short ones", KEYS, keys::short()),
-        ("of one chain", CHOSEN, keys::of_one_chain()),
-        ("of one mark", CHOSEN, keys::of_one_mark()),
-        ("of one mark and one chain", CHOSEN, keys::of_one_mark_and_chain()),
-        ("of 200 bytes that share their last 32", CHOSEN, keys::of_one_end()),
+        ("of one chain", CHOSEN, keys::of_one_chain(keys::SOME)),
+        ("of one mark", CHOSEN, keys::of_one_mark(keys::SOME)),
+        ("of one mark and one chain", CHOSEN, keys::of_one_mark_and_chain(keys::SOME)),
+        ("of 200 bytes that share their last 32", CHOSEN, keys::of_one_end(keys::SOME)),
     ];
     for (name, most, doc) in lists.iter() {
         let mut keyed = bench.best(doc.as_bytes());
@@ -143,8 +143,8 @@ fn laborious() -> Vec<(&'static str, String)> {
     };
     vec![
         ("short keys", keys::short()),
-        ("keys of one chain", keys::of_one_chain()),
-        ("keys of one mark", keys::of_one_mark()),
+        ("keys of one chain", keys::of_one_chain(keys::SOME)),
+        ("keys of one mark", keys::of_one_mark(keys::SOME)),
         ("empty arrays", format!("[{}[]]\n", "[], ".repeat(5_000))),
         ("an array of arrays of arrays", format!("[{}[[[1]]]]\n", "[[[1]]], ".repeat(2_500))),
         ("a string of U+0000", format!("\"{}\"\n", "\\u{0}".repeat(6_000))),
@@ -292,6 +292,43 @@ fn stored(_: &mut Bench) -> usize {
     0
 }
 
+/// What a byte costs at 32 KB and at 1 MB, and in large objects beside arrays; how many cases cost more than they may, or are
+/// read, stored or loaded otherwise by the second functions.
+#[cfg(feature = "stored")]
+fn large(bench: &mut Bench) -> usize {
+    use evidence::figures::large;
+    let columns = |first: &str, [small, large]: [&str; 2]| {
+        let three = |what| format!("{what}, {small} | {large} | Times");
+        println!("| {first} | {} | {} | {} |", three("Reading"), three("Storing"), three("Loading"));
+        println!("|---|{}", "---:|".repeat(9 + usize::from(first.contains('|')) * 3));
+    };
+    let mut bad = 0;
+    columns("ns a byte", ["32 KB", "1 MB"]);
+    for case in large::shapes() {
+        let costs = bench.costs(&case);
+        bad += usize::from(!costs.as_ref().is_some_and(large::Costs::good));
+        println!("| {} | {} |", case.name, costs.map_or("SOMETHING DIFFERS".into(), |costs| costs.told()));
+    }
+    println!();
+    columns("Keys of an object | How many | Reading, ms | Second reader, ms", ["array, ns a byte", "object"]);
+    for case in large::objects() {
+        let costs = bench.costs(&case);
+        bad += usize::from(!costs.as_ref().is_some_and(large::Costs::good));
+        let told = costs.map_or("SOMETHING DIFFERS".into(), |costs| {
+            let (keys, proved, second) = costs.read();
+            format!("{keys} | {proved:.1} | {second:.1} | {}", costs.told())
+        });
+        println!("| {} | {told} |", case.name);
+    }
+    println!();
+    bad
+}
+
+#[cfg(not(feature = "stored"))]
+fn large(_: &mut Bench) -> usize {
+    0
+}
+
 /// The document of a shape by its name.
 fn named(name: &str) -> Option<Vec<u8>> {
     let shape =
@@ -309,7 +346,11 @@ fn read_for(doc: &[u8], seconds: u64) {
 
 fn main() -> ExitCode {
     let mut words = std::env::args().skip(1);
-    if let Some(name) = words.next() {
+    let first = words.next();
+    if first.as_deref() == Some("large") {
+        return ExitCode::from(u8::from(large(&mut Bench::default()) > 0));
+    }
+    if let Some(name) = first {
         let seconds = words.next().and_then(|seconds| seconds.parse().ok()).unwrap_or(5);
         let Some(doc) = named(&name) else {
             eprintln!("bench: {name} is no shape");
@@ -330,5 +371,7 @@ fn main() -> ExitCode {
     bad += hostile(&mut bench);
     println!();
     bad += repeats(&mut bench);
+    println!();
+    bad += large(&mut bench);
     ExitCode::from(u8::from(bad > 0))
 }

@@ -3,12 +3,14 @@
 //! one likes, with a count every ten seconds, and without the faults: `compare --soak [--seconds N] ..`. With the feature
 //! `written`, the writer and the test of soundness too, on tables; with `decided`, the upgrade decision, on pairs of a
 //! sheet and an installed version; with `overlaid`, the overlay, on pairs of tables; with `stored`, storing and loading,
-//! on tables and stored forms.
+//! on tables and stored forms. Large documents are tried beside all of them.
 
 use evidence::compare::run::{run, Difference, Limits};
-use evidence::compare::{faults, forms, places, Comparer, Tally};
+use evidence::compare::{faults, forms, large, places, Comparer, Tally};
 use evidence::documents::shrink::shrink;
+use evidence::documents::Rng;
 use evidence::proved::Proved;
+use evidence::tables::Table;
 use evidence::{hex, vectors};
 use std::process::ExitCode;
 
@@ -182,6 +184,43 @@ fn stored(_: u64, items: usize, _: bool) -> bool {
     true
 }
 
+/// Whether large documents are read, written and stored as by the second functions, and faults that only they show are found.
+fn large(soak: bool) -> bool {
+    let found = soak || large_faults();
+    large::differs_nowhere(|| Proved, &beside_reading) && found
+}
+
+/// Whether every fault that only large documents show is found.
+fn large_faults() -> bool {
+    let faults = faults::large::faults();
+    let missed = (0..faults.len()).filter(|&i| {
+        let difference = large::run(|| faults::large::faults().swap_remove(i).1, &|_, _| None).err();
+        match &difference {
+            Some(difference) => println!("fault found in a large document ({}): {}", difference.name, faults[i].0),
+            None => println!("FAULT NOT FOUND: {}", faults[i].0),
+        }
+        difference.is_none()
+    });
+    let missed = missed.count();
+    println!("{} faults in large documents, {missed} not found", faults.len());
+    missed == 0
+}
+
+/// How writing, storing or loading a table differs.
+#[cfg(feature = "stored")]
+fn beside_reading(table: &Table, rng: &mut Rng) -> Option<String> {
+    use evidence::compare::{storing, writing};
+    use evidence::stored::{Item, Source};
+    let item = Item::Table { table: table.clone(), source: Source::Tables, known: None };
+    let stored = storing::Comparer::default().difference(&Proved, &item, rng);
+    stored.or_else(|| writing::Comparer::default().difference(&mut Proved, table, rng))
+}
+
+#[cfg(not(feature = "stored"))]
+fn beside_reading(_: &Table, _: &mut Rng) -> Option<String> {
+    None
+}
+
 fn main() -> ExitCode {
     let Options { limits, tables, pairs, overlays, forms, soak } = match options() {
         Ok(options) => options,
@@ -195,6 +234,7 @@ fn main() -> ExitCode {
     let decided = decided(limits.seed, pairs, soak);
     let overlaid = overlaid(limits.seed, overlays, soak);
     let stored = stored(limits.seed, forms, soak);
+    let large = large(soak);
     let found = soak || finds_faults(&limits);
     let watch = |count| {
         if soak {
@@ -208,5 +248,5 @@ fn main() -> ExitCode {
             false
         }
     };
-    ExitCode::from(u8::from(!wrote || !decided || !overlaid || !stored || !found || !same))
+    ExitCode::from(u8::from(!wrote || !decided || !overlaid || !stored || !large || !found || !same))
 }

@@ -2,6 +2,7 @@
 
 pub mod deciding;
 mod escapes;
+pub mod large;
 pub mod overlaying;
 mod places;
 mod soundness;

@@ -85,7 +85,12 @@ fn one_stream(
 }
 
 /// How the reader, or the second reader itself, differs on a document.
-fn differs(reader: &mut dyn Reader, document: &Document, comparer: &mut Comparer, seed: u64) -> Option<String> {
+pub(super) fn differs(
+    reader: &mut dyn Reader,
+    document: &Document,
+    comparer: &mut Comparer,
+    seed: u64,
+) -> Option<String> {
     let Document { doc, meant, every_room } = document;
     let second = comparer.expected(doc);
     if meant.as_ref().is_some_and(|meant| *meant != second) {

@@ -9,14 +9,14 @@ use super::{first_wrong, writing::same_but_spans, GUARD};
 use crate::documents::Rng;
 use crate::second::questions::{Lent, BADROW};
 use crate::second::sound::used;
-use crate::second::stored::{self, lent, loaded, stored, Loaded, Told, BADFORM, WIDE};
-use crate::second::{Given, ROWS, TEXT, WORDS};
+use crate::second::stored::{self, lent, loaded, stored, Loaded, Told, BADFORM};
+use crate::second::{Given, MOST, ROWS, TEXT, WORDS};
 use crate::stored::{Item, SOURCES};
 use crate::tables::Table;
 
 /// What is under test.
 pub trait Stores {
-    /// 0 and the bytes stored; TEXT and the bytes needed; BADROW or WIDE and 0.
+    /// 0 and the bytes stored; TEXT and the bytes needed; BADROW and 0.
     fn store(&self, lent: &Lent, out: &mut [u8]) -> (u32, usize);
     /// 0, rows and text bytes; ROWS or TEXT, the need and 0; BADFORM, 0 and 0.
     fn load(&self, stored: &[u8], table: &mut [u32], text: &mut [u8]) -> Told;
@@ -46,10 +46,9 @@ impl Stores for SecondStores {
 }
 
 /// What was met: answers in all rooms, what is known from the making, and what went there and back.
-pub const NAMES: [&str; 10] = [
+pub const NAMES: [&str; 9] = [
     "stored",
     "BADROW",
-    "WIDE",
     "too short an output",
     "loaded",
     "BADFORM",
@@ -79,12 +78,11 @@ impl Tally {
         self.met[match (number, loading) {
             (0, false) => 0,
             (BADROW, false) => 1,
-            (WIDE, false) => 2,
-            (TEXT, false) => 3,
-            (0, true) => 4,
-            (BADFORM, true) => 5,
-            (ROWS, true) => 6,
-            (TEXT, true) => 7,
+            (TEXT, false) => 2,
+            (0, true) => 3,
+            (BADFORM, true) => 4,
+            (ROWS, true) => 5,
+            (TEXT, true) => 6,
             (number, _) => unreachable!("the second functions say {number}"),
         }] += 1;
     }
@@ -118,7 +116,7 @@ impl Comparer {
         rng: &mut Rng,
     ) -> Option<String> {
         let meant = stored(&table.lent());
-        self.tally.met[8] += usize::from(known.is_some());
+        self.tally.met[7] += usize::from(known.is_some());
         if known.is_some_and(|known| *known != meant) {
             return Some("the second storing gives other than the table was made for".into());
         }
@@ -128,9 +126,10 @@ impl Comparer {
             (None, Ok(form)) => form,
             (differs, _) => return differs,
         };
-        self.tally.met[9] += 1;
+        self.tally.met[8] += 1;
         let back = match loaded(&form) {
             Ok(back) => back,
+            Err(BADFORM) if form.len() > MOST => return self.loaded(stores, &form, &Err(BADFORM), Some(rng)),
             Err(number) => return Some(format!("what was stored is loaded as {number}")),
         };
         let given = Given { words: back.words.clone(), text: back.text.clone(), escapes: 0 };
@@ -149,14 +148,14 @@ impl Comparer {
         rng: &mut Rng,
     ) -> Option<String> {
         let meant = loaded(bytes);
-        self.tally.met[8] += usize::from(known.is_some());
+        self.tally.met[7] += usize::from(known.is_some());
         if known.is_some_and(|known| *known != meant) {
             return Some("the second loading gives other than the bytes were made for".into());
         }
         let differs = self.loaded(stores, bytes, &meant, Some(rng));
         match (differs, meant) {
             (None, Ok(loaded)) => {
-                self.tally.met[9] += 1;
+                self.tally.met[8] += 1;
                 self.stored(stores, &lent(&loaded), &Ok(bytes.to_vec()), bytes.len())
             }
             (differs, _) => differs,
@@ -173,7 +172,7 @@ impl Comparer {
     ) -> Option<String> {
         let (expected, new): (_, &[u8]) = match meant {
             Err(number) => ((*number, 0), &[]),
-            Ok(form) if form.len() > room => ((TEXT, form.len()), &[]),
+            Ok(form) if form.len() > room.min(MOST) => ((TEXT, form.len()), &[]),
             Ok(form) => ((0, form.len()), form),
         };
         self.tally.count(expected.0, false);
@@ -215,7 +214,6 @@ impl Comparer {
 /// Exact, one byte short, empty, larger and random outputs.
 fn outputs(meant: &Result<Vec<u8>, u32>, rng: &mut Rng) -> Vec<usize> {
     match meant {
-        Err(WIDE) => vec![0, rng.below(9), 70_000],
         Err(_) => vec![rng.below(40)],
         Ok(form) => {
             let length = form.len();

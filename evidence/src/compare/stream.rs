@@ -103,7 +103,7 @@ impl Stream {
             }
             97 => self.large(),
             98 => self.cut(),
-            _ => self.long(),
+            _ => return unknown(self.long()),
         };
         if !self.rng.once_in(8) {
             mutate(&mut self.rng, &mut doc);
@@ -121,13 +121,12 @@ impl Stream {
         grow(&mut self.rng, size, 32)
     }
 
-    /// A document too large to be read at once, or about as large.
+    /// A document too large to be read at once, or about as large; now and then one of many times as many bytes.
     fn large(&mut self) -> Vec<u8> {
-        let (size, nesting) = (6_000 + self.rng.below(27_000), 1 + self.rng.below(6));
+        let (least, more) = if self.rng.once_in(60) { (33_000, 200_000) } else { (6_000, 27_000) };
+        let (size, nesting) = (least + self.rng.below(more), 1 + self.rng.below(6));
         let Grown { doc, meant } = grow_wide(&mut self.rng, size, nesting);
-        if doc.len() <= LONGEST {
-            self.waiting.push(Document { doc: doc.clone(), meant: Some(meant), every_room: false });
-        }
+        self.waiting.push(Document { doc: doc.clone(), meant: Some(meant), every_room: false });
         doc
     }
 
@@ -139,9 +138,10 @@ impl Stream {
         doc
     }
 
-    /// A document around the longest that is read.
+    /// A document around the longest that is read; most of them are too long, which is soon said. Every other one has a bit
+    /// changed.
     fn long(&mut self) -> Vec<u8> {
-        let size = LONGEST - 2 + self.rng.below(5);
+        let size = if self.rng.once_in(20) { LONGEST - self.rng.below(3) } else { LONGEST + 1 + self.rng.below(2) };
         let mut doc = grow(&mut self.rng, 40, 3).doc;
         match self.rng.below(3) {
             0 => doc.resize(size, b'\n'),
@@ -151,6 +151,10 @@ impl Stream {
                 doc.resize(size - 2, b'x');
                 doc.extend_from_slice(b"\"\n");
             }
+        }
+        if self.rng.once_in(2) {
+            let at = self.rng.below(size);
+            doc[at] ^= 1 << self.rng.below(8);
         }
         doc
     }

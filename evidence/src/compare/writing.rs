@@ -73,7 +73,7 @@ impl Tally {
 }
 
 /// A far too large output.
-const FAR: usize = 2 * LONGEST;
+const FAR: usize = LONGEST + 33_000;
 
 pub struct Comparer {
     second: Second,

@@ -7,6 +7,7 @@ mod values;
 use super::pieces::{self, Spelled};
 use super::Rng;
 use crate::second::{Given, Refusal, REPEAT, WORDS};
+use std::collections::HashSet;
 
 /// Numbers 1 to 6, or all that a document gives.
 pub type Meant = Result<Given, Refusal>;
@@ -70,8 +71,12 @@ struct Here {
     column: u32,
 }
 
-/// The keys an object has so far.
-type Keys = Vec<Vec<u8>>;
+/// The keys an object has so far, in their order and to be found.
+#[derive(Default)]
+struct Keys {
+    list: Vec<Vec<u8>>,
+    met: HashSet<Vec<u8>>,
+}
 
 impl Grower<'_> {
     fn write(&mut self, text: &str) {
@@ -128,17 +133,18 @@ impl Grower<'_> {
         self.escapes += escapes;
         let to = self.at();
         self.leaf(10, object, (from, to), &meant);
-        if keys.contains(&meant) && self.repeat.is_none() {
+        if !keys.met.insert(meant.clone()) && self.repeat.is_none() {
             self.repeat = Some(from.byte);
         }
-        keys.push(meant);
+        keys.list.push(meant);
     }
 
     /// A key as written and as meant; one that the object has only in a document with repeats, whose escapes nobody is
     /// told.
     fn new_key(&mut self, keys: &Keys) -> Spelled {
-        if self.repeats > 0 && !keys.is_empty() && self.rng.once_in(self.repeats + keys.len()) {
-            let meant = keys[self.rng.below(keys.len())].clone();
+        let count = keys.list.len();
+        if self.repeats > 0 && count > 0 && self.rng.once_in(self.repeats + count) {
+            let meant = keys.list[self.rng.below(count)].clone();
             return Spelled { written: pieces::written_anew(self.rng, &meant), meant, escapes: 0 };
         }
         loop {
@@ -148,7 +154,7 @@ impl Grower<'_> {
                 let written = pieces::bare_key(self.rng);
                 Spelled { meant: written.clone().into_bytes(), written, escapes: 0 }
             };
-            if !keys.contains(&key.meant) {
+            if !keys.met.contains(&key.meant) {
                 return key;
             }
         }

@@ -4,8 +4,8 @@
 type Shape = (&'static str, fn(usize) -> Vec<u8>);
 
 pub const HOSTILE: [Shape; 47] = [
-    ("32 KB of `- `", |size| filled("", "- ", "", size)),
-    ("32 KB of `[`", |size| filled("", "[", "", size)),
+    ("nothing but `- `", |size| filled("", "- ", "", size)),
+    ("nothing but `[`", |size| filled("", "[", "", size)),
     ("all spaces", |size| filled("", " ", "", size)),
     ("all line feeds", |size| filled("", "\n", "", size)),
     ("a value and line feeds", |size| filled("1", "\n", "\n", size)),

@@ -84,7 +84,7 @@ fn apart(count: usize, smaller: Option<usize>) -> Case {
 /// Keys of one mark, at the root and reversed.
 fn marked(count: usize, smaller: Option<usize>) -> Case {
     let list = |order: &mut dyn Iterator<Item = usize>| {
-        Node::Object(order.map(|i| (keys::marked(i, 5).into_bytes(), Node::Leaf(3, Vec::new()))).collect())
+        Node::Object(order.map(|i| (keys::marked(i, 5), Node::Leaf(3, Vec::new()))).collect())
     };
     let (lower, upper) = (list(&mut (0..count)), list(&mut (0..count).rev()));
     made(format!("{count} keys of one mark over as many, reversed"), &lower, &upper, smaller)
@@ -103,7 +103,7 @@ fn below(count: usize, smaller: Option<usize>) -> Case {
     made(format!("10 objects of {count} keys below 5000, reversed"), &lower, &upper, smaller)
 }
 
-/// As people have them, the longest documents of keys, keys chosen to cost the most, and objects larger than documents.
+/// As people have them, documents of 32 KB of keys, keys chosen to cost the most, and larger objects.
 pub fn cases() -> Vec<Case> {
     let short = keys::short();
     let (fleet, site) =
@@ -115,10 +115,10 @@ pub fn cases() -> Vec<Case> {
         read("short keys, others", short.clone(), keys::others(&short), SHORT),
     ];
     for (name, doc) in [
-        ("keys of one chain, reversed", keys::of_one_chain()),
-        ("keys of one mark, reversed", keys::of_one_mark()),
-        ("keys of one mark and one chain, reversed", keys::of_one_mark_and_chain()),
-        ("keys of 200 bytes that share their last 32, reversed", keys::of_one_end()),
+        ("keys of one chain, reversed", keys::of_one_chain(keys::SOME)),
+        ("keys of one mark, reversed", keys::of_one_mark(keys::SOME)),
+        ("keys of one mark and one chain, reversed", keys::of_one_mark_and_chain(keys::SOME)),
+        ("keys of 200 bytes that share their last 32, reversed", keys::of_one_end(keys::SOME)),
     ] {
         cases.push(read(name, doc.clone(), keys::reversed(&doc), CHOSEN));
     }

@@ -39,9 +39,9 @@ pub fn cases() -> Vec<Case> {
     };
     let chosen = [
         ("short keys", keys::short()),
-        ("keys of one chain", keys::of_one_chain()),
-        ("keys of one mark and one chain", keys::of_one_mark_and_chain()),
-        ("keys of 200 bytes that share their last 32", keys::of_one_end()),
+        ("keys of one chain", keys::of_one_chain(keys::SOME)),
+        ("keys of one mark and one chain", keys::of_one_mark_and_chain(keys::SOME)),
+        ("keys of 200 bytes that share their last 32", keys::of_one_end(keys::SOME)),
     ];
     let keyed = |(name, doc): (_, String)| Case { name, docs: vec![(doc.into_bytes(), FASTER)] };
     SHAPES.iter().map(shape).chain(chosen.into_iter().map(keyed)).collect()

@@ -56,7 +56,7 @@ struct Maker<'r> {
 fn new_key(rng: &mut Rng, met: &mut HashSet<Vec<u8>>) -> Vec<u8> {
     loop {
         let key = match rng.below(8) {
-            0 => keys::marked(rng.below(64), 2).into_bytes(),
+            0 => keys::marked(rng.below(64), 2),
             1 => {
                 let same = "k".repeat(rng.below(40));
                 format!("{same}{}{same}", rng.below(8)).into_bytes()

@@ -4,11 +4,11 @@
 #[derive(Default)]
 pub struct Keys {
     /// 0 is free; else a key's row plus 1 in the low half, part of its hash in the high half.
-    slots: Vec<u32>,
+    slots: Vec<u64>,
     size: usize,
 }
 
-const LOW: u32 = 0xFFFF;
+const LOW: u64 = 0xFFFF_FFFF;
 
 impl Keys {
     /// Empties the table for a document of `bytes` bytes; each key takes at least five of them.
@@ -24,16 +24,16 @@ impl Keys {
             self.slots.resize(self.size, 0);
         }
         let mask = self.slots.len() - 1;
-        let mark = (hash >> 32) as u32 & !LOW;
+        let mark = hash & !LOW;
         let mut i = hash as usize & mask;
         while self.slots[i] != 0 {
             let slot = self.slots[i];
-            if slot & !LOW == mark && same((slot & LOW) - 1) {
+            if slot & !LOW == mark && same((slot & LOW) as u32 - 1) {
                 return true;
             }
             i = (i + 1) & mask;
         }
-        self.slots[i] = mark | (row + 1);
+        self.slots[i] = mark | u64::from(row + 1);
         false
     }
 }

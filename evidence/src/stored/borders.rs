@@ -2,9 +2,9 @@
 
 use super::{made, wide, Item, Source};
 use crate::hex;
-use crate::second::stored::{BADFORM, WIDEST};
-use crate::second::{Second, NESTING};
-use crate::tables::trees::Node;
+use crate::second::stored::{head, Ways, BADFORM, HEAD, PART, WAYS, WIDEST};
+use crate::second::{Second, MOST, NESTING};
+use crate::tables::trees::{plain, Node};
 
 /// Bytes that are no stored form.
 const BAD: [&str; 52] = [
@@ -100,11 +100,34 @@ pub fn borders() -> Vec<Item> {
         stored(&columns[0], columns[2].clone())
     });
     let wide = (0..wide::FORMS).flat_map(|form| {
-        let both = [WIDEST, WIDEST + 1];
-        both.into_iter().flat_map(move |content| [wide::table(form, content), wide::bytes(form, content)])
+        let about = wide::FULL.into_iter().flat_map(|full| [full, full + 1]);
+        about.flat_map(move |content| [wide::table(form, content), wide::bytes(form, content)])
     });
     let faulty = (0..wide::FORMS).map(|form| wide::faulty(form, WIDEST + 1));
-    bad.chain(good).chain(vectors).chain(levels()).chain(wide).chain(faulty).collect()
+    deep().chain(bad).chain(good).chain(vectors).chain(levels()).chain(wide).chain(faulty).chain(parts()).collect()
+}
+
+/// Texts at the borders inside containers that are all in parts themselves: cuts fall at each depth.
+fn deep() -> impl Iterator<Item = Item> {
+    let texts = [WIDEST, WIDEST + 1, 2 * WIDEST, 2 * WIDEST + 1];
+    let depths = [(1, true), (1, false), (2, true), (3, false), (NESTING, true), (NESTING, false)];
+    texts.into_iter().flat_map(move |text| depths.map(|(depth, array)| wide::inside(text, depth, array))).flatten()
+}
+
+/// The longest stored forms, and those that are too long: a text, and a null and a text under a key, in containers.
+pub fn longest() -> impl Iterator<Item = Item> {
+    let field = |content: usize| content + HEAD * (content.saturating_sub(1) / WIDEST + 1);
+    let text = |more: usize| Node::Leaf(7, vec![9; MOST - 256 * HEAD + more]);
+    let nested = |text: usize| {
+        let pair = (b"key".to_vec(), Node::Leaf(6, vec![b'a'; text]));
+        Node::Array(vec![Node::Leaf(1, Vec::new()), Node::Object(vec![pair])])
+    };
+    let most = (0..MOST).rev().find(|&text| field(HEAD + field(HEAD + 3 + field(text))) <= MOST).expect("a length");
+    [text(0), text(1), nested(most), nested(most + 1)].into_iter().map(|node| Item::Table {
+        table: plain(&node, true),
+        source: Source::WideTable,
+        known: None,
+    })
 }
 
 /// Documents, what the writer writes for each, and their stored forms.
@@ -118,6 +141,38 @@ fn no(bytes: Vec<u8>) -> Item {
 fn stored(doc: &[u8], form: Vec<u8>) -> Item {
     let table = Second::new().given(doc).expect("a document").into();
     Item::Table { table, source: Source::Border, known: Some(Ok(form)) }
+}
+
+/// Parts that are none: of 65,534 bytes, with an empty end behind them, where just 65,535 bytes remain, before nothing, under
+/// the true tag, and an end under another.
+fn parts() -> Vec<Item> {
+    let about = |bytes: usize, ways: Ways| made::made_so(&Node::Leaf(6, vec![b'a'; bytes]), ways).bytes;
+    let part = about(WIDEST + 1, WAYS);
+    let mut truly_tagged = part.clone();
+    truly_tagged[0] = 6;
+    let mut never_ended = part.clone();
+    never_ended[WIDEST + 3] = PART;
+    let mut other = part.clone();
+    other[WIDEST + 3] = 8;
+    let in_parts = |tag: u8, bytes: usize| [&head(PART, bytes)[..], &vec![b'7'; bytes], &head(tag, 1), b"7"].concat();
+    let nested = |bytes: &[u8]| [&head(8, bytes.len() & 0xFFFF)[..], bytes].concat();
+    let all = [
+        about(WIDEST + 1, Ways { part: WIDEST - 1, ..WAYS }),
+        about(WIDEST, Ways { most: WIDEST - 1, ..WAYS }),
+        about(2 * WIDEST, Ways { most: WIDEST - 1, ..WAYS }),
+        part[..WIDEST + 3].to_vec(),
+        part[..WIDEST + 5].to_vec(),
+        truly_tagged,
+        never_ended,
+        other,
+        in_parts(6, 0),
+        in_parts(6, 1),
+        in_parts(4, 40),
+        nested(&in_parts(6, 1)),
+        vec![PART, 0, 0],
+        [&head(PART, 0)[..], &[1, 0, 0]].concat(),
+    ];
+    all.into_iter().map(no).collect()
 }
 
 /// 32 containers one inside another, and one more.

@@ -27,6 +27,7 @@ impl Stream {
             0..=59 => Item::Table { table: self.tables.table(), source: Source::Tables, known: None },
             60..=99 => made_table(rng),
             100 => wide::any(rng),
+            101 if rng.once_in(3) => wide::any(rng),
             101..=139 => form(tree(rng), [Source::Made, Source::Faulty]),
             140..=154 => form(chain(rng), [Source::Deep; 2]),
             155..=158 => form(keys(rng), [Source::Keys; 2]),

@@ -32,7 +32,7 @@ impl Stream {
                 trees::table(&mut self.rng, &node, sound)
             }
             94..=97 => self.random(),
-            98 => self.long(),
+            98 if self.rng.once_in(2) => self.long(),
             _ => self.large(),
         }
     }

@@ -77,7 +77,7 @@ mod tests {
 
     #[test]
     fn a_line_for_each_document() {
-        let input = [framed(b""), framed(b"null\n"), framed(b"[1, 22]\n"), framed(&[b'a'; 70_000])].concat();
+        let input = [framed(b""), framed(b"null\n"), framed(b"[1, 22]\n"), framed(&vec![b'a'; 1_070_000])].concat();
         let rows = ["8,0,7,0,2,0,3,1,1", "4,1,2,0,1,0,2,1,2", "4,4,6,1,3,0,3,1,5"].join(",");
         let lines = format!("no 5 0\nok 1 0 0 1,0,4,0,0,0,1,1,1 -\nok 3 3 0 {rows} 313232\nno 1 0\n");
         assert_eq!(answered(&input), (lines, true));
@@ -89,6 +89,6 @@ mod tests {
     fn input_cut_short_is_an_error() {
         assert_eq!(answered(&framed(b"1\n")[..3]), ("".into(), false));
         assert_eq!(answered(&framed(b"1\n")[..5]), ("".into(), false));
-        assert_eq!(answered(&framed(&[b'a'; 70_000])[..60_000]), ("".into(), false));
+        assert_eq!(answered(&framed(&vec![b'a'; 1_070_000])[..1_060_000]), ("".into(), false));
     }
 }

@@ -15,7 +15,8 @@ fn framed(doc: &[u8]) -> Vec<u8> {
 #[test]
 fn a_few_documents() {
     let escaped = framed(b"'\\'\\\\'\n");
-    let input = [framed(b""), framed(b"\"\"\n"), framed(b"a: 1\na: 2\n"), escaped, framed(&[b'x'; 40_000])].concat();
+    let input =
+        [framed(b""), framed(b"\"\"\n"), framed(b"a: 1\na: 2\n"), escaped, framed(&vec![b'x'; 1_048_577])].concat();
     let run = yay(&["batch"], &input);
     assert_eq!((run.status, run.err.as_str()), (0, ""));
     assert_eq!(run.out, "no 5 0\nok 1 0 0 6,0,2,0,0,0,1,1,1 -\nno 6 5\nok 1 2 2 6,0,6,0,2,0,1,1,1 275c\nno 1 0\n");

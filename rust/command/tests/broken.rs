@@ -40,14 +40,14 @@ fn a_binary_file() {
 
 #[test]
 fn a_file_of_33_kilobytes() {
-    let file = Temporary::new("long.yay", &[b'1'; 33_000]);
+    let file = Temporary::new("long.yay", &[b'1'; 1_050_000]);
     all_say(
         file.name(),
         1,
-        "F:1:1: LONG (1): there are more than 32768 bytes, the most that a document has; the file has 33000\n",
+        "F:1:1: LONG (1): there are more than 1048576 bytes, the most that a document has; the file has 1050000\n",
     );
-    let run = yay(&["check", "-"], &[b'1'; 33_000]);
-    let said = "(standard input):1:1: LONG (1): there are more than 32768 bytes, the most that a document has\n";
+    let run = yay(&["check", "-"], &[b'1'; 1_050_000]);
+    let said = "(standard input):1:1: LONG (1): there are more than 1048576 bytes, the most that a document has\n";
     assert_eq!((run.status, run.err.as_str()), (1, said));
 }
 

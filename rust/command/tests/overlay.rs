@@ -50,10 +50,7 @@ fn grouped(files: [&str; 3]) -> [Run; 2] {
         0 => rest(Temporary::new("overlay-grouped.yay", run.out.as_bytes()).name()),
         _ => run,
     };
-    [
-        first(lower, &|two| yay(&["overlay", two, site], b"")),
-        first(upper, &|two| yay(&["overlay", fleet, two], b"")),
-    ]
+    [first(lower, &|two| yay(&["overlay", two, site], b"")), first(upper, &|two| yay(&["overlay", fleet, two], b""))]
 }
 
 #[test]
@@ -160,10 +157,10 @@ fn into_a_file_whole_or_not_at_all() {
 
 #[test]
 fn what_is_too_long_to_write() {
-    let keys = |letter: char| (0..2_900).map(|i| format!("{letter}{i}: 1\n")).collect::<String>();
+    let keys = |letter: char| (0..60_000).map(|i| format!("{letter}{i}: 1\n")).collect::<String>();
     let (run, files) = run(&[&keys('k'), &keys('l')]);
     let said = format!(
-        "yay: all laid over {}: LONG (1): written back, the document has more than 32768 bytes\n",
+        "yay: all laid over {}: LONG (1): written back, the document has more than 1048576 bytes\n",
         files[0].name()
     );
     assert_eq!((run.status, run.out.as_str(), run.err), (1, "", said));

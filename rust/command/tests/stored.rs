@@ -91,7 +91,7 @@ fn what_is_no_stored_form() {
     for (bytes, said) in [
         (&b""[..], "byte 0: BADFORM (13): this is no stored form: a value is missing\n"),
         (&FORM[..20], "byte 0: BADFORM (13): this is no stored form: this field says that its content has 38 bytes, and there are 17\n"),
-        (b"\x08\0\x03\x0b\0\0", "byte 3: BADFORM (13): this is no stored form: 11 is no tag; those of values are 1 to 9\n"),
+        (b"\x08\0\x03\x0b\0\0", "byte 3: BADFORM (13): this is no stored form: a part, which has the tag 11, has 65535 bytes, and this has 0\n"),
         (b"\x01\0\0\n", "byte 3: BADFORM (13): this is no stored form: a stored form is one field, and bytes stand behind it\n"),
     ] {
         for words in [&["load", "-"][..], &["json", "--stored", "-"], &["check", "--stored", "-"], &["write", "--stored", "-"]] {
@@ -113,9 +113,9 @@ fn what_is_no_stored_form() {
         "{}",
         run.err
     );
-    let long = Temporary::new("long.stored", &[8; 70_000]);
+    let long = Temporary::new("long.stored", &vec![8; 16_777_300]);
     let run = yay(&["load", long.name()], b"");
-    assert!(run.err.contains("the most that a stored form has; the file has 70000"), "{}", run.err);
+    assert!(run.err.contains("the most that a stored form has; the file has 16777300"), "{}", run.err);
 }
 
 /// No message of a stored form has a line.

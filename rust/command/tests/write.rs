@@ -79,10 +79,10 @@ fn a_refusal_leaves_the_file() {
     let folder = Folder::new("refused");
     let file = folder.file("kept.yay");
     fs::write(&file, "kept").unwrap();
-    let long = format!("[{}1]\n", "1, ".repeat(10_000));
+    let long = format!("[{}1]\n", "1, ".repeat(300_000));
     for (doc, said) in [
         (&b"a: 1 \n"[..], "(standard input):1:6: SYNTAX (3): a line may not end in a space\n"),
-        (long.as_bytes(), "yay: (standard input): LONG (1): written back, the document has more than 32768 bytes\n"),
+        (long.as_bytes(), "yay: (standard input): LONG (1): written back, the document has more than 1048576 bytes\n"),
     ] {
         let run = yay(&["write", "-", "-o", &file], doc);
         assert_eq!((run.status, run.out.as_str()), (1, ""));

@@ -69,8 +69,8 @@ impl Document {
         written(&self.tree())
     }
 
-    /// The document as tagged fields, as a tablet keeps it; [`Unstored::Wide`](crate::Unstored) where that takes too many
-    /// bytes.
+    /// The document as tagged fields, as a tablet keeps it. What was read is always stored; of what was laid over another,
+    /// more than [`LONGEST_STORED`] bytes are [`Unstored::Short`](crate::Unstored).
     pub fn stored(&self) -> Result<Vec<u8>, Unstored> {
         stored(&self.tree())
     }

@@ -2,7 +2,7 @@
 
 macro_rules! longest {
     () => {
-        32_768
+        1_048_576
     };
 }
 
@@ -12,18 +12,16 @@ macro_rules! nesting {
     };
 }
 
-macro_rules! stored_content {
-    () => {
-        65_535
-    };
-}
-
-pub(crate) use {longest, nesting, stored_content};
+pub(crate) use {longest, nesting};
 
 /// The most bytes a document may have.
 pub const LONGEST: usize = longest!();
-/// The most bytes that a stored form may have: a tag, a length of two bytes, and the widest content.
-pub const LONGEST_STORED: usize = 3 + stored_content!();
+/// The most bytes that a stored form may have.
+pub const LONGEST_STORED: usize = 16_777_216;
+/// The most bytes of one field; a longer content is stored in parts of so many bytes, and an end.
+pub(crate) const WIDEST: usize = 65_535;
+/// The tag of a part.
+pub(crate) const PART: u8 = 11;
 /// The most containers one inside another.
 pub const NESTING: usize = nesting!();
 /// A lent room counts for no more than this: a table for so many rows, a text room and an output for so many bytes.

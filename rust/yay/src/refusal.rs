@@ -1,6 +1,6 @@
 //! Numbers of refusal, and the errors that carry them.
 
-use crate::limits::{longest, nesting, stored_content, WORDS};
+use crate::limits::{longest, nesting, WORDS};
 use crate::place::{Place, Position};
 use std::error::Error;
 use std::fmt;
@@ -31,10 +31,9 @@ pub enum Number {
     None,
     /// A text compared isn't an integer's text.
     NotInt,
-    /// A content to be stored has more bytes than a length of two bytes tells.
-    Wide,
-    /// The bytes aren't a sound table's stored form.
-    BadForm,
+    /// The bytes aren't a sound table's stored form, or are more than [`LONGEST_STORED`](crate::LONGEST_STORED). No number
+    /// is 12.
+    BadForm = 13,
     /// The table isn't a sound one of a release sheet.
     BadSheet,
     /// The table isn't a sound one of an installed version.
@@ -43,7 +42,7 @@ pub enum Number {
     Clash,
 }
 
-const NUMBERS: [(Number, &str, &str); 16] = [
+const NUMBERS: [(Number, &str, &str); 15] = [
     (Number::Long, "LONG", concat!("the document has more than ", longest!(), " bytes")),
     (Number::Char, "CHAR", "this byte belongs to no allowed character"),
     (Number::Syntax, "SYNTAX", "no document goes on like this"),
@@ -55,7 +54,6 @@ const NUMBERS: [(Number, &str, &str); 16] = [
     (Number::BadRow, "BADROW", "the table is not sound, or has no such row that could be asked this"),
     (Number::None, "NONE", "the key isn't in the object"),
     (Number::NotInt, "NOTINT", "a text compared isn't an integer's text"),
-    (Number::Wide, "WIDE", concat!("a content has more than ", stored_content!(), " bytes")),
     (Number::BadForm, "BADFORM", "this is no stored form"),
     (Number::BadSheet, "BADSHEET", "this is no release sheet"),
     (Number::BadInst, "BADINST", "this is no installed version"),
@@ -63,7 +61,7 @@ const NUMBERS: [(Number, &str, &str); 16] = [
 ];
 
 impl Number {
-    /// The number as given by the C interface: 1 to 16.
+    /// The number as given by the C interface: 1 to 16, but 12.
     pub fn from_code(code: u32) -> Option<Number> {
         NUMBERS.iter().map(|(number, _, _)| *number).find(|number| number.code() == code)
     }

@@ -1,6 +1,6 @@
 //! Storing a table as tagged fields, and loading it again.
 
-use crate::limits::{stored_content, LONGEST_STORED};
+use crate::limits::LONGEST_STORED;
 use crate::refusal::Number;
 use crate::sys;
 use crate::tree::Tree;
@@ -12,9 +12,7 @@ use std::fmt;
 pub enum Unstored {
     /// The table is not sound: no document gives it.
     Unsound,
-    /// The stored form would have more than [`LONGEST_STORED`] bytes: its content is too wide for a length of two bytes.
-    Wide,
-    /// The output lent is too short.
+    /// The output lent is too short; one of more than [`LONGEST_STORED`] bytes counts for no more than these.
     Short {
         /// How many bytes are needed.
         needed: usize,
@@ -22,11 +20,10 @@ pub enum Unstored {
 }
 
 impl Unstored {
-    /// Its number: [`Number::BadRow`], [`Number::Wide`] or [`Number::Text`].
+    /// Its number: [`Number::BadRow`] or [`Number::Text`].
     pub fn number(self) -> Number {
         match self {
             Unstored::Unsound => Number::BadRow,
-            Unstored::Wide => Number::Wide,
             Unstored::Short { .. } => Number::Text,
         }
     }
@@ -37,9 +34,6 @@ impl fmt::Display for Unstored {
         write!(out, "{} ({}): ", self.number().name(), self.number().code())?;
         match self {
             Unstored::Unsound => write!(out, "the table is not sound: no document gives it"),
-            Unstored::Wide => {
-                write!(out, concat!("stored, a content has more than ", stored_content!(), " bytes"))
-            }
             Unstored::Short { needed } => write!(out, "the output lent has too few bytes, {needed} are needed"),
         }
     }
@@ -91,7 +85,8 @@ impl Error for Unloaded {}
 /// all, are as they were.
 ///
 /// A field is one byte tag, the row's kind, two bytes length, high byte first, and the content: a text, nothing for null,
-/// false and true, or the children's fields. One tree has one stored form, without spans, lines and columns.
+/// false and true, or the children's fields. A content over 65,535 bytes stands in parts of so many, with the tag 11, and an
+/// end. One tree has one stored form, without spans, lines and columns.
 ///
 /// ```
 /// use yay::{store, Document, Unstored};
@@ -108,15 +103,16 @@ pub fn store(tree: &Tree, out: &mut [u8]) -> Result<usize, Unstored> {
         return Ok(count);
     }
     Err(match Number::given(code) {
-        Number::Wide => Unstored::Wide,
         Number::Text => Unstored::Short { needed: count },
         _ => Unstored::Unsound,
     })
 }
 
-/// The same in memory of its own, which is always long enough.
+/// The same in memory of its own, which is long enough for every form that can be loaded: three bytes a row, the text, and
+/// the heads of parts, which are fewer than one byte in 512.
 pub fn stored(tree: &Tree) -> Result<Vec<u8>, Unstored> {
-    let mut out = vec![0; LONGEST_STORED];
+    let bytes = tree.rows().saturating_mul(3).saturating_add(tree.text_room().len());
+    let mut out = vec![0; bytes.saturating_add(bytes / 512).min(LONGEST_STORED)];
     let count = store(tree, &mut out)?;
     out.truncate(count);
     Ok(out)
@@ -125,8 +121,8 @@ pub fn stored(tree: &Tree) -> Result<Vec<u8>, Unstored> {
 /// Loads stored bytes into the table and the text room lent; those behind the rows and the text, and of a refusal all, are
 /// as they were.
 ///
-/// It gives the same kinds, texts and nesting. The span of a row is its field in the stored bytes, from the tag to the end
-/// of the content; lines and columns are 0. What was loaded is sound, and is stored as the same bytes.
+/// It gives the same kinds, texts and nesting. The span of a row is its field in the stored bytes, from the first tag to the
+/// end of the content; lines and columns are 0. What was loaded is sound, and is stored as the same bytes.
 ///
 /// ```
 /// use yay::{load, Place, Row, Unloaded, ROOT, WORDS};

@@ -52,7 +52,9 @@ fn numbers() {
     let (names, sentences) = (strings(&help, "yay_number_name"), strings(&help, "yay_number_sentence"));
     let numbers: Vec<_> = (0..100).filter_map(Number::from_code).collect();
     let last = Number::Clash.code() as usize;
-    assert_eq!((numbers.len(), names.len(), sentences.len()), (last, last + 1, last + 1));
+    // There is no 12.
+    assert_eq!((numbers.len(), names.len(), sentences.len()), (last - 1, last + 1, last + 1));
+    assert_eq!((names[12].as_str(), sentences[12].as_str(), proved.contains("YAY_WIDE")), ("", "", false));
     for number in numbers {
         let code = number.code() as usize;
         assert_eq!(defined(&proved, &format!("YAY_{}", number.name())), code as u64);

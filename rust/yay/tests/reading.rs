@@ -1,7 +1,7 @@
 //! Reading into lent and own rooms, refusals and their errors.
 
 use std::error::Error;
-use yay::{read, Accepted, Document, Kind, Number, Place, Refusal, Row, ROOT, WORDS};
+use yay::{read, Accepted, Document, Kind, Number, Place, Refusal, Row, LONGEST, ROOT, WORDS};
 
 fn refused(doc: &[u8]) -> (Number, usize) {
     let refusal = Document::read(doc).expect_err("refused");
@@ -27,7 +27,7 @@ fn refusals_of_the_border_table() {
     assert_eq!(refused(b"a: 1\na: 2\n"), (Number::Repeat, 5));
     assert_eq!(refused(&[b'['; 33]), (Number::Deep, 32));
     assert_eq!(refused(b"a:\t"), (Number::Char, 2));
-    assert_eq!(refused(&[b' '; 32_769]), (Number::Long, 0));
+    assert_eq!(refused(&vec![b' '; LONGEST + 1]), (Number::Long, 0));
 }
 
 #[test]
@@ -51,7 +51,7 @@ fn empty_rooms_may_be_lent() {
 // YAY_STACK of include/yay.h is 112 KB: the rest of 128 KB is left for the thread itself.
 #[test]
 fn a_small_thread_reads_a_profile() {
-    for bytes in [1_024, 16_384, 32_768] {
+    for bytes in [1_024, 16_384, 32_768, LONGEST] {
         for (begin, line, end) in
             [("", "aisle-#: {door: #, name: \"of the cold store\"}\n", ""), ("", "a-#: 1\n", ""), ("[", "#, ", "0]\n")]
         {
@@ -67,7 +67,7 @@ fn a_small_thread_reads_a_profile() {
             let reads = move || Document::read(profile.as_bytes()).map(|d| d.tree().rows());
             let thread = std::thread::Builder::new().stack_size(128 * 1024).spawn(reads).unwrap();
             let rows = thread.join().unwrap().unwrap();
-            assert!(rows > bytes / 12, "{rows} rows");
+            assert!(rows > bytes / 16, "{rows} rows");
         }
     }
 }
@@ -86,10 +86,10 @@ fn errors_are_errors() {
 
 #[test]
 fn numbers_and_kinds_by_code() {
-    for code in 1..=16 {
+    for code in (1..=16).filter(|code| *code != 12) {
         assert_eq!(Number::from_code(code).map(Number::code), Some(code));
     }
-    assert_eq!((Number::from_code(0), Number::from_code(17)), (None, None));
+    assert_eq!([0, 12, 17].map(Number::from_code), [None; 3]);
     assert_eq!((Kind::from_code(10), Kind::from_code(0), Kind::from_code(11)), (Some(Kind::Key), None, None));
 }
 

@@ -1,7 +1,7 @@
 //! Tables stored and loaded through the crate: the vectors, what the request says, rooms, and bytes that are no stored form.
 
 use yay::{form_fault, load, store, stored, Document, Kind, Number, Place, Row, Tree, Unloaded, Unstored};
-use yay::{LONGEST_STORED, NESTING, WORDS};
+use yay::{LONGEST, LONGEST_STORED, NESTING, WORDS};
 
 fn read(doc: &str) -> Document {
     Document::read(doc.as_bytes()).unwrap_or_else(|no| panic!("{no}: {doc}"))
@@ -100,16 +100,57 @@ fn string(count: usize) -> ([u32; WORDS], Vec<u8>) {
     ([6, 0, 0, 0, count as u32, 0, 1, 0, 0], vec![b'a'; count])
 }
 
+/// Contents of 65,535 bytes stand in one field, of one more in a part and an end.
 #[test]
-fn too_wide_and_not_sound() {
-    let (row, text) = string(LONGEST_STORED - 3);
-    assert_eq!(stored(&Tree::new(&row, 1, &text)).map(|form| form.len()), Ok(LONGEST_STORED));
-    let (row, text) = string(LONGEST_STORED - 2);
-    assert_eq!(stored(&Tree::new(&row, 1, &text)), Err(Unstored::Wide));
-    assert_eq!(store(&Tree::new(&row, 1, &text), &mut []), Err(Unstored::Wide));
+fn parts() {
+    for (count, heads) in [(65_535, 1), (65_536, 2), (131_070, 2), (131_071, 3)] {
+        let (row, text) = string(count);
+        let form = stored(&Tree::new(&row, 1, &text)).expect("stored");
+        assert_eq!((form.len(), form[0]), (count + 3 * heads, if heads > 1 { 11 } else { 6 }));
+        assert_eq!(form[(heads - 1) * 65_538], 6);
+        let document = Document::load(&form).expect("a stored form");
+        assert_eq!((document.tree().text(Row(0)), form_fault(&form)), (Ok(&text[..]), None));
+        assert_eq!(document.tree().span(Row(0)), Ok(Place(0)..Place(form.len())));
+    }
+    // In an array the text and the array are cut, each where its own bytes are enough.
+    let doc = format!("[\"{}\", 7]\n", "a".repeat(65_600));
+    let form = read(&doc).stored().expect("stored");
+    assert_eq!((form.len(), &form[..7]), (65_600 + 6 + 4 + 6, &[11, 255, 255, 11, 255, 255, b'a'][..]));
+    let document = Document::load(&form).expect("a stored form");
+    assert_eq!(document.written(), Ok(format!("- \"{}\"\n- 7\n", "a".repeat(65_600)).into_bytes()));
+    for at in [0, 1, 2, 3, 4, 5, 65_537, 65_538, 65_539, 65_540, 65_541, 65_542, 65_543, 65_544, form.len() - 1] {
+        for value in 0..=255 {
+            let mut changed = form.clone();
+            changed[at] = value;
+            assert_eq!(form_fault(&changed).is_none(), Document::load(&changed).is_ok(), "{at} {value}");
+        }
+    }
+}
+
+#[test]
+fn too_long_and_not_sound() {
+    let longest = LONGEST_STORED - 3 * 256;
+    let (row, text) = string(longest);
+    let form = stored(&Tree::new(&row, 1, &text)).expect("stored");
+    assert_eq!((form.len(), Document::load(&form).is_ok()), (LONGEST_STORED, true));
+    let (row, text) = string(longest + 1);
+    let needed = LONGEST_STORED + 1;
+    assert_eq!(stored(&Tree::new(&row, 1, &text)), Err(Unstored::Short { needed }));
+    assert_eq!(store(&Tree::new(&row, 1, &text), &mut vec![0; needed]), Err(Unstored::Short { needed }));
     assert_eq!(stored(&Tree::new(&row, 1, &text[1..])), Err(Unstored::Unsound));
     assert_eq!(stored(&Tree::new(&[], usize::MAX, &[])), Err(Unstored::Unsound));
     assert_eq!(Document::load(&vec![6; LONGEST_STORED + 1]), Err(Unloaded::Form));
+}
+
+/// The longest document, and the stored form of one with as many rows as it can have.
+#[test]
+fn the_longest_documents() {
+    for doc in [format!("\"{}\"\n", "x".repeat(LONGEST - 3)), format!("[{}1]\n", "1, ".repeat((LONGEST - 4) / 3))] {
+        let document = read(&doc);
+        let form = document.stored().expect("stored");
+        let loaded = Document::load(&form).expect("a stored form");
+        assert_eq!((loaded.stored(), loaded.tree().rows()), (Ok(form), document.tree().rows()));
+    }
 }
 
 fn nested(levels: usize) -> Vec<u8> {
@@ -127,7 +168,8 @@ fn what_is_wrong() {
         ("08000404000531", 3, "this field says that its content has 5 bytes, and there are 1"),
         ("0100000a", 3, "a stored form is one field, and bytes stand behind it"),
         ("000000", 0, "0 is no tag; those of values are 1 to 9"),
-        ("0800030b0000", 3, "11 is no tag; those of values are 1 to 9"),
+        ("0800030b0000", 3, "a part, which has the tag 11, has 65535 bytes, and this has 0"),
+        ("0c0000", 0, "12 is no tag; those of values are 1 to 9"),
         ("ff0000", 0, "255 is no tag; those of values are 1 to 9"),
         ("0a000161", 0, "a key stands where a value has to"),
         ("03000100", 0, "true has no content, and this has 1 bytes"),
@@ -147,7 +189,7 @@ fn what_is_wrong() {
     assert_eq!((form_fault(&nested(NESTING)), Document::load(&nested(NESTING)).is_ok()), (None, true));
     let fault = form_fault(&nested(NESTING + 1)).expect("a fault");
     assert_eq!(fault.to_string(), "here a container stands inside 32 others, the most there may be, at byte 96");
-    assert!(form_fault(&vec![8; LONGEST_STORED + 1]).is_some_and(|fault| fault.sentence.contains("65538")));
+    assert!(form_fault(&vec![8; LONGEST_STORED + 1]).is_some_and(|fault| fault.sentence.contains("16777216")));
 }
 
 #[test]
@@ -182,13 +224,12 @@ fn there_is_a_fault_exactly_where_there_is_the_number() {
 
 #[test]
 fn names_and_numbers() {
-    let all = [Unstored::Unsound, Unstored::Wide, Unstored::Short { needed: 9 }];
-    assert_eq!(all.map(Unstored::number), [Number::BadRow, Number::Wide, Number::Text]);
+    let all = [Unstored::Unsound, Unstored::Short { needed: 9 }];
+    assert_eq!(all.map(Unstored::number), [Number::BadRow, Number::Text]);
     assert_eq!(
         all.map(|no| no.to_string()),
         [
             "BADROW (9): the table is not sound: no document gives it",
-            "WIDE (12): stored, a content has more than 65535 bytes",
             "TEXT (8): the output lent has too few bytes, 9 are needed",
         ]
     );
@@ -202,5 +243,5 @@ fn names_and_numbers() {
             "TEXT (8): the text room or output lent has too few bytes, 9 are needed",
         ]
     );
-    assert_eq!((Number::Wide.code(), Number::from_code(13)), (12, Some(Number::BadForm)));
+    assert_eq!([12, 13].map(Number::from_code), [None, Some(Number::BadForm)]);
 }

@@ -124,7 +124,7 @@ fn every_word_counts_but_spans_lines_and_columns() {
 
 #[test]
 fn written_too_long() {
-    let doc = format!("[{}1]\n", "1, ".repeat(10_000));
+    let doc = format!("[{}1]\n", "1, ".repeat(300_000));
     let document = Document::read(doc.as_bytes()).expect("a document");
     assert_eq!((document.tree().kind(ROOT), document.written()), (Ok(Kind::Array), Err(Unwritten::Long)));
     let longest = format!("\"{}\"\n", "x".repeat(LONGEST - 3));
@@ -135,7 +135,7 @@ fn written_too_long() {
 fn errors_say_their_numbers() {
     for (no, number, said) in [
         (Unwritten::Unsound, Number::BadRow, "BADROW (9): the table is not sound: no document gives it"),
-        (Unwritten::Long, Number::Long, "LONG (1): written back, the document has more than 32768 bytes"),
+        (Unwritten::Long, Number::Long, "LONG (1): written back, the document has more than 1048576 bytes"),
         (Unwritten::Short { needed: 9 }, Number::Text, "TEXT (8): the output lent has too few bytes, 9 are needed"),
     ] {
         assert_eq!((no.number(), no.to_string().as_str()), (number, said));

@@ -4,7 +4,7 @@ use lib.ListN.{length, getD}
 use native.Mathlib.Omega.{arith}
 use borrow.Author.Needs.{needs}
 use Rattle.language.specs.Tree.{width}
-use Rattle.fields.specs.Fields.{Fields, Left, left-start, left-end, turn-ahead, turn-field, turn-word, turn-again, content-kind, array-fields, object-fields, head-rises, head-kind, head-room, contents, fielding}
+use Rattle.fields.specs.Fields.{Fields, Left, left-start, left-end, turn-ahead, turn-field, turn-word, turn-again, content-kind, array-fields, object-fields, field-closes, contents, fielding}
 use Rattle.fields.specs.Rows.{next-word, size-some}
 use Prim.Native.Nat.{ℕ, _+_, _-_, _*_, _≤_, _<_}
 use borrow.Fn.Kinds.{In}
@@ -18,7 +18,7 @@ use Rattle.fields.proofs.+content+field+fields.Lts-field as field-lts
 use Rattle.fields.proofs.fields.Reads as fields
 use Rattle.fields.proofs.fields.Kinds as fields-kinds
 use Rattle.fields.proofs.+content+field+fields.Lts-fields as fields-lts
-use Rattle.fields.proofs.head.Reads as head-reads
+use Rattle.fields.proofs.closed.Reads as closed-reads
 use Rattle.fields.proofs.leaf.Reads as leaf-reads
 use Rattle.fields.proofs.word.Reads as word-reads
 use Rattle.fields.proofs.+content+field+fields.{statement}
@@ -202,8 +202,8 @@ field-add-content : (t : ℕ) → field-lts.Need-add-content (
   content.Post,
   word-reads.Asked,
   word-reads.Learnt,
-  head-reads.Asked,
-  head-reads.Learnt,
+  closed-reads.Asked,
+  closed-reads.Learnt,
 ) (field-at t) field.Post
 field-add-content t c = search (fielding, needs)
 
@@ -212,8 +212,8 @@ field-content-requires : (t : ℕ) → field-lts.Need-content-requires (
   content.Post,
   word-reads.Asked,
   word-reads.Learnt,
-  head-reads.Asked,
-  head-reads.Learnt,
+  closed-reads.Asked,
+  closed-reads.Learnt,
 ) (field-at t) field.Post
 field-content-requires t c κs = search (fielding, needs)
 
@@ -222,50 +222,28 @@ field-word-requires : (t : ℕ) → field-lts.Need-word-requires (
   content.Post,
   word-reads.Asked,
   word-reads.Learnt,
-  head-reads.Asked,
-  head-reads.Learnt,
+  closed-reads.Asked,
+  closed-reads.Learnt,
 ) (field-at t) field.Post
 field-word-requires t c κs = search (fielding, needs)
 
-field-add-head : (t : ℕ) → field-lts.Need-add-head (
+field-closed-requires : (t : ℕ) → field-lts.Need-closed-requires (
   content-below t,
   content.Post,
   word-reads.Asked,
   word-reads.Learnt,
-  head-reads.Asked,
-  head-reads.Learnt,
+  closed-reads.Asked,
+  closed-reads.Learnt,
 ) (field-at t) field.Post
-field-add-head t c = search (fielding, needs)
-
-field-sub-head : (t : ℕ) → field-lts.Need-sub-head (
-  content-below t,
-  content.Post,
-  word-reads.Asked,
-  word-reads.Learnt,
-  head-reads.Asked,
-  head-reads.Learnt,
-) (field-at t) field.Post
-field-sub-head t c =
-    head-rises _ _ (c .before .before .before .before .before .before .before .before .before .pre .1) (c .before .before .before .before .content .ensures)
-
-field-head-requires : (t : ℕ) → field-lts.Need-head-requires (
-  content-below t,
-  content.Post,
-  word-reads.Asked,
-  word-reads.Learnt,
-  head-reads.Asked,
-  head-reads.Learnt,
-) (field-at t) field.Post
-field-head-requires t c κs =
-    (head-kind _ _ (c .before .before .before .before .before .before .before .before .before .pre .1) (c .before .before .before .before .content .ensures) (c .word .ensures), head-room _ _ (c .before .before .before .before .before .before .before .before .before .pre .1) (c .before .before .before .before .content .ensures) refl)
+field-closed-requires t c κs = field-closes _ _ (c .before .before .before .before .before .before .before .before .before .pre .1) (c .before .before .before .before .content .ensures) (c .word .ensures) refl
 
 field-same-length : (t : ℕ) → field-lts.Need-same-length (
   content-below t,
   content.Post,
   word-reads.Asked,
   word-reads.Learnt,
-  head-reads.Asked,
-  head-reads.Learnt,
+  closed-reads.Asked,
+  closed-reads.Learnt,
 ) (field-at t) field.Post
 field-same-length t c = search (fielding, needs)
 
@@ -274,8 +252,8 @@ field-returns : (t : ℕ) → field-lts.Need-returns (
   content.Post,
   word-reads.Asked,
   word-reads.Learnt,
-  head-reads.Asked,
-  head-reads.Learnt,
+  closed-reads.Asked,
+  closed-reads.Learnt,
 ) (field-at t) field.Post
 field-returns t c = λ h. search (fielding, needs)
 
@@ -300,7 +278,7 @@ fields-field-requires : (t : ℕ) → fields-lts.Need-field-requires (
   word-reads.Asked,
   word-reads.Learnt,
 ) (fields-at t) fields.Post fields-Inv-loop fields-μ-loop
-fields-field-requires t c κs = let h = c .before .before .before .before .before .before .pre .1 in let l = c .before .before .loop .inv in let a = turn-ahead _ _ (h .room) (h .fits) (l .0 h) (c .before .loop-test .taken) refl in (omega (arith, c .before .before .before .before .before .before .pre .0, a .0, a .1, l .2), turn-field _ _ (h .room) (h .fits) (l .0 h) (c .before .loop-test .taken) (l .1))
+fields-field-requires t c κs = let h = c .before .before .before .before .before .before .pre .1 in let l = c .before .before .loop .inv in let a = turn-ahead _ _ (h .fits) (l .0 h) (c .before .loop-test .taken) refl in (omega (arith, c .before .before .before .before .before .before .pre .0, a .0, a .1, l .2), turn-field _ _ (h .fits) (l .0 h) (c .before .loop-test .taken) (l .1))
 
 fields-word-requires : (t : ℕ) → fields-lts.Need-word-requires (
   field-below t,
@@ -308,7 +286,7 @@ fields-word-requires : (t : ℕ) → fields-lts.Need-word-requires (
   word-reads.Asked,
   word-reads.Learnt,
 ) (fields-at t) fields.Post fields-Inv-loop fields-μ-loop
-fields-word-requires t c κs = let h = c .before .before .before .before .before .before .before .before .before .pre .1 in turn-word _ _ (h .room) (h .fits) (c .before .before .before .before .before .loop .inv .0 h) (c .before .before .before .before .loop-test .taken) 6 (omega arith)
+fields-word-requires t c κs = let h = c .before .before .before .before .before .before .before .before .before .pre .1 in turn-word _ _ (h .fits) (c .before .before .before .before .before .loop .inv .0 h) (c .before .before .before .before .loop-test .taken) 6 (omega arith)
 
 fields-loop-less : (t : ℕ) → fields-lts.Need-loop-less (
   field-below t,
@@ -318,7 +296,7 @@ fields-loop-less : (t : ℕ) → fields-lts.Need-loop-less (
 ) (fields-at t) fields.Post fields-Inv-loop fields-μ-loop
 fields-loop-less t c =
     let h = c .before .before .before .before .before .before .before .before .before .before .pre .1 in
-    let a = turn-ahead _ _ (h .room) (h .fits) (c .before .before .before .before .before .before .loop .inv .0 h) (c .before .before .before .before .before .loop-test .taken) (c .word .ensures) in
+    let a = turn-ahead _ _ (h .fits) (c .before .before .before .before .before .before .loop .inv .0 h) (c .before .before .before .before .before .loop-test .taken) (c .word .ensures) in
     omega (arith, a .0, a .1)
 
 fields-loop-again : (t : ℕ) → fields-lts.Need-loop-again (
@@ -330,8 +308,8 @@ fields-loop-again : (t : ℕ) → fields-lts.Need-loop-again (
 fields-loop-again t c =
     let l = c .before .before .before .before .before .before .loop .inv in
     let h = c .before .before .before .before .before .before .before .before .before .before .pre .1 in
-    let a = turn-ahead _ _ (h .room) (h .fits) (l .0 h) (c .before .before .before .before .before .loop-test .taken) (c .word .ensures) in
-    (λ h. turn-again _ _ (h .room) (h .fits) (l .0 h) (c .before .before .before .before .before .loop-test .taken) (l .1) (c .before .before .before .field .ensures) (c .word .ensures), search needs, omega (arith, a .0, l .2))
+    let a = turn-ahead _ _ (h .fits) (l .0 h) (c .before .before .before .before .before .loop-test .taken) (c .word .ensures) in
+    (λ h. turn-again _ _ (h .fits) (l .0 h) (c .before .before .before .before .before .loop-test .taken) (l .1) (c .before .before .before .field .ensures) (c .word .ensures), search needs, omega (arith, a .0, l .2))
 
 fields-same-length : (t : ℕ) → fields-lts.Need-same-length (
   field-below t,
@@ -379,17 +357,15 @@ pub +content+field+fields-spec : {M : Type 1} → statement M
       content.Post,
       word-reads.Asked,
       word-reads.Learnt,
-      head-reads.Asked,
-      head-reads.Learnt,
+      closed-reads.Asked,
+      closed-reads.Learnt,
     )
     (field-at t)
     field.Post
     (field-add-content t)
     (field-content-requires t)
     (field-word-requires t)
-    (field-add-head t)
-    (field-sub-head t)
-    (field-head-requires t)
+    (field-closed-requires t)
     (field-same-length t)
     (field-returns t))
     λ t. fields-lts.spec

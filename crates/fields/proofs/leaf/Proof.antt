@@ -1,5 +1,5 @@
 -- `leaf` writes the text of a row.
-use Rattle.fields.specs.Fields.{leafing, leaf-room}
+use Rattle.fields.specs.Fields.{leafing, leaf-fits}
 use borrow.Author.Needs.{needs}
 use Rattle.fields.proofs.leaf.Statement.{statement}
 use Rattle.fields.proofs.leaf.Tie as tie
@@ -18,7 +18,7 @@ sub-result c = search (leafing, needs)
 
 add-result : tie.Need-add-result
 add-result c =
-    let k = leaf-room _ _ (c .before .before .before .before .before .before .before .before .before .pre) (c .before .before .before .before .before .word .ensures) (c .before .before .before .before .word2 .ensures) in
+    let k = leaf-fits _ _ (c .before .before .before .before .before .before .before .before .before .pre) (c .before .before .before .before .before .word .ensures) (c .before .before .before .before .word2 .ensures) in
     search needs
 
 same-length : tie.Need-same-length

@@ -1,10 +1,10 @@
 -- `load` keeps its promise: what is no stored form, or too much for the rooms, is told before they are filled.
-use Rattle.load.specs.Loading.{told-root, loading}
+use Rattle.load.specs.Loading.{told-asked, loading}
 use Rattle.load.proofs.load.Statement.{statement}
 use Rattle.load.proofs.load.Tie as tie
 
-rows-of-requires : tie.Need-rows-of-requires
-rows-of-requires c κs = search loading
+counted-requires : tie.Need-counted-requires
+counted-requires c κs = search loading
 
 returns : tie.Need-returns
 returns c = search loading
@@ -18,12 +18,6 @@ same-length c = search loading
 returns-2 : tie.Need-returns-2
 returns-2 c = search loading
 
-mul-bytes : tie.Need-mul-bytes
-mul-bytes c = search loading
-
-sub-bytes : tie.Need-sub-bytes
-sub-bytes c = search loading
-
 bytes-lent-requires : tie.Need-bytes-lent-requires
 bytes-lent-requires c κs = search loading
 
@@ -36,8 +30,8 @@ same-length-3 c = search loading
 returns-3 : tie.Need-returns-3
 returns-3 c = search loading
 
-fill-requires : tie.Need-fill-requires
-fill-requires c κs = told-root _ _ (c .before .before .before .before .before .before .before .before .before .rows-of .ensures) (c .before .before .before .before .before .before .before .before .if1 .left) (c .before .before .before .before .before .before .before .before .before .before .before .before .before .args .text .now) _ (c .before .before .before .bytes-lent .ensures) (c .before .before .if3 .left)
+filled-requires : tie.Need-filled-requires
+filled-requires c κs = told-asked _ _ _ (c .before .before .before .before .before .before .before .before .before .before .before .before .counted .ensures) (c .before .before .before .before .before .before .before .before .before .before .if1 .left) (c .before .before .before .before .before .before .before .before .before .before .before .before .before .before .before .before .args .text .now) _ (c .before .before .before .before .bytes-lent .ensures) (c .before .before .if3 .left)
 
 same-length-4 : tie.Need-same-length-4
 same-length-4 c = search loading
@@ -52,18 +46,16 @@ pub load-spec : {M : Type 1} → statement M
 load-spec =
     tie.close
     (tie.spec
-    rows-of-requires
+    counted-requires
     returns
     rows-lent-requires
     same-length
     returns-2
-    mul-bytes
-    sub-bytes
     bytes-lent-requires
     same-length-2
     same-length-3
     returns-3
-    fill-requires
+    filled-requires
     same-length-4
     same-length-5
     returns-4)

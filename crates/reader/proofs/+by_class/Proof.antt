@@ -1,13 +1,14 @@
--- `by_class` answers as the class that it comes to does; the class rises, to 2 at most.
-use Prim.Native.Nat.{ℕ, _-_, _<_}
+-- `by_class` answers as the class that it comes to does; the class rises, to 3 at most.
 use Rattle.reader.specs.Filling.{tried-answer, tried-again, tried-total}
 use borrow.Author.Needs.{needs}
+use Prim.Native.Nat.{ℕ, _-_, _<_}
 use borrow.Fn.Kinds.{In}
 use borrow.Fn.PlainCycle.{Measures, is, falls, and}
 use Rattle.reader.proofs.by_class.Reads as by-class
 use Rattle.reader.proofs.by_class.Kinds as by-class-kinds
 use Rattle.reader.proofs.+by_class.Lts-by_class as by-class-lts
 use Rattle.reader.proofs.dense.Reads as dense-reads
+use Rattle.reader.proofs.of_any_bytes.Reads as of-any-bytes-reads
 use Rattle.reader.proofs.of_few_bytes.Reads as of-few-bytes-reads
 use Rattle.reader.proofs.of_many_bytes.Reads as of-many-bytes-reads
 use Rattle.reader.proofs.of_some_bytes.Reads as of-some-bytes-reads
@@ -15,7 +16,7 @@ use Rattle.reader.proofs.+by_class.{statement}
 use Rattle.reader.proofs.+by_class.Tie.{close}
 
 abbrev μ-by-class : Measures 3 by-class-kinds.ps ℕ
-μ-by-class κs a = 3 - a .1 .1 .1 .0
+μ-by-class κs a = 4 - a .1 .1 .1 .0
 
 abbrev by-class-at : ℕ → In 3 by-class-kinds.ps
 by-class-at t = and 3 by-class-kinds.ps (is 3 by-class-kinds.ps μ-by-class t) by-class.Pre
@@ -25,7 +26,7 @@ by-class-below t =
     and 3 by-class-kinds.ps (falls 3 by-class-kinds.ps _<_ μ-by-class t) by-class.Pre
 
 abbrev by-class-claims : ℕ → by-class-lts.Claims
-by-class-claims t = (by-class-below t, by-class.Post, of-few-bytes-reads.Asked, of-few-bytes-reads.Learnt, dense-reads.Asked, dense-reads.Learnt, of-some-bytes-reads.Asked, of-some-bytes-reads.Learnt, of-many-bytes-reads.Asked, of-many-bytes-reads.Learnt)
+by-class-claims t = (by-class-below t, by-class.Post, of-few-bytes-reads.Asked, of-few-bytes-reads.Learnt, dense-reads.Asked, dense-reads.Learnt, of-some-bytes-reads.Asked, of-some-bytes-reads.Learnt, of-many-bytes-reads.Asked, of-many-bytes-reads.Learnt, of-any-bytes-reads.Asked, of-any-bytes-reads.Learnt)
 
 by-class-by-class-requires : (t : ℕ) → by-class-lts.Need-by-class-requires (by-class-claims t) (by-class-at t) by-class.Post
 by-class-by-class-requires t c κs = search needs
@@ -78,8 +79,8 @@ by-class-enum-told-2 t c = search needs
 by-class-by-class-requires-4 : (t : ℕ) → by-class-lts.Need-by-class-requires-4 (by-class-claims t) (by-class-at t) by-class.Post
 by-class-by-class-requires-4 t c κs = search needs
 
-by-class-of-many-bytes-requires : (t : ℕ) → by-class-lts.Need-of-many-bytes-requires (by-class-claims t) (by-class-at t) by-class.Post
-by-class-of-many-bytes-requires t c κs = search needs
+by-class-by-class-requires-5 : (t : ℕ) → by-class-lts.Need-by-class-requires-5 (by-class-claims t) (by-class-at t) by-class.Post
+by-class-by-class-requires-5 t c κs = search needs
 
 by-class-same-length-5 : (t : ℕ) → by-class-lts.Need-same-length-5 (by-class-claims t) (by-class-at t) by-class.Post
 by-class-same-length-5 t c = search needs
@@ -89,6 +90,21 @@ by-class-same-length-6 t c = search needs
 
 by-class-returns-3 : (t : ℕ) → by-class-lts.Need-returns-3 (by-class-claims t) (by-class-at t) by-class.Post
 by-class-returns-3 t c = (search (tried-answer, tried-again, needs), search (tried-total, needs))
+
+by-class-of-many-bytes-requires : (t : ℕ) → by-class-lts.Need-of-many-bytes-requires (by-class-claims t) (by-class-at t) by-class.Post
+by-class-of-many-bytes-requires t c κs = search needs
+
+by-class-enum-known-a-3 : (t : ℕ) → by-class-lts.Need-enum-known-a-3 (by-class-claims t) (by-class-at t) by-class.Post
+by-class-enum-known-a-3 t c = search needs
+
+by-class-enum-told-3 : (t : ℕ) → by-class-lts.Need-enum-told-3 (by-class-claims t) (by-class-at t) by-class.Post
+by-class-enum-told-3 t c = search needs
+
+by-class-by-class-requires-6 : (t : ℕ) → by-class-lts.Need-by-class-requires-6 (by-class-claims t) (by-class-at t) by-class.Post
+by-class-by-class-requires-6 t c κs = search needs
+
+by-class-of-any-bytes-requires : (t : ℕ) → by-class-lts.Need-of-any-bytes-requires (by-class-claims t) (by-class-at t) by-class.Post
+by-class-of-any-bytes-requires t c κs = search needs
 
 by-class-same-length-7 : (t : ℕ) → by-class-lts.Need-same-length-7 (by-class-claims t) (by-class-at t) by-class.Post
 by-class-same-length-7 t c = search needs
@@ -126,6 +142,33 @@ by-class-same-length-14 t c = search needs
 by-class-returns-7 : (t : ℕ) → by-class-lts.Need-returns-7 (by-class-claims t) (by-class-at t) by-class.Post
 by-class-returns-7 t c = (search (tried-answer, tried-again, needs), search (tried-total, needs))
 
+by-class-same-length-15 : (t : ℕ) → by-class-lts.Need-same-length-15 (by-class-claims t) (by-class-at t) by-class.Post
+by-class-same-length-15 t c = search needs
+
+by-class-same-length-16 : (t : ℕ) → by-class-lts.Need-same-length-16 (by-class-claims t) (by-class-at t) by-class.Post
+by-class-same-length-16 t c = search needs
+
+by-class-returns-8 : (t : ℕ) → by-class-lts.Need-returns-8 (by-class-claims t) (by-class-at t) by-class.Post
+by-class-returns-8 t c = (search (tried-answer, tried-again, needs), search (tried-total, needs))
+
+by-class-same-length-17 : (t : ℕ) → by-class-lts.Need-same-length-17 (by-class-claims t) (by-class-at t) by-class.Post
+by-class-same-length-17 t c = search needs
+
+by-class-same-length-18 : (t : ℕ) → by-class-lts.Need-same-length-18 (by-class-claims t) (by-class-at t) by-class.Post
+by-class-same-length-18 t c = search needs
+
+by-class-returns-9 : (t : ℕ) → by-class-lts.Need-returns-9 (by-class-claims t) (by-class-at t) by-class.Post
+by-class-returns-9 t c = (search (tried-answer, tried-again, needs), search (tried-total, needs))
+
+by-class-same-length-19 : (t : ℕ) → by-class-lts.Need-same-length-19 (by-class-claims t) (by-class-at t) by-class.Post
+by-class-same-length-19 t c = search needs
+
+by-class-same-length-20 : (t : ℕ) → by-class-lts.Need-same-length-20 (by-class-claims t) (by-class-at t) by-class.Post
+by-class-same-length-20 t c = search needs
+
+by-class-returns-10 : (t : ℕ) → by-class-lts.Need-returns-10 (by-class-claims t) (by-class-at t) by-class.Post
+by-class-returns-10 t c = (search (tried-answer, tried-again, needs), search (tried-total, needs))
+
 pub +by-class-spec : {M : Type 1} → statement M
 +by-class-spec = close μ-by-class λ t. by-class-lts.spec (by-class-claims t)
     (by-class-at t)
@@ -147,10 +190,15 @@ pub +by-class-spec : {M : Type 1} → statement M
     (by-class-enum-known-a-2 t)
     (by-class-enum-told-2 t)
     (by-class-by-class-requires-4 t)
-    (by-class-of-many-bytes-requires t)
+    (by-class-by-class-requires-5 t)
     (by-class-same-length-5 t)
     (by-class-same-length-6 t)
     (by-class-returns-3 t)
+    (by-class-of-many-bytes-requires t)
+    (by-class-enum-known-a-3 t)
+    (by-class-enum-told-3 t)
+    (by-class-by-class-requires-6 t)
+    (by-class-of-any-bytes-requires t)
     (by-class-same-length-7 t)
     (by-class-same-length-8 t)
     (by-class-returns-4 t)
@@ -163,3 +211,12 @@ pub +by-class-spec : {M : Type 1} → statement M
     (by-class-same-length-13 t)
     (by-class-same-length-14 t)
     (by-class-returns-7 t)
+    (by-class-same-length-15 t)
+    (by-class-same-length-16 t)
+    (by-class-returns-8 t)
+    (by-class-same-length-17 t)
+    (by-class-same-length-18 t)
+    (by-class-returns-9 t)
+    (by-class-same-length-19 t)
+    (by-class-same-length-20 t)
+    (by-class-returns-10 t)

@@ -1,7 +1,8 @@
--- `of_many_bytes` answers as the pass over the document says.
+-- `of_many_bytes` answers as the pass over the document says, if the log had room for all keys.
+use Rattle.reader.specs.Judged.{stopped-at}
+use Rattle.reader.specs.Filling.{attempt-same, attempt-stop-same}
+use Rattle.reader.specs.Lent.{passes-noted}
 use borrow.Author.Needs.{needs}
-use Rattle.reader.specs.Judged.{stopped-at, answer-stop-same, answer-same, stop-total}
-use Rattle.reader.specs.Lent.{passes}
 use Rattle.reader.proofs.of_many_bytes.Statement.{statement}
 use Rattle.reader.proofs.of_many_bytes.Tie as tie
 
@@ -20,8 +21,8 @@ blame-requires c κs = (search needs, search (stopped-at, needs))
 enum-known-c : tie.Need-enum-known-c
 enum-known-c c = search needs
 
-slice-aggregate-filled : tie.Need-slice-aggregate-filled
-slice-aggregate-filled c = search needs
+slice-aggregate-noted : tie.Need-slice-aggregate-noted
+slice-aggregate-noted c = search needs
 
 spot-requires : tie.Need-spot-requires
 spot-requires c κs = search needs
@@ -29,8 +30,8 @@ spot-requires c κs = search needs
 tally-requires : tie.Need-tally-requires
 tally-requires c κs = search needs
 
-filled-requires : tie.Need-filled-requires
-filled-requires c κs = search (passes, needs)
+noted-requires : tie.Need-noted-requires
+noted-requires c κs = search (passes-noted, needs)
 
 same-length : tie.Need-same-length
 same-length c = search needs
@@ -39,7 +40,7 @@ same-length-2 : tie.Need-same-length-2
 same-length-2 c = search needs
 
 returns : tie.Need-returns
-returns c = (search (answer-stop-same, needs), search (stop-total, needs))
+returns c = search (attempt-stop-same, needs)
 
 same-length-3 : tie.Need-same-length-3
 same-length-3 c = search needs
@@ -48,7 +49,7 @@ same-length-4 : tie.Need-same-length-4
 same-length-4 c = search needs
 
 returns-2 : tie.Need-returns-2
-returns-2 c = (search (answer-same, needs), search needs)
+returns-2 c = search (attempt-same, needs)
 
 pub of-many-bytes-spec : {M : Type 1} → statement M
 of-many-bytes-spec =
@@ -59,10 +60,10 @@ of-many-bytes-spec =
     enum-known-p
     blame-requires
     enum-known-c
-    slice-aggregate-filled
+    slice-aggregate-noted
     spot-requires
     tally-requires
-    filled-requires
+    noted-requires
     same-length
     same-length-2
     returns

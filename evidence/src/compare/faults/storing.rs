@@ -7,7 +7,7 @@ use super::overlaying::Fill;
 use crate::compare::storing::Stores;
 use crate::second::questions::Lent;
 use crate::second::sound::{used, Test};
-use crate::second::stored::{fill, head, put, store, stored, stored_so, Head, Loaded, Told, WIDE, WIDEST};
+use crate::second::stored::{fill, head, put, store, stored, stored_so, Head, Loaded, Told, Ways, WAYS, WIDEST};
 use crate::second::{TEXT, WORDS};
 use loading::{loaded_by, Rules, ANSWERS, RESULTS, RULES, TAKING, TESTS};
 
@@ -78,24 +78,7 @@ const UNTESTED: [(&str, Test); 6] = [
 ];
 
 /// Other storings.
-const STORING: [(&str, Store); 14] = [
-    ("a content of 65,535 bytes is too wide", |lent, out| put(&stored_so(lent, None, WIDEST - 1, head), out)),
-    ("a content of 65,536 bytes is not", |lent, out| put(&stored_so(lent, None, WIDEST + 1, head), out)),
-    ("no content is too wide", |lent, out| put(&stored_so(lent, None, usize::MAX, head), out)),
-    ("TEXT comes before WIDE", |lent, out| match store(lent, out) {
-        (WIDE, _) if out.len() <= WIDEST => (TEXT, WIDEST + 4),
-        said => said,
-    }),
-    ("WIDE comes before BADROW", |lent, out| {
-        match (store(lent, out), stored_so(lent, Some(Test::MinusZero), WIDEST, head)) {
-            (_, Err(WIDE)) => (WIDE, 0),
-            (said, _) => said,
-        }
-    }),
-    ("WIDE has a place", |lent, out| match store(lent, out) {
-        (WIDE, _) => (WIDE, WIDEST + 1),
-        said => said,
-    }),
+const STORING: [(&str, Store); 8] = [
     ("the bytes needed are one too few", |lent, out| match store(lent, out) {
         (TEXT, bytes) => (TEXT, bytes - 1),
         said => said,
@@ -141,14 +124,25 @@ const STORING: [(&str, Store); 14] = [
     }),
 ];
 
+/// Contents cut in other ways.
+const CUTTING: [(&str, Ways); 6] = [
+    ("a part is cut where just 65,535 bytes remain", Ways { most: WIDEST - 1, ..WAYS }),
+    ("65,536 bytes are not cut", Ways { most: WIDEST + 1, ..WAYS }),
+    ("parts have 65,534 bytes", Ways { part: WIDEST - 1, ..WAYS }),
+    ("no content is cut", Ways { most: usize::MAX, ..WAYS }),
+    ("parts have the tag 12", Ways { head: |tag, length| head(if tag == 11 { 12 } else { tag }, length), ..WAYS }),
+    ("parts tell no length", Ways { head: |tag, length| head(tag, if tag == 11 { 0 } else { length }), ..WAYS }),
+];
+
 /// All of them.
 pub fn faults() -> Vec<(&'static str, Box<dyn Stores>)> {
-    let heads = HEADS.iter().map(|&(name, head)| {
-        let store = move |lent: &Lent, out: &mut [u8]| put(&stored_so(lent, None, WIDEST, head), out);
+    let heads = HEADS.iter().map(|&(name, head)| (name, Ways { head, ..WAYS }));
+    let heads = heads.chain(CUTTING).map(|(name, ways)| {
+        let store = move |lent: &Lent, out: &mut [u8]| put(&stored_so(lent, None, &ways), out);
         (name, Faulty { store: Box::new(store), ..good() })
     });
     let untested = UNTESTED.iter().map(|&(name, test)| {
-        let store = move |lent: &Lent, out: &mut [u8]| put(&stored_so(lent, Some(test), WIDEST, head), out);
+        let store = move |lent: &Lent, out: &mut [u8]| put(&stored_so(lent, Some(test), &WAYS), out);
         (name, Faulty { store: Box::new(store), ..good() })
     });
     let storing = STORING.iter().map(|&(name, store)| (name, Faulty { store: Box::new(store), ..good() }));

@@ -7,7 +7,7 @@ impl Grower<'_> {
     /// An object whose first key begins here.
     pub(super) fn object(&mut self, parent: usize, column: usize, nesting: usize) -> usize {
         let row = self.open(9, parent);
-        let mut keys = Keys::new();
+        let mut keys = Keys::default();
         let mut count = 0;
         loop {
             self.key(row, &mut keys);

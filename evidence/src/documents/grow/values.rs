@@ -74,7 +74,7 @@ impl Grower<'_> {
 
     fn inline_object(&mut self, parent: usize, nesting: usize) -> usize {
         let row = self.open(9, parent);
-        let mut keys = Keys::new();
+        let mut keys = Keys::default();
         self.write("{");
         let mut count = 0;
         while count < 40 && !self.rng.once_in(4) {

@@ -4,10 +4,11 @@ use super::at::At;
 use super::filled::NAMES;
 use super::table::TABLE;
 use crate::document::Document;
+use crate::limits::LONGEST;
 use crate::shown::quoted;
 
 const CASES: &[(&[u8], &str)] = &[
-    (&[b' '; 32_769], "there are more than 32768 bytes, the most that a document has"),
+    (&[b' '; LONGEST + 1], "there are more than 1048576 bytes, the most that a document has"),
     (&[b'['; 33], "here a container would stand inside 32 others, the most there may be"),
     (b"b: 0\na: 1\nb: {a: 3}\n\"\\u{61}\": 2\n", "the key \"b\" stands in its object already, at 1:1"),
     (b"\"\xc2\x85\"\n", "U+0085 is valid UTF-8, but not allowed in a document; in double quotes write \\u{85}"),

@@ -3,7 +3,7 @@ use mathlib.Core.Path.{_≡_, refl}
 use native.Mathlib.Omega.{arith}
 use Prim.Native.Nat.{_*_, _+_, _-_}
 use lib.ListN.{length}
-use Rattle.judge.proofs.NotingBlocks.{Noticed, block-done-notes, behind-noting, property-noting, member-noting, block-noting, item-noting, nested-noting}
+use Rattle.judge.proofs.NotingBlocks.{property-key, Noticed, block-done-notes, behind-noting, property-noting, member-noting, block-noting, item-noting, nested-noting}
 use Rattle.judge.proofs.Colons.{key-inside, property-ready, behind-colon, property-laws}
 use Rattle.judge.proofs.Containers.{block-inside, block-encloses, block-done, bullet-encloses, member-laws, block-laws, bullet-laws, item-laws, nested-laws}
 use borrow.Author.Needs.{needs}
@@ -565,7 +565,7 @@ property-enum-known-m : (t : ℕ) → property-lts.Need-enum-known-m (property-c
 property-enum-known-m t c = search property-laws
 
 property-note-requires : (t : ℕ) → property-lts.Need-note-requires (property-claims t) (property-at t) property.Post
-property-note-requires t c κs = search needs
+property-note-requires t c κs = search (property-key, needs)
 
 property-behind-requires : (t : ℕ) → property-lts.Need-behind-requires (property-claims t) (property-at t) property.Post
 property-behind-requires t c κs = (search needs, (property-ready _ _ _ _ _ _ _ _ (c .before .before .before .before .before .before .before .before .before .before .before .before .before .before .before .before .before .before .key-row .ensures) _ _ (c .before .before .before .before .before .before .before .before .before .before .before .before .n .given .1) (c .before .before .before .before .before .before .before .before .before .before .take .ensures) _ (c .before .before .before .before .before .before .before .before .m .given .1) (c .before .before .before .before .before .before .before .before .before .before .before .before .before .before .before .before .before .before .before .before .before .before .before .before .before .pre .1 .0), c .before .before .before .before .before .before .before .before .before .before .before .before .before .before .before .before .before .before .before .before .before .before .before .before .before .pre .1 .1))

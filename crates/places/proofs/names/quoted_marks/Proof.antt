@@ -1,6 +1,6 @@
 -- `quoted_marks` gives the mark of a text, and the number that picks its chain. The loop's invariant: they are those of the bytes passed.
 use Rattle.places.specs.Names.{Marking, marking}
-use Rattle.places.specs.Spelling.{weight}
+use Rattle.spelt.specs.Spelling.{weight}
 use Rattle.places.proofs.names.quoted_marks.Statement.{statement}
 use Rattle.places.proofs.names.quoted_marks.Tie as tie
 

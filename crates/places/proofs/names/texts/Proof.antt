@@ -1,6 +1,6 @@
 -- `texts` tells how two texts stand to each other. The loop's invariant: they agree so far.
 use Rattle.places.specs.Names.{Agree, agreeing}
-use Rattle.places.specs.Spelling.{weight}
+use Rattle.spelt.specs.Spelling.{weight}
 use Rattle.places.proofs.names.texts.Statement.{statement}
 use Rattle.places.proofs.names.texts.Tie as tie
 

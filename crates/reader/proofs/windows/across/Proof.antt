@@ -2,12 +2,12 @@
 use mathlib.Core.Path.{_≡_}
 use Prim.Native.Nat.{_-_}
 use lib.ListN.{length}
-use Rattle.reader.specs.Windows.{Crossing, crossing}
+use Rattle.reader.specs.Windows.{listOf, Crossing, crossing}
 use Rattle.reader.proofs.windows.across.Statement.{statement}
 use Rattle.reader.proofs.windows.across.Tie as tie
 
 abbrev Inv-loop : tie.InvT-loop
-Inv-loop doc keys₀ j best₀ i₀ keys best i = Crossing doc keys j i best × (length keys ≡ length keys₀)
+Inv-loop doc keys₀ j best₀ i₀ keys best i = Crossing doc (listOf doc keys₀) keys j i best × (length keys ≡ length keys₀)
 
 abbrev μ-loop : tie.MeasureT-loop
 μ-loop doc keys₀ j best₀ i₀ keys best i = j - i

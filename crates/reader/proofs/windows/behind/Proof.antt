@@ -3,16 +3,19 @@ use mathlib.Core.Path.{_≡_}
 use Prim.Native.Nat.{_-_}
 use lib.ListN.{length}
 use Rattle.language.specs.Answered.{limit}
-use Rattle.reader.specs.Windows.{Sweeping, behind-on, going}
+use Rattle.reader.specs.Windows.{listOf, Sweeping, behind-on, going}
 use borrow.Author.Needs.{needs}
 use Rattle.reader.proofs.windows.behind.Statement.{statement}
 use Rattle.reader.proofs.windows.behind.Tie as tie
 
 abbrev Inv-loop : tie.InvT-loop
-Inv-loop doc keys₀ j₀ keys j = Sweeping doc keys j × (length keys ≡ length keys₀)
+Inv-loop doc keys₀ j₀ keys j = Sweeping doc (listOf doc keys₀) keys j × (length keys ≡ length keys₀)
 
 abbrev μ-loop : tie.MeasureT-loop
 μ-loop doc keys₀ j₀ keys j = limit - j
+
+mul-j : tie.Need-mul-j Inv-loop μ-loop
+mul-j c = search going
 
 loop-holds : tie.Need-loop-holds Inv-loop μ-loop
 loop-holds c = search going
@@ -43,7 +46,7 @@ loop-less c = search going
 
 loop-again : tie.Need-loop-again Inv-loop μ-loop
 loop-again c =
-    let on = behind-on _ _ _ _ ((c .before .before .before .before .before .before .across) .ensures) in
+    let on = behind-on _ _ _ _ ((c .before .before .before .before .before .before .before .before .loop) .inv .0) _ _ ((c .before .before .before .before .before .before .across) .ensures) in
     (search (on, needs), search needs)
 
 pub behind-spec : {M : Type 1} → statement M
@@ -52,6 +55,7 @@ behind-spec =
     (tie.spec
     Inv-loop
     μ-loop
+    mul-j
     loop-holds
     across-requires
     same-length

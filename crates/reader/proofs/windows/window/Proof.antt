@@ -1,5 +1,6 @@
 -- `window` tells the first repeated key of two halves of the log. Assumes nothing.
 use Rattle.reader.specs.Windows.{asking}
+use borrow.Author.Needs.{needs}
 use Rattle.reader.proofs.windows.window.Statement.{statement}
 use Rattle.reader.proofs.windows.window.Tie as tie
 
@@ -20,6 +21,12 @@ slice-aggregate-check-2 c = search asking
 
 check-requires : tie.Need-check-requires
 check-requires c κs = search asking
+
+slice-reshare-prefix-first-again : tie.Need-slice-reshare-prefix-first-again
+slice-reshare-prefix-first-again c = search asking
+
+slice-aggregate-first-again : tie.Need-slice-aggregate-first-again
+slice-aggregate-first-again c = search asking
 
 first-again-requires : tie.Need-first-again-requires
 first-again-requires c κs = search asking
@@ -52,6 +59,8 @@ window-spec =
     slice-aggregate-check
     slice-aggregate-check-2
     check-requires
+    slice-reshare-prefix-first-again
+    slice-aggregate-first-again
     first-again-requires
     enum-known-p
     enum-told

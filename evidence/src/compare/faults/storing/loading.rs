@@ -2,7 +2,7 @@
 
 use super::Spoil;
 use crate::second::sound::{used, Test};
-use crate::second::stored::{head, lent, load, stored_so, taken, Loaded, Told, BADFORM, WIDEST};
+use crate::second::stored::{lent, load, stored_so, taken, Loaded, Told, Ways, BADFORM, WAYS, WIDEST};
 use crate::second::{ROWS, WORDS};
 
 /// By which bytes are loaded.
@@ -16,14 +16,19 @@ pub struct Rules {
     pub refused: fn(&Loaded) -> bool,
     /// Whether the table must be stored as the same bytes, or only be sound.
     pub same: bool,
+    /// Other ways in which contents may be cut.
+    pub ways: Option<Ways>,
 }
 
-pub const RULES: Rules = Rules { but: None, taken, refused: |_| false, same: true };
+pub const RULES: Rules = Rules { but: None, taken, refused: |_| false, same: true, ways: None };
 
 pub fn loaded_by(rules: &Rules, bytes: &[u8]) -> Result<Loaded, u32> {
     let loaded = (rules.taken)(bytes).ok_or(BADFORM)?;
     let is_form = match rules.same {
-        true => stored_so(&lent(&loaded), rules.but, WIDEST, head).is_ok_and(|form| form == bytes),
+        true => [Some(WAYS), rules.ways].into_iter().flatten().any(|ways| {
+            let form = stored_so(&lent(&loaded), rules.but, &ways);
+            form.is_ok_and(|form| form == bytes)
+        }),
         false => used(&lent(&loaded), rules.but).is_some(),
     };
     if is_form && !(rules.refused)(&loaded) {
@@ -94,9 +99,9 @@ fn deepest(loaded: &Loaded) -> usize {
 }
 
 /// Heads that are taken otherwise.
-pub const TAKING: [(&str, Rules); 8] = [
+pub const TAKING: [(&str, Rules); 11] = [
     ("null, false and true may have a content", Rules { same: false, ..RULES }),
-    ("bytes behind the field are passed over", Rules { taken: first, same: false, refused: |_| false, but: None }),
+    ("bytes behind the field are passed over", Rules { taken: first, same: false, ..RULES }),
     (
         "no bytes are loaded as null",
         Rules { taken: |bytes| if bytes.is_empty() { taken(b"\x01\0\0") } else { taken(bytes) }, same: false, ..RULES },
@@ -105,6 +110,9 @@ pub const TAKING: [(&str, Rules); 8] = [
     ("the low byte comes first", Rules { taken: |bytes| taken(&turned(bytes)?), same: false, ..RULES }),
     ("tag 11 is a key", Rules { taken: |bytes| taken(&tagged(bytes, 11, 10)), same: false, ..RULES }),
     ("tag 0 is null", Rules { taken: |bytes| taken(&tagged(bytes, 0, 1)), same: false, ..RULES }),
+    ("parts of 65,534 bytes are taken", Rules { ways: Some(Ways { part: WIDEST - 1, ..WAYS }), ..RULES }),
+    ("an empty end behind a part is taken", Rules { ways: Some(Ways { most: WIDEST - 1, ..WAYS }), ..RULES }),
+    ("a root in parts is not taken", Rules { taken: |bytes| taken(bytes).filter(|_| bytes[0] != 11), ..RULES }),
     ("a string may stand for a key", Rules { taken: keyed, same: false, ..RULES }),
 ];
 
@@ -167,11 +175,41 @@ fn each_row(loaded: &mut Loaded, spoil: impl FnMut(&mut [u32])) {
     loaded.words.chunks_mut(WORDS).for_each(spoil);
 }
 
+/// Each row but the root with where a span before it ends, or its parent's first head does, and where the one behind it
+/// begins, or its parent's span ends.
+fn siblings(loaded: &mut Loaded, spoil: impl Fn(u32, &mut [u32], u32)) {
+    let old = loaded.words.clone();
+    let row = |i: usize| &old[i * WORDS..][..WORDS];
+    for i in 1..old.len() / WORDS {
+        let parent = row(i)[5] as usize;
+        let (next, last) = (row(i)[6] as usize, row(parent)[6] as usize);
+        let before = (parent + 1..i).rev().find(|j| row(*j)[5] as usize == parent && row(*j)[6] as usize == i);
+        let before = before.map_or(row(parent)[1] + 3, |j| row(j)[2]);
+        let behind = if next < last { row(next)[1] } else { row(parent)[2] };
+        spoil(before, &mut loaded.words[i * WORDS..][..WORDS], behind);
+    }
+}
+
 /// Other rows.
-pub const RESULTS: [(&str, Spoil); 12] = [
+pub const RESULTS: [(&str, Spoil); 16] = [
     ("spans begin at the content", |loaded| each_row(loaded, |row| row[1] += 3)),
     ("spans end before the content", |loaded| each_row(loaded, |row| row[2] = row[1] + 3)),
     ("spans are zero", |loaded| each_row(loaded, |row| (row[1], row[2]) = (0, 0))),
+    ("a cut just before a field counts in its span", |loaded| siblings(loaded, |before, row, _| row[1] = before)),
+    ("a cut just behind a field counts in its span", |loaded| siblings(loaded, |_, row, behind| row[2] = behind)),
+    ("cuts inside a field don't count in its span", |loaded| {
+        let text = |row: &[u32]| if matches!(row[0], 4..=7 | 10) { row[4] - row[3] } else { 0 };
+        each_row(loaded, |row| {
+            let (content, parts) = (text(row), text(row).saturating_sub(1) / WIDEST as u32);
+            if row[0] < 8 || row[0] == 10 {
+                row[2] = row[1] + content + 3 * (parts + 1);
+            }
+        })
+    }),
+    ("spans are places in the content of the root", |loaded| {
+        let of_root = |place: u32| place - place / (WIDEST as u32 + 3) * 3;
+        each_row(loaded, |row| (row[1], row[2]) = (of_root(row[1]), of_root(row[2])))
+    }),
     ("the root's span has no head", |loaded| loaded.words[2] -= 3),
     ("rows have the line 1", |loaded| each_row(loaded, |row| row[7] = 1)),
     ("rows have a column", |loaded| each_row(loaded, |row| row[8] = row[1] + 1)),

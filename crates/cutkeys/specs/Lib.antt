@@ -1,0 +1,13 @@
+pub mod Places
+pub mod Kept
+pub mod Alone
+pub mod Keys
+pub mod Whole
+pub mod Runs
+pub mod Near
+pub mod Found
+pub mod CutsEnds
+pub mod CutsSame
+pub mod CutsPast
+pub mod CutsSought
+pub mod Apart

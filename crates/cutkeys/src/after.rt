@@ -1,0 +1,85 @@
+// The keys behind a window, each sought in it: whether one has the text of one of the n.
+ghost use Rattle.distinct.specs.Chains.{InChains};
+ghost use Rattle.distinct.specs.Ranks.{InOrder};
+ghost use Rattle.distinct.specs.Window.{TouchedLooked, TouchedTold};
+ghost use Rattle.distinct.specs.Windows.{Open};
+ghost use Rattle.cutkeys.specs.Whole.{wholeKeys};
+use super::keys::seek;
+use distinct::Sought;
+use distinct::Standing;
+use distinct::in_chains;
+use distinct::in_order;
+use repeats::Walk;
+use views::LEVELS;
+
+// In their chains.
+pub fn chained_behind(
+    stored: &[u8],
+    starts: &[u32; LEVELS],
+    d: usize,
+    froms: &[u32],
+    tos: &[u32],
+    heads: &[u16],
+    links: &[u16],
+    n: usize,
+    from: usize,
+    stop: usize,
+) -> Walk
+    requires { ⌜ InChains (now stored) (now froms) (now tos) (now heads) (now links) n × Open (wholeKeys (now stored) (now starts) d stop) from ⌝ }
+    ensures { λ w. ⌜ TouchedLooked (wholeKeys (now (stored .entry)) (now (starts .entry)) d stop) (now (stored .entry)) (now (froms .entry)) (now (tos .entry)) n from w ⌝ }
+{
+    let mut k = seek(&*stored, starts, d, from, stop, 0, 0);
+    while k.place < stop {
+        match in_chains(
+            &*stored,
+            &*froms,
+            &*tos,
+            &*heads,
+            &*links,
+            n,
+            &*stored,
+            k.from,
+            k.to,
+        ) {
+            Sought::At(_) => {
+                return Walk::Met;
+            }
+            Sought::Long => {
+                return Walk::Long;
+            }
+            Sought::Nowhere => {
+                k = seek(&*stored, starts, d, k.next, stop, k.spot, k.left);
+            }
+        }
+    }
+    Walk::Past
+}
+
+// In their order.
+pub fn ranked_behind(
+    stored: &[u8],
+    starts: &[u32; LEVELS],
+    d: usize,
+    froms: &[u32],
+    tos: &[u32],
+    order: &[u16],
+    n: usize,
+    from: usize,
+    stop: usize,
+) -> bool
+    requires { ⌜ InOrder (now stored) (now froms) (now tos) (now order) n × Open (wholeKeys (now stored) (now starts) d stop) from ⌝ }
+    ensures { λ b. ⌜ TouchedTold (wholeKeys (now (stored .entry)) (now (starts .entry)) d stop) (now (stored .entry)) (now (froms .entry)) (now (tos .entry)) n from b ⌝ }
+{
+    let mut k = seek(&*stored, starts, d, from, stop, 0, 0);
+    while k.place < stop {
+        match in_order(&*stored, &*froms, &*tos, &*order, n, &*stored, k.from, k.to) {
+            Standing::At(_) => {
+                return true;
+            }
+            Standing::Gap(_) => {
+                k = seek(&*stored, starts, d, k.next, stop, k.spot, k.left);
+            }
+        }
+    }
+    false
+}

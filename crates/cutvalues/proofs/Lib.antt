@@ -1,0 +1,4 @@
+-- What several proofs use.
+pub mod RunLaws
+pub mod CutLaws
+pub mod CycleLaws

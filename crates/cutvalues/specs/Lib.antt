@@ -1,0 +1,3 @@
+pub mod Bridge
+pub mod Runs
+pub mod Both

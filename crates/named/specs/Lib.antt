@@ -1,0 +1,4 @@
+pub mod Flat
+pub mod Lie
+pub mod Gives
+pub mod Every

@@ -1,0 +1,6 @@
+pub mod Texts
+pub mod Pieces
+pub mod Left
+pub mod Spelling
+pub mod Reading
+pub mod Hash

@@ -1,0 +1,4 @@
+pub mod Joined
+pub mod Views
+pub mod Extents
+pub mod Spans

@@ -1,0 +1,5 @@
+pub mod Tests
+pub mod Walk
+pub mod Cut
+pub mod Near
+pub mod Keys
