@@ -15,8 +15,9 @@ use Rattle.language.specs.Tree.{unlined, width, rowList}
 use Rattle.language.specs.Lent.{lent}
 use Rattle.views.specs.Views.{viewed, placeOf, Deeper}
 use Rattle.uncut.specs.Filling.{membersOf}
+use Rattle.wide.specs.Copies.{Copied}
 use Rattle.cutfill.specs.Placed.{places}
-use Rattle.cutfill.specs.Filling.{Rowed, Copied, FillCut, FillRoom, FillOne, FillLeaf, FillNode, Fills, Steps}
+use Rattle.cutfill.specs.Filling.{Rowed, FillCut, FillRoom, FillOne, FillLeaf, FillNode, Fills, Steps}
 use Rattle.cutfill.specs.Fields.{one-end, one-next, one-low, one-few, one-rowed, one-content, leaf-few, bare-steps, text-steps, inner-room, inner-few, node-steps}
 
 module _ (stored starts : List ℕ) (d at k n end r p x : ℕ) (h : FillOne stored starts d at k n end r p x) where

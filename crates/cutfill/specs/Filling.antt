@@ -14,7 +14,7 @@ use Rattle.shaped.specs.Beside.{beside, beside-size, beside-text}
 use Rattle.stored.specs.Form.{forms, form, placed, placeds, loaded}
 use Rattle.stored.specs.Bytes.{At}
 use Rattle.fields.specs.Puts.{Puts, puts-none, puts-as, puts-then}
-use Rattle.views.specs.Views.{viewed, Seen, Content}
+use Rattle.views.specs.Views.{viewed, Seen}
 use Rattle.views.specs.Extents.{Whole}
 use Rattle.uncut.specs.Filling as uncut
 use Rattle.uncut.specs.Filling.{trees}
@@ -35,11 +35,6 @@ pub record Rowed (starts : List ℕ) (d at end r tag parent from to next : ℕ) 
   pub from-fits : from < ample
   pub to-fits : to < ample
   pub next-fits : next < ample
-
--- of a text: a content of n bytes has room
-pub record Copied (stored starts : List ℕ) (d n x w : ℕ) : Type 0 where
-  pub content-of : Content stored starts d n
-  pub room : x + n ≤ w
 
 -- of fields that stand whole in a run, n bytes from p on
 pub record Passes (stored : List ℕ) (p n at w r parent x : ℕ) : Type 0 where

@@ -10,6 +10,7 @@ use Rattle.language.specs.Answered.{deepest}
 use Rattle.language.specs.Lent.{lent}
 use Rattle.shaped.specs.Beside.{beside, beside-size, beside-text}
 use Rattle.stored.specs.Form.{widest, tag, content, forms, form, placed, placeds}
+use Rattle.stored.specs.Parts.{widest-is}
 use Rattle.stored.specs.Lengths.{forms-length, form-longer, few-rows, few-text}
 use Rattle.stored.specs.Old as old
 use Rattle.stored.specs.Bytes.{At, at-left, at-right, at-as, at-place, at-slice}
@@ -24,10 +25,6 @@ use Rattle.cutfill.specs.Placed.{places, places-are, places-file, beside
 use Rattle.cutfill.specs.Wholes.{chain-inside, Run, Split, chain-split, slice-front, alone-form}
 use Rattle.cutfill.specs.Trees.{Deeps, deeps-none, deeps-more, deep-value, deep-true, front-kept, rest-deep, trees-few}
 use Rattle.cutfill.specs.Filling.{Passes, FillCut, FillRoom, FillRoot, Fills, Passed, Steps, FilledRooms, fills-none, fills-both}
-
-widest-is : widest ≡ 65535
-unfolding widest
-widest-is = refl
 
 beside-long : (ts us : Forest) → length (forms (beside ts us)) ≡ length (forms ts) + length (forms us)
 beside-long ts us = ap length (beside-forms ts us) ∙ length-append (forms ts) (forms us)

@@ -11,17 +11,13 @@ use Rattle.exact.specs.Tells.{Tells, tells-yes}
 use Rattle.language.specs.Tree.{Tree, Forest, none, more}
 use Rattle.shaped.specs.Beside.{beside}
 use Rattle.stored.specs.Form.{tagged, head, widest, PART, tag, cut, content, forms, form}
-use Rattle.stored.specs.Parts.{cut-short, cut-long}
+use Rattle.stored.specs.Parts.{widest-is, cut-short, cut-long}
 use Rattle.stored.specs.Bytes.{At, at-left, at-right, at-byte, at-as}
 use Rattle.uncut.specs.Short.{longest}
 use Rattle.uncut.specs.Heads.{endAt, end-after, Behind, Lies, Whole}
 use Rattle.wide.specs.Walk.{beside-forms}
 use Rattle.wide.specs.Near.{Nearby}
 use Rattle.cutfill.specs.Placed.{beside-all}
-
-widest-is : widest ≡ 65535
-unfolding widest
-widest-is = refl
 
 -- a place that heads lead to, one behind another from the beginning on
 pub data Chain (s : List ℕ) : ℕ → Type 0 where

@@ -1,19 +1,18 @@
 // The rooms are filled from a content that is cut: fields that stand whole in a run are filled as those of a short file, the others by views of what is inside them.
 ghost use mathlib.Core.Path.{_≡_};
 ghost use Prim.Native.Nat.{_+_, _-_, _*_, _≤_, _<_};
-ghost use lib.ListN.{length, take};
+ghost use lib.ListN.{length};
 ghost use lib.Seq.{sets};
 ghost use Rattle.exact.specs.Tells.{Tells};
 ghost use Rattle.language.specs.Tree.{width, unlined, rowList};
-ghost use Rattle.views.specs.Views.{viewed, placeOf};
+ghost use Rattle.views.specs.Views.{placeOf};
 ghost use Rattle.views.specs.Spans.{Lies};
 ghost use Rattle.uncut.specs.Short.{longest};
 ghost use Rattle.uncut.specs.Filling.{membersOf};
 ghost use Rattle.cutfill.specs.Wholes.{Chain, Run};
 ghost use Rattle.cutfill.specs.Trees.{Container};
-ghost use Rattle.cutfill.specs.Filling.{Rowed, Copied, Passes, FillCut, FillRoom, FillOne, FillLeaf, FillNode, FillRoot, Fills, Passed, Steps, FilledRooms};
+ghost use Rattle.cutfill.specs.Filling.{Rowed, Passes, FillCut, FillRoom, FillOne, FillLeaf, FillNode, FillRoot, Fills, Passed, Steps, FilledRooms};
 ghost use Rattle.cutfill.specs.Placed.{places};
-use fields::part;
 use language::Kind;
 use rooms::put_row;
 use rooms::row_of;
@@ -25,8 +24,8 @@ use views::Span;
 use views::deeper;
 use views::extent;
 use views::place;
-use views::run;
 use wide::near;
+use wide::text_of;
 
 // Where filling has come to: the place of the content, the row and the text byte behind what is filled, and how many fields that are. Rows are told the row of their parent, `up`.
 pub struct Came {
@@ -63,20 +62,6 @@ fn row_at(
         next,
     );
     put_row(table, r, w);
-}
-
-// The bytes of a content of n, stored from x on.
-fn text_of(stored: &[u8], starts: &[u32; LEVELS], d: usize, n: usize, text: &mut [u8], x: usize)
-    requires { ⌜ Copied (now stored) (now starts) d n x (length (now text)) ⌝ }
-    ensures { λ _. ⌜ now (text .exit) ≡ sets (now (text .entry)) x (take n (viewed (now (stored .entry)) (now (starts .entry)) d)) ⌝ }
-{
-    let mut i = 0;
-    while i < n {
-        let r = run(starts, d, i, n - i);
-        let p = r.place;
-        part(&*stored, p, p + r.left, text, x + i);
-        i += r.left;
-    }
 }
 
 // The place behind the fields that stand whole in a run, from its beginning on.

@@ -80,11 +80,11 @@ module _ (stored starts : List ℕ) (d stop : ℕ) where
       found-less o = open-less D (k .place) o l (q .place) found-next
 
     -- sought in a window
-    module _ (froms tos : List ℕ) (n : ℕ) where
-      pub found-sits : (r : Sought) → SitsTold stored froms tos n (slice (k .from) (k .to) stored) r → SitsTold stored froms tos n (textAt (viewed stored starts d) (k .place)) r
+    module _ (text froms tos : List ℕ) (n : ℕ) where
+      pub found-sits : (r : Sought) → SitsTold text froms tos n (slice (k .from) (k .to) stored) r → SitsTold text froms tos n (textAt (viewed stored starts d) (k .place)) r
       found-sits r t = rw found-text t
 
-      pub found-finds : (order : List ℕ) (r : Standing) → Finds stored froms tos order n (slice (k .from) (k .to) stored) r → Finds stored froms tos order n (textAt (viewed stored starts d) (k .place)) r
+      pub found-finds : (order : List ℕ) (r : Standing) → Finds text froms tos order n (slice (k .from) (k .to) stored) r → Finds text froms tos order n (textAt (viewed stored starts d) (k .place)) r
       found-finds order r t = rw found-text t
 
 pub ruleset finding = (run-none, found-run, start-open, start-going, start-gathering, start-entering, found-part, found-from, found-to, found-text, found-open, found-next, found-less, found-sits, found-finds, needs)

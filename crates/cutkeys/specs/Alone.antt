@@ -28,11 +28,11 @@ module _ (text : ℕ → List ℕ) where
   other-among (other-here n e) = among-here e
   other-among (other-later x) = among-later (other-among x)
 
-  in-among : {p : ℕ} {s : List ℕ} {rs : List ℕ} → In p rs → s ≡ text p → Among text s rs
+  pub in-among : {p : ℕ} {s : List ℕ} {rs : List ℕ} → In p rs → s ≡ text p → Among text s rs
   in-among in-here e = among-here e
   in-among (in-later x) e = among-later (in-among x e)
 
-  among-in : {s : List ℕ} {rs : List ℕ} → Among text s rs → (q : ℕ) × In q rs × (s ≡ text q)
+  pub among-in : {s : List ℕ} {rs : List ℕ} → Among text s rs → (q : ℕ) × In q rs × (s ≡ text q)
   among-in (among-here {q = q} e) = (q, in-here, e)
   among-in (among-later x) = let z = among-in x in (z .0, in-later (z .1), z .2)
 
@@ -43,7 +43,7 @@ module _ (text : ℕ → List ℕ) where
   apart-lone (apart-more n x) (in-later i) (other-later o) = apart-lone x i o
 
   module _ (f : ℕ → Bool) where
-    among-kept : {s : List ℕ} (rs : List ℕ) → Among text s (kept f rs) → Among text s rs
+    pub among-kept : {s : List ℕ} (rs : List ℕ) → Among text s (kept f rs) → Among text s rs
     unfolding kept
     among-kept [] x = x
     among-kept {s} (r ∷ rs) x = by (f r) (λ y. among-kept rs y) x
@@ -62,7 +62,7 @@ module _ (text : ℕ → List ℕ) where
         by true y = apart-more (λ z. n (among-kept rs z)) y
         by false y = y
 
-    in-kept : {q : ℕ} {rs : List ℕ} → In q rs → f q ≡ true → In q (kept f rs)
+    pub in-kept : {q : ℕ} {rs : List ℕ} → In q rs → f q ≡ true → In q (kept f rs)
     unfolding kept
     in-kept {q} (in-here {rs = rs}) e = rw e in-here
     in-kept {q} (in-later {q = r} {rs = rs} i) e = by (f r) (in-kept i e)
@@ -72,11 +72,11 @@ module _ (text : ℕ → List ℕ) where
         by false y = y
 
 module _ (D : Road) where
-  above : {p q : ℕ} {rs : List ℕ} → Walks D p rs → In q rs → p ≤ q
+  pub above : {p q : ℕ} {rs : List ℕ} → Walks D p rs → In q rs → p ≤ q
   above (walks-on g w) in-here = omega arith
   above (walks-on {r = r} g w) (in-later i) = let l = above w i in omega (arith, D .onward r g)
 
-  among-other : {p r : ℕ} {s : List ℕ} {rs : List ℕ} → Walks D p rs → r < p → Among (D .text) s rs → Other (D .text) r s rs
+  pub among-other : {p r : ℕ} {s : List ℕ} {rs : List ℕ} → Walks D p rs → r < p → Among (D .text) s rs → Other (D .text) r s rs
   among-other {r = r} (walks-on {r = q} g w) l (among-here e) = other-here (λ (z : q ≡ r). omega arith) e
   among-other (walks-on {r = q} g w) l (among-later x) = other-later (among-other w (omega (arith, D .onward q g)) x)
 
@@ -84,7 +84,7 @@ module _ (D : Road) where
   over walks-end l = refl
   over (walks-on {r = r} g w) l = absurd (omega (arith, D .onward r g, D .below r g))
 
-  walks-same : {p : ℕ} {rs us : List ℕ} → Walks D p rs → Walks D p us → rs ≡ us
+  pub walks-same : {p : ℕ} {rs us : List ℕ} → Walks D p rs → Walks D p us → rs ≡ us
   walks-same walks-end u = sym (over u (omega arith))
   walks-same (walks-on {r = r} g w) u =
       let z = walks-next D u (omega (arith, D .onward r g, D .below r g)) in

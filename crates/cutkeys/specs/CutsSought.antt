@@ -1,5 +1,5 @@
--- THE KEYS THAT ARE CUT, each sought among all others (`Asks`): each is alone, or one is not. Assumes nothing.
-use mathlib.Core.Path.{_≡_, refl, sym, subst, _∙_}
+-- A KEY THAT IS CUT, sought among all others (`Asks`): whether another one has its text (`Meets`). Assumes nothing.
+use mathlib.Core.Path.{_≡_, refl, subst}
 use mathlib.Core.List.{List}
 use mathlib.Core.Bool.{Bool, true, false}
 use Prim.Native.Nat.{ℕ, _+_, _-_, _≤_, _<_}
@@ -7,19 +7,18 @@ use native.Mathlib.Omega.{arith}
 use lib.ListN.{length, take}
 use borrow.Author.Needs.{needs}
 use Rattle.exact.specs.Tells.{Tells, tells-yes, tells-no, tells-map}
-use Rattle.exact.specs.Class.{clash}
 use Rattle.language.specs.Lent.{lent}
-use Rattle.distinct.specs.Roads.{Road, Walks, walks-le, comes-first, comes-both}
+use Rattle.distinct.specs.Roads.{Road, Walks, walks-le, comes-both}
 use Rattle.distinct.specs.Windows.{Open, Going, open-good, open-next, open-less}
 use Rattle.views.specs.Views.{viewed, Content, Deeper}
 use Rattle.cutkeys.specs.declared.keys.Named.{Named}
 use Rattle.cutkeys.specs.declared.keys.Size.{Size}
 use Rattle.cutkeys.specs.Places.{sizeOf, textAt, beyond}
 use Rattle.cutkeys.specs.Keys.{Framed, Keyed, allKeys}
-use Rattle.cutkeys.specs.Whole.{Names, wholeAt, whole-at}
+use Rattle.cutkeys.specs.Whole.{Names}
 use Rattle.cutkeys.specs.Runs.{run-none}
 use Rattle.cutkeys.specs.Found.{Sized, Fielded, key-field}
-use Rattle.cutkeys.specs.Alone.{Other, Alone, AloneTold, OtherTold, alone-over, alone-met, alone-on, other-over, other-met, other-on}
+use Rattle.cutkeys.specs.Alone.{Other, OtherTold, other-over, other-met, other-on}
 use Rattle.cutkeys.specs.CutsEnds.{Ends, Tail, tail-ends}
 use Rattle.cutkeys.specs.CutsSame.{own-content, own-text, own-deep, own-few}
 use Rattle.cutkeys.specs.CutsPast.{Skipped, SkipAsked}
@@ -145,43 +144,3 @@ module _ (stored starts : List ℕ) (d stop p : ℕ) (k : Keyed stored starts d 
     among-told b t = subst (λ (s : List ℕ). Meets stored starts d stop p s b) (own-text stored starts d stop p k r z a h) t
 
 pub ruleset amongs = (among-field, among-deep, among-few, among-content, among-asks, among-told, needs)
-
--- ---- each key that is cut
-
--- none of these that is cut has the text of another key
-abbrev pub CutAlone : List ℕ → List ℕ → ℕ → ℕ → List ℕ → Type 0
-CutAlone stored starts d stop = Alone (allKeys stored starts d stop) (wholeAt stored starts d) 0
-
-module _ (stored starts : List ℕ) (d stop : ℕ) where
-  abbrev E : Road
-  E = allKeys stored starts d stop
-
-  pub lone-first : Open E 0 → Going E (CutAlone stored starts d stop) 0 0
-  lone-first k = record { keys = k; comes = comes-first E }
-
-  module _ (p : ℕ) (w : Going E (CutAlone stored starts d stop) 0 p) where
-    pub lone-over : stop ≤ p → AloneTold E (wholeAt stored starts d) 0 true
-    lone-over l = alone-over E (wholeAt stored starts d) 0 p w l
-
-    module _ (l : p < stop) where
-      pub lone-keyed : Keyed stored starts d stop p
-      lone-keyed = open-good E p (w .keys) l
-
-      module _ (k : Named) (z : Names starts d p (sizeOf (viewed stored starts d) p) (beyond (viewed stored starts d) p) k) where
-        whole-is : {b : Bool} → k .whole ≡ b → wholeAt stored starts d p ≡ b
-        whole-is e = whole-at stored starts d p ∙ (sym (z .whole) ∙ e)
-
-        pub lone-less : stop - k .next < stop - p
-        lone-less = open-less E p (w .keys) l (k .next) (z .next)
-
-        pub lone-whole : k .whole ≡ true → Going E (CutAlone stored starts d stop) 0 (k .next)
-        lone-whole e = alone-on E (wholeAt stored starts d) 0 p w l false (λ f. absurd (clash (whole-is e) f)) refl (k .next) (z .next)
-
-        module _ (e : k .whole ≡ false) (b : Bool) (t : OtherTold E 0 p b) where
-          pub lone-met : b ≡ true → AloneTold E (wholeAt stored starts d) 0 false
-          lone-met y = alone-met E (wholeAt stored starts d) 0 p w l true (whole-is e, subst (OtherTold E 0 p) y t) refl
-
-          pub lone-on : b ≡ false → Going E (CutAlone stored starts d stop) 0 (k .next)
-          lone-on y = alone-on E (wholeAt stored starts d) 0 p w l false (λ f. subst (OtherTold E 0 p) y t) refl (k .next) (z .next)
-
-pub ruleset lonely = (run-none, lone-first, lone-over, lone-keyed, lone-less, lone-whole, lone-met, lone-on, needs)

@@ -101,6 +101,9 @@ module _ (D : Road) (f : ℕ → Bool) where
     pub kept-open : Open keptRoad (firstOf p)
     kept-open = record { rows = kept f (k .rows); walks = walks-to (k .walks) }
 
+    pub first-le : p ≤ firstOf p
+    first-le = let b = in-bounds (k .walks) in let e = first-in (k .walks) in omega (arith, b .0)
+
     pub first-over : D .stop ≤ p → p ≡ firstOf p
     first-over l =
         let b = in-bounds (k .walks) in

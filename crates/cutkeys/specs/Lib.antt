@@ -10,4 +10,8 @@ pub mod CutsEnds
 pub mod CutsSame
 pub mod CutsPast
 pub mod CutsSought
+pub mod Spared
+pub mod Shorts
+pub mod Copies
+pub mod CutsWindow
 pub mod Apart

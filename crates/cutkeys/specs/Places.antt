@@ -10,14 +10,10 @@ use lib.Seq.{slice, take-at, length-take-le}
 use borrow.Author.Tests.{eq-eqb, ne-eqb}
 use Rattle.language.specs.Kind.{pick}
 use Rattle.stored.specs.Form.{tagged, head, widest, PART, cut}
-use Rattle.stored.specs.Parts.{Parts, end, part, parts, heads, heads-short, cut-short, cut-long, cut-length}
+use Rattle.stored.specs.Parts.{widest-is, Parts, end, part, parts, heads, heads-short, cut-short, cut-long, cut-length}
 use Rattle.stored.specs.Bytes.{At, at-left, at-right, at-byte, at-as, at-slice, at-inside}
 use Rattle.views.specs.Joined.{within, within-content}
 use Rattle.views.specs.Extents.{lengthOf, Whole}
-
-pub widest-is : widest ≡ 65535
-unfolding widest
-widest-is = refl
 
 -- the bytes in fields from a place on, up to the first that is no part's; the first number is how many there may be
 unfoldable pub sizes : List ℕ → ℕ → ℕ → ℕ

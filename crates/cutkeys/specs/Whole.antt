@@ -15,13 +15,13 @@ use Rattle.exact.specs.Class.{clash}
 use Rattle.language.specs.Lent.{lent}
 use Rattle.language.specs.Kind.{pick}
 use Rattle.stored.specs.Form.{tagged, head, widest, inside, cut}
-use Rattle.stored.specs.Parts.{cut-short, cut-length}
+use Rattle.stored.specs.Parts.{widest-is, cut-short, cut-length}
 use Rattle.stored.specs.Bytes.{At, at-as, at-right, at-slice}
 use Rattle.distinct.specs.Names.{Part}
 use Rattle.distinct.specs.Roads.{Road}
 use Rattle.views.specs.Views.{viewed, placeOf, view-place, view-less, Seen, Reached, run-slice}
 use Rattle.cutkeys.specs.declared.keys.Named.{Named}
-use Rattle.cutkeys.specs.Places.{widest-is, sizeOf, endOf, textAt, size-of, end-of, text-of}
+use Rattle.cutkeys.specs.Places.{sizeOf, endOf, textAt, size-of, end-of, text-of}
 use Rattle.cutkeys.specs.Keys.{Stands, Framed, Keyed, allKeys}
 use Rattle.cutkeys.specs.Kept.{keptRoad, firstOf}
 

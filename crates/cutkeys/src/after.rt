@@ -1,7 +1,10 @@
-// The keys behind a window, each sought in it: whether one has the text of one of the n.
+// Keys that stand whole, from a place on, each sought in a window of others: whether one has the text of one of the n there, which stand in `text`.
+ghost use Prim.Native.Nat.{_≤_};
+ghost use lib.ListN.{length};
+ghost use Rattle.distinct.specs.Names.{Held};
 ghost use Rattle.distinct.specs.Chains.{InChains};
 ghost use Rattle.distinct.specs.Ranks.{InOrder};
-ghost use Rattle.distinct.specs.Window.{TouchedLooked, TouchedTold};
+ghost use Rattle.distinct.specs.Window.{TouchedLooked, TouchedTold, ClashTold};
 ghost use Rattle.distinct.specs.Windows.{Open};
 ghost use Rattle.cutkeys.specs.Whole.{wholeKeys};
 use super::keys::seek;
@@ -9,6 +12,7 @@ use distinct::Sought;
 use distinct::Standing;
 use distinct::in_chains;
 use distinct::in_order;
+use distinct::ranked_all;
 use repeats::Walk;
 use views::LEVELS;
 
@@ -17,6 +21,7 @@ pub fn chained_behind(
     stored: &[u8],
     starts: &[u32; LEVELS],
     d: usize,
+    text: &[u8],
     froms: &[u32],
     tos: &[u32],
     heads: &[u16],
@@ -25,13 +30,13 @@ pub fn chained_behind(
     from: usize,
     stop: usize,
 ) -> Walk
-    requires { ⌜ InChains (now stored) (now froms) (now tos) (now heads) (now links) n × Open (wholeKeys (now stored) (now starts) d stop) from ⌝ }
-    ensures { λ w. ⌜ TouchedLooked (wholeKeys (now (stored .entry)) (now (starts .entry)) d stop) (now (stored .entry)) (now (froms .entry)) (now (tos .entry)) n from w ⌝ }
+    requires { ⌜ InChains (now text) (now froms) (now tos) (now heads) (now links) n × Open (wholeKeys (now stored) (now starts) d stop) from ⌝ }
+    ensures { λ w. ⌜ TouchedLooked (wholeKeys (now (stored .entry)) (now (starts .entry)) d stop) (now (text .entry)) (now (froms .entry)) (now (tos .entry)) n from w ⌝ }
 {
     let mut k = seek(&*stored, starts, d, from, stop, 0, 0);
     while k.place < stop {
         match in_chains(
-            &*stored,
+            &*text,
             &*froms,
             &*tos,
             &*heads,
@@ -41,12 +46,8 @@ pub fn chained_behind(
             k.from,
             k.to,
         ) {
-            Sought::At(_) => {
-                return Walk::Met;
-            }
-            Sought::Long => {
-                return Walk::Long;
-            }
+            Sought::At(_) => return Walk::Met,
+            Sought::Long => return Walk::Long,
             Sought::Nowhere => {
                 k = seek(&*stored, starts, d, k.next, stop, k.spot, k.left);
             }
@@ -60,6 +61,7 @@ pub fn ranked_behind(
     stored: &[u8],
     starts: &[u32; LEVELS],
     d: usize,
+    text: &[u8],
     froms: &[u32],
     tos: &[u32],
     order: &[u16],
@@ -67,12 +69,12 @@ pub fn ranked_behind(
     from: usize,
     stop: usize,
 ) -> bool
-    requires { ⌜ InOrder (now stored) (now froms) (now tos) (now order) n × Open (wholeKeys (now stored) (now starts) d stop) from ⌝ }
-    ensures { λ b. ⌜ TouchedTold (wholeKeys (now (stored .entry)) (now (starts .entry)) d stop) (now (stored .entry)) (now (froms .entry)) (now (tos .entry)) n from b ⌝ }
+    requires { ⌜ InOrder (now text) (now froms) (now tos) (now order) n × Open (wholeKeys (now stored) (now starts) d stop) from ⌝ }
+    ensures { λ b. ⌜ TouchedTold (wholeKeys (now (stored .entry)) (now (starts .entry)) d stop) (now (text .entry)) (now (froms .entry)) (now (tos .entry)) n from b ⌝ }
 {
     let mut k = seek(&*stored, starts, d, from, stop, 0, 0);
     while k.place < stop {
-        match in_order(&*stored, &*froms, &*tos, &*order, n, &*stored, k.from, k.to) {
+        match in_order(&*text, &*froms, &*tos, &*order, n, &*stored, k.from, k.to) {
             Standing::At(_) => {
                 return true;
             }
@@ -82,4 +84,37 @@ pub fn ranked_behind(
         }
     }
     false
+}
+
+// Whether two keys have one text, of which one is in the window, by the order of their texts.
+pub fn by_ranks(
+    stored: &[u8],
+    starts: &[u32; LEVELS],
+    d: usize,
+    text: &[u8],
+    froms: &[u32],
+    tos: &[u32],
+    order: &mut [u16],
+    n: usize,
+    next: usize,
+    stop: usize,
+) -> bool
+    requires { ⌜ Held (now text) (now froms) (now tos) n × (n ≤ length (now order)) × Open (wholeKeys (now stored) (now starts) d stop) next ⌝ }
+    ensures { λ b. ⌜ ClashTold (wholeKeys (now (stored .entry)) (now (starts .entry)) d stop) (now (text .entry)) (now (froms .entry)) (now (tos .entry)) n next b ⌝ }
+{
+    if ranked_all(&*text, &*froms, &*tos, order, n) {
+        return true;
+    }
+    ranked_behind(
+        &*stored,
+        starts,
+        d,
+        &*text,
+        &*froms,
+        &*tos,
+        &*order,
+        n,
+        next,
+        stop,
+    )
 }

@@ -1,4 +1,4 @@
-// The keys that are cut: each is held against all others.
+// The keys that are cut: each that is in no window is held against all others.
 ghost use mathlib.Core.Path.{_≡_};
 ghost use Prim.Native.Nat.{_+_, _≤_, _<_};
 ghost use lib.ListN.{length, take};
@@ -11,12 +11,16 @@ ghost use Rattle.cutkeys.specs.Places.{textAt, beyond};
 ghost use Rattle.cutkeys.specs.Keys.{Keyed, allKeys};
 ghost use Rattle.cutkeys.specs.Whole.{wholeAt};
 ghost use Rattle.cutkeys.specs.Alone.{AloneTold, OtherTold};
+ghost use Rattle.cutkeys.specs.Shorts.{insideAt};
 ghost use Rattle.cutkeys.specs.CutsEnds.{Tail, Differs};
 ghost use Rattle.cutkeys.specs.CutsPast.{PastAsked, Passes, SkipAsked, Skipped};
 ghost use Rattle.cutkeys.specs.CutsSought.{Another, Asks, Meets};
+use super::copies::cut_window;
+use super::copies::is_told;
 use super::keys::key_at;
 use super::keys::near_pair;
 use super::keys::size_of;
+use distinct::Went;
 use distinct::same_text;
 use views::LEVELS;
 use views::byte_at;
@@ -222,17 +226,17 @@ fn among(stored: &[u8], starts: &[u32; LEVELS], d: usize, p: usize, stop: usize)
     sought(&*stored, starts, d, p, stop, &a, &room, m, n)
 }
 
-// Whether no key that is cut has the text of another one.
-pub fn cut_apart(stored: &[u8], starts: &[u32; LEVELS], d: usize, stop: usize) -> bool
+// Whether no key that is cut has the text of another one, but for those in a window that is over at `next`.
+fn rest_apart(stored: &[u8], starts: &[u32; LEVELS], d: usize, stop: usize, next: usize) -> bool
     requires { ⌜ Open (allKeys (now stored) (now starts) d stop) 0 ⌝ }
-    ensures { λ b. ⌜ AloneTold (allKeys (now (stored .entry)) (now (starts .entry)) d stop) (wholeAt (now (stored .entry)) (now (starts .entry)) d) 0 b ⌝ }
+    ensures { λ b. ⌜ AloneTold (allKeys (now (stored .entry)) (now (starts .entry)) d stop) (insideAt (now (stored .entry)) (now (starts .entry)) d next) 0 b ⌝ }
 {
     let mut p = 0;
     let mut spot = 0;
     let mut left = 0;
     while p < stop {
         let k = key_at(&*stored, starts, d, p, stop, spot, left);
-        if k.whole {
+        if is_told(&*stored, starts, d, p, stop, next, k.whole) {
             p = k.next;
         } else {
             if among(&*stored, starts, d, p, stop) {
@@ -244,4 +248,15 @@ pub fn cut_apart(stored: &[u8], starts: &[u32; LEVELS], d: usize, stop: usize) -
         left = k.left;
     }
     true
+}
+
+// Whether no key that is cut has the text of another one.
+pub fn cut_apart(stored: &[u8], starts: &[u32; LEVELS], d: usize, stop: usize) -> bool
+    requires { ⌜ Open (allKeys (now stored) (now starts) d stop) 0 ⌝ }
+    ensures { λ b. ⌜ AloneTold (allKeys (now (stored .entry)) (now (starts .entry)) d stop) (wholeAt (now (stored .entry)) (now (starts .entry)) d) 0 b ⌝ }
+{
+    match cut_window(&*stored, starts, d, 0, stop) {
+        Went::Twice => false,
+        Went::On(next) => rest_apart(&*stored, starts, d, stop, next),
+    }
 }

@@ -5,6 +5,7 @@ ghost use Rattle.views.specs.Spans.{Lies};
 ghost use Rattle.wide.specs.Keys.{Counted, ApartTold};
 
 mod after;
+mod copies;
 mod cuts;
 mod keys;
 mod windows;

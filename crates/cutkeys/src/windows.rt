@@ -1,23 +1,21 @@
 // The keys of a content that is cut whose texts stand whole in the stored bytes, a window of them at a time, as in `windows`.
 ghost use Prim.Native.Nat.{_≤_, _<_};
 ghost use lib.ListN.{length};
-ghost use Rattle.distinct.specs.Names.{Held};
 ghost use Rattle.distinct.specs.Roads.{ApartTold};
-ghost use Rattle.distinct.specs.Window.{ClashTold, Rooms};
+ghost use Rattle.distinct.specs.Window.{Rooms};
 ghost use Rattle.distinct.specs.Windows.{Open, Room, Gathered, Windowed};
 ghost use Rattle.distinct.specs.Entering.{Enters};
 ghost use Rattle.cutkeys.specs.Kept.{firstOf};
 ghost use Rattle.cutkeys.specs.Keys.{allKeys};
 ghost use Rattle.cutkeys.specs.Whole.{wholeAt, wholeKeys};
+use super::after::by_ranks;
 use super::after::chained_behind;
-use super::after::ranked_behind;
 use super::keys::seek;
 use distinct::Entered;
 use distinct::Sought;
 use distinct::Taken;
 use distinct::Went;
 use distinct::chained;
-use distinct::ranked_all;
 use repeats::Walk;
 use views::LEVELS;
 
@@ -94,27 +92,6 @@ fn enter(
     Entered::In(n, k.place)
 }
 
-// Whether two keys have one text, of which one is in the window, by the order of their texts.
-fn by_ranks(
-    stored: &[u8],
-    starts: &[u32; LEVELS],
-    d: usize,
-    froms: &[u32],
-    tos: &[u32],
-    order: &mut [u16],
-    n: usize,
-    next: usize,
-    stop: usize,
-) -> bool
-    requires { ⌜ Held (now stored) (now froms) (now tos) n × (n ≤ length (now order)) × Open (wholeKeys (now stored) (now starts) d stop) next ⌝ }
-    ensures { λ b. ⌜ ClashTold (wholeKeys (now (stored .entry)) (now (starts .entry)) d stop) (now (stored .entry)) (now (froms .entry)) (now (tos .entry)) n next b ⌝ }
-{
-    if ranked_all(&*stored, &*froms, &*tos, order, n) {
-        return true;
-    }
-    ranked_behind(&*stored, starts, d, &*froms, &*tos, &*order, n, next, stop)
-}
-
 // The window from a place on, by the order of texts.
 fn ranked_window(
     stored: &[u8],
@@ -134,6 +111,7 @@ fn ranked_window(
         &*stored,
         starts,
         d,
+        &*stored,
         &*froms,
         &*tos,
         order,
@@ -168,6 +146,7 @@ fn window(
             &*stored,
             starts,
             d,
+            &*stored,
             &*froms,
             &*tos,
             &*heads,

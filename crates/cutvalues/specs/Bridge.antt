@@ -10,7 +10,7 @@ use lib.Seq.{slice, length-slice, drop-append-le, drop-drop, length-take-le, tak
 use Rattle.language.specs.Tree.{Tree, node, Forest, none, more, size, sizes, textOf, textsOf}
 use Rattle.shaped.specs.Shaped.{Shaped, shaped-object}
 use Rattle.stored.specs.Form.{tagged, head, widest, PART, tag, cut, content, forms, form}
-use Rattle.stored.specs.Parts.{cut-short, cut-long}
+use Rattle.stored.specs.Parts.{widest-is, cut-short, cut-long}
 use Rattle.stored.specs.Old as old
 use Rattle.stored.specs.OldLengths.{content-length, short-old, short-now}
 use Rattle.stored.specs.Bytes.{At, at-left, at-right, at-as, at-byte, at-join, at-place, slice-at}
@@ -22,10 +22,6 @@ use Rattle.uncut.specs.Walk as walk
 use Rattle.wide.specs.declared.Walked.the-variants.{Good, Bad}
 use Rattle.wide.specs.Tests.{Tests, one-form, two-forms, alone, none-alone}
 use Rattle.wide.specs.Walk.{Passed}
-
-widest-is : widest ≡ 65535
-unfolding widest
-widest-is = refl
 
 -- few members have the fields of Ticket 4, and as many text bytes as are no heads
 forms-same : (fs : Forest) → length (old.forms fs) ≤ 65535 → forms fs ≡ old.forms fs

@@ -8,7 +8,7 @@ use lib.Seq.{sets, sets-eq, slice, slice-cons, slice-empty, length-slice, length
 use Rattle.exact.specs.Place.{slice-at}
 use Rattle.rooms.specs.Stores.{sets-append, set-sets, row-behind}
 use Rattle.stored.specs.Form.{tagged, widest, PART, cut}
-use Rattle.stored.specs.Parts.{cut-short, cut-long, cut-length}
+use Rattle.stored.specs.Parts.{widest-is, cut-short, cut-long, cut-length}
 use Rattle.fields.specs.Puts.{Puts}
 
 -- ---- a run of stores, and what is before it and behind it
@@ -120,10 +120,6 @@ pub record Moves (b x k tag m : ℕ) : Type 0 where
   pub low : tag < 256
   pub few : m ≤ 65535
   pub fits : x + 65538 * k + 3 + m ≤ b
-
-pub widest-is : widest ≡ 65535
-unfolding widest
-widest-is = refl
 
 -- the bytes that a part is moved from are as they came
 kept-piece : (o rest : List ℕ) (at i j : ℕ) → j ≤ at → slice i j (sets o at rest) ≡ slice i j o

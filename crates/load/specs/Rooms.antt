@@ -7,7 +7,9 @@ use lib.ListN.{length}
 use lib.Seq.{sets}
 use borrow.Author.Needs.{needs}
 use Rattle.language.specs.Tree.{Tree, unlined, rowsOf}
-use Rattle.stored.specs.Form.{widest, head, form, loaded}
+use Rattle.stored.specs.Form.{head, form, loaded}
+use Rattle.stored.specs.Parts.{widest-is}
+use Rattle.uncut.specs.Short.{longest}
 use Rattle.stored.specs.Old as old
 use Rattle.stored.specs.OldForms.{old-placed}
 use Rattle.stored.specs.OldLengths.{short-now, content-narrow}
@@ -16,11 +18,7 @@ use Rattle.uncut.specs.Filling.{Fill, FillRoot, FilledRooms}
 use Rattle.cutfill.specs.Filling as long
 use Rattle.load.specs.Loading.{Asked, Filled}
 
-widest-is : widest ≡ 65535
-unfolding widest
-widest-is = refl
-
-module _ (stored : List ℕ) (w : ℕ) (few : length stored ≤ 65538) where
+module _ (stored : List ℕ) (w : ℕ) (few : length stored ≤ longest) where
   old-bytes : (k : Asked stored w) → old.form (k .tree) ≡ stored
   old-bytes k = sym (short-now (k .tree) (omega (arith, widest-is, ap length (k .found .bytes)))) ∙ k .found .bytes
 

@@ -9,7 +9,9 @@ use borrow.Author.Needs.{needs}
 use Rattle.language.specs.Tree.{Tree, none, more, size, textOf}
 use Rattle.language.specs.Answered.{deepest}
 use Rattle.language.specs.Lent.{lent}
-use Rattle.stored.specs.Form.{widest, head, form}
+use Rattle.stored.specs.Form.{head, form}
+use Rattle.stored.specs.Parts.{widest-is}
+use Rattle.uncut.specs.Short.{longest}
 use Rattle.stored.specs.Old as old
 use Rattle.stored.specs.OldLengths.{short-old, short-now, form-length}
 use Rattle.stored.specs.Bytes.{At, at-as, at-slice}
@@ -29,10 +31,6 @@ use Rattle.wide.specs.declared.Walked.{Walked}
 use Rattle.wide.specs.declared.Walked.the-variants as long
 use Rattle.wide.specs.Tests as wide
 use Rattle.load.specs.Loading.{Held, Told}
-
-widest-is : widest ≡ 65535
-unfolding widest
-widest-is = refl
 
 module _ (stored : List ℕ) where
   none-told : ((t : Tree) → Kept stored t → ⊥) → Told stored 0 0
@@ -58,7 +56,7 @@ module _ (stored : List ℕ) where
 
   -- ---- bytes that one field holds
 
-  module _ (few : length stored ≤ 65538) where
+  module _ (few : length stored ≤ longest) where
     pub short-lies : heads.Lies stored 0 (length stored)
     short-lies = record { order = omega arith; inside = omega arith; few = few }
 
@@ -81,7 +79,7 @@ module _ (stored : List ℕ) where
         pub short-heads : 3 * n ≤ e
         short-heads = let r = root in omega (arith, r .end, r .rows, form-length (r .good .shaped))
 
-        pub short-few : n ≤ 65538
+        pub short-few : n ≤ longest
         short-few = let h = short-heads in let r = root in omega (arith, r .below)
 
         pub short-trailing : e < length stored → Told stored 0 0

@@ -5,6 +5,7 @@ use language::Row;
 use language::bytes_lent;
 use language::rows_lent;
 use stored::Loading;
+use stored::WIDEST;
 use uncut::Tested;
 use uncut::fill;
 use uncut::value;
@@ -14,11 +15,12 @@ ghost use mathlib.Core.Path.{_≡_};
 ghost use Prim.Native.Nat.{_-_, _*_, _≤_};
 ghost use lib.ListN.{length};
 ghost use Rattle.language.specs.Lent.{lent};
+ghost use Rattle.uncut.specs.Short.{longest};
 ghost use Rattle.load.specs.Loading.{Told, Asked, Filled};
 ghost use Rattle.stored.specs.Loaded.{loadingNumber, loadingValue, loadingSecond, Loads};
 
 // A field with the widest content: no longer file has one part only.
-const LONGEST: usize = 65538;
+const LONGEST: usize = WIDEST + 3;
 
 // The rows and the text bytes that the stored bytes hold, no rows if they are no stored form.
 pub struct Held {
@@ -28,7 +30,7 @@ pub struct Held {
 
 // The text bytes of fields without parts: each row has a head of three bytes, all others are text.
 fn texts(end: usize, rows: usize) -> usize
-    requires { ⌜ (3 * rows ≤ end) × (rows ≤ 65538) ⌝ }
+    requires { ⌜ (3 * rows ≤ end) × (rows ≤ longest) ⌝ }
     ensures { λ b. ⌜ b ≡ end - 3 * rows ⌝ }
 {
     end - 3 * rows
@@ -36,7 +38,7 @@ fn texts(end: usize, rows: usize) -> usize
 
 // Of stored bytes that one field holds.
 fn held_short(stored: &[u8]) -> Held
-    requires { ⌜ length (now stored) ≤ 65538 ⌝ }
+    requires { ⌜ length (now stored) ≤ longest ⌝ }
     ensures { λ h. ⌜ Told (now (stored .entry)) (h .rows) (h .bytes) ⌝ }
 {
     match value(&*stored, 0, stored.len(), DEEPEST) {

@@ -82,10 +82,10 @@ pub record Sifting (doc keys : List ℕ) (q a : ℕ) : Type 0 where
   pub low : q < 4294967296
 
 module _ (doc S : List ℕ) (q a : ℕ) (x : Sifting doc S q a) where
-  pub sift-round : 6565 < length S
+  pub sift-round : round < length S
   sift-round = omega (arith, x .long)
 
-  pub sift-mode : 6564 < length S
+  pub sift-mode : mode < length S
   sift-mode = omega (arith, x .long)
 
   pub sift-keyed : Keyed doc a
@@ -109,7 +109,7 @@ module _ (doc S : List ℕ) (q a : ℕ) (x : Sifting doc S q a) where
       class-is : c ≡ keyClass (getD S round 0) q (spelled doc a)
       class-is = z ∙ ap classOf (y .is ∙ rw (g, e) refl)
 
-      pub passes-room : 15376 + c / 32 < length S
+      pub passes-room : filter + c / 32 < length S
       passes-room = let k = class-low h in rw z (omega (arith, x .long))
 
       pub passes-bit : (b : Bool) → Tells (On S filter c) b → b ≡ passing S q (spelled doc a)
@@ -203,7 +203,7 @@ pub ruleset taking = (note-sifting, note-sifted, note-plain, note-at, needs)
 
 -- ---- `list`
 
-pub prefix-long : (S : List ℕ) → length S ≡ large → length (take log S) ≡ 6564
+pub prefix-long : (S : List ℕ) → length S ≡ large → length (take log S) ≡ log
 prefix-long S e = length-take-le log S (omega arith)
 
 pub list-done : (S X : List ℕ) (q a : ℕ) → X ≡ noted (take log S) q a → X ++ drop log S ≡ noted (take log S) q a ++ drop log S

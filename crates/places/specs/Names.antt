@@ -1,6 +1,6 @@
 -- MARKS AND NAMES OF KEYS, from their texts a byte at a time: what is marked so far, how far two texts agree, and how two keys stand to each other. Assumes nothing.
 use mathlib.Core.Path.{_≡_, refl, sym, ap, _∙_}
-use mathlib.Core.List.{List, [], _∷_}
+use mathlib.Core.List.{List, [], _∷_, _++_}
 use mathlib.Core.Bool.{Bool, true, false}
 use Prim.Native.Nat.{ℕ, _+_, _-_, _*_, _%_, _≤_, _<_}
 use native.Mathlib.Nat.{mod-lt}
@@ -28,9 +28,16 @@ use Rattle.repeats.specs.declared.Order.{Order}
 use Rattle.repeats.specs.declared.Order.the-variants.{Less, Same as Equal, More}
 use Rattle.places.specs.Places.{objectAt, placeAt, spelled, ends, placeKeys}
 use Rattle.spelt.specs.Spelling.{Rest, Spellable, Gave, Nexts, Begins, weight, rest-tail, begin-bare, step}
+use Rattle.spelt.specs.Standing.{further, Spells, Standing, Common, standing-next, standing-low, standing-less}
 use Rattle.spelt.specs.Left.{key-more, key-over}
 pub use Rattle.spelt.specs.Reading.{Keyed, keyed-low, Reads, reads-able, reads-first, reads-end, gave, reads-is, reads-on, Bare, bare-of, bare}
 unfoldable pub use Rattle.spelt.specs.Reading.{others}
+
+reads-spells : (doc room : List ℕ) (p : Spelling) (s : List ℕ) → Reads doc room p s → Spells doc p
+reads-spells doc room p s x = record { room = room; able = reads-able doc room p s x }
+
+pub begun-spells : (doc : List ℕ) (at : ℕ) (p : Spelling) → Keyed doc at → Begins doc at p → Spells doc p
+begun-spells doc at p k h = reads-spells doc (replicate 8 0) p (spelled doc at) (reads-first doc at p k h)
 
 -- ---- the marks of a key
 
@@ -79,6 +86,21 @@ module _ (doc : List ℕ) (at object : ℕ) where
               low = mod-lt (31 * h + b) (omega arith);
             })
 
+    pub marking-spells : Spells doc p
+    marking-spells = reads-spells doc room p (x .text) (x .reads)
+
+    -- a byte that stands as it is
+    module _ (v : ℕ) (y : Standing doc p v) (l : v < 256) where
+      pub marking-further : p .at < limit
+      marking-further = standing-low doc p v y l marking-spells
+
+      module _ (n : Spelling) (i : n ≡ further p) where
+        pub marking-lower : weight doc n < weight doc p
+        marking-lower = rw i (standing-less doc p v y l)
+
+        pub marking-stood : (m′ h′ : ℕ) → m′ ≡ marked m v → h′ ≡ (31 * h + v) % 4294967296 → Marking doc at object room n m′ h′
+        marking-stood m′ h′ e f = rw i (marking-more room (given.Byte v (further p)) (standing-next doc p v y l room) v (further p) refl refl m′ h′ e f)
+
 -- ---- the marks of a bare key, as it stands
 
 -- m and h are those of the bytes up to a
@@ -125,6 +147,11 @@ module _ (doc : List ℕ) (at object : ℕ) where
 
 -- ---- the order of two texts
 
+-- texts that begin with the same bytes stand to each other as what is behind them
+ordered-behind : (w s t : List ℕ) (r : Order) → Ordered s t r → Ordered (w ++ s) (w ++ t) r
+ordered-behind [] s t r x = x
+ordered-behind (c ∷ w) s t r x = ordered-further c c (w ++ s) (w ++ t) refl r (ordered-behind w s t r x)
+
 -- two texts agree so far: they stand to each other as what is left of them does
 pub record Agree (doc : List ℕ) (a b : ℕ) (room : List ℕ) (p : Spelling) (room₂ : List ℕ) (q : Spelling) : Type 0 where
   pub one : List ℕ
@@ -144,6 +171,19 @@ module _ (doc : List ℕ) (a b : ℕ) where
 
     pub agree-able₂ : Spellable doc room₂ q
     agree-able₂ = reads-able doc room₂ q (x .two) (x .second)
+
+    -- the bytes in common passed
+    agree-common : (n m : Spelling) → Common doc p q n m → Agree doc a b room n room₂ m
+    agree-common n m c =
+        let f = c .one .more room (x .one) (x .first .rest) in
+        let g = c .two .more room₂ (x .two) (x .second .rest) in
+        record {
+          one = f .others;
+          two = g .others;
+          first = record { short = x .first .short; long = x .first .long; rest = f .rest };
+          second = record { short = x .second .short; long = x .second .long; rest = g .rest };
+          back = λ r w. x .back r (rw (f .is, g .is) (ordered-behind (c .bytes) (f .others) (g .others) r w));
+        }
 
     module _ (room′ : List ℕ) (g : Given) (y : Nexts doc room p room′ g) (room₂′ : List ℕ) (h : Given) (z : Nexts doc room₂ q room₂′ h) where
       over : g ≡ given.End → x .one ≡ []
@@ -187,10 +227,10 @@ module _ (doc : List ℕ) (a b : ℕ) where
         pub agree-more : d < c → Ordered (spelled doc a) (spelled doc b) More
         agree-more l = onto More (ordered-more c d one-others two-others l)
 
-        pub agree-weight : weight doc n < weight doc p
-        agree-weight = gave doc room p (x .one) (x .first) room′ g y c n e .less
+        pub agree-weight : (n′ m′ : Spelling) → Common doc n m n′ m′ → weight doc n′ < weight doc p
+        agree-weight n′ m′ k = let l = gave doc room p (x .one) (x .first) room′ g y c n e .less in omega (arith, k .one .less)
 
-        pub agree-on : c ≤ d → d ≤ c → length room′ ≡ length room → length room₂′ ≡ length room₂ → Agree doc a b room′ n room₂′ m
+        agree-on : c ≤ d → d ≤ c → length room′ ≡ length room → length room₂′ ≡ length room₂ → Agree doc a b room′ n room₂′ m
         agree-on l k i j =
             record {
               one = one-others;
@@ -199,6 +239,23 @@ module _ (doc : List ℕ) (a b : ℕ) where
               second = reads-on doc room₂ q (x .two) (x .second) room₂′ h z d m f j;
               back = λ r w. onto r (ordered-further c d one-others two-others (omega arith) r w);
             }
+
+        module _ (i : length room′ ≡ length room) (j : length room₂′ ≡ length room₂) where
+          pub agree-spells : Spells doc n
+          agree-spells = reads-spells doc room′ n one-others (reads-on doc room p (x .one) (x .first) room′ g y c n e i)
+
+          pub agree-spells₂ : Spells doc m
+          agree-spells₂ = reads-spells doc room₂′ m two-others (reads-on doc room₂ q (x .two) (x .second) room₂′ h z d m f j)
+
+-- what is left of two texts, with the bytes in common passed
+module _ (doc : List ℕ) (a b : ℕ) where
+  pub agree-begun : (p q : Spelling) → Keyed doc a → Keyed doc b → Begins doc a p → Begins doc b q → (n m : Spelling) → Common doc p q n m → Agree doc a b (replicate 8 0) n (replicate 8 0) m
+  agree-begun p q k l g h = agree-common doc a b (replicate 8 0) p (replicate 8 0) q (agree-first doc a b p q k l g h)
+
+  module _ (room : List ℕ) (p : Spelling) (room₂ : List ℕ) (q : Spelling) (x : Agree doc a b room p room₂ q) (room′ : List ℕ) (g : Given) (y : Nexts doc room p room′ g) (room₂′ : List ℕ) (h : Given) (z : Nexts doc room₂ q room₂′ h) (c d : ℕ) (n m : Spelling)
+      (e : g ≡ given.Byte c n) (f : h ≡ given.Byte d m) where
+    pub agree-further : c ≤ d → d ≤ c → length room′ ≡ length room → length room₂′ ≡ length room₂ → (n′ m′ : Spelling) → Common doc n m n′ m′ → Agree doc a b room′ n′ room₂′ m′
+    agree-further l k i j = agree-common doc a b room′ n room₂′ m (agree-on doc a b room p room₂ q x room′ g y room₂′ h z c d n m e f l k i j)
 
 -- ---- the order of two keys
 
@@ -264,9 +321,9 @@ module _ (doc keys : List ℕ) (i k : ℕ) (r : Order) (x : Stand doc keys i k r
 
 pub ruleset baring = (bare-first, bare-over, bare-less, bare-ended, bare-more, bare-low, needs)
 
-pub ruleset marking = (bare-of, keyed-low, marking-first, marking-able, marking-done, marking-less, marking-more, needs)
+pub ruleset marking = (bare-of, keyed-low, marking-first, marking-able, marking-done, marking-less, marking-more, marking-spells, marking-further, marking-lower, marking-stood, needs)
 
-pub ruleset agreeing = (keyed-low, agree-first, agree-able, agree-able₂, agree-same, agree-shorter, agree-longer, agree-less, agree-more, agree-weight, agree-on, needs)
+pub ruleset agreeing = (keyed-low, begun-spells, agree-begun, agree-able, agree-able₂, agree-same, agree-shorter, agree-longer, agree-less, agree-more, agree-spells, agree-spells₂, agree-weight, agree-further, needs)
 
 pub ruleset comparing = (compared-one, compared-two, mark-less, mark-more, object-less, object-more, text-order, needs)
 

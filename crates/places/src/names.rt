@@ -7,6 +7,7 @@ ghost use Rattle.repeats.specs.Mark.{marked};
 ghost use Rattle.repeats.specs.Numbering.{Same};
 ghost use Rattle.repeats.specs.Order.{Ordered};
 ghost use Rattle.places.specs.Places.{objectAt, placeAt, spelled, placeKeys};
+ghost use Rattle.spelt.specs.Standing.{Spells, Common};
 ghost use Rattle.places.specs.Names.{Bare, Keyed, MarksOf, Compared, Stand};
 use characters::Reading;
 use characters::Took;
@@ -17,8 +18,11 @@ use repeats::Order;
 use repeats::stirred;
 use rooms::Cursor;
 use spelt::Given;
+use spelt::Spelling;
 use spelt::begin;
+use spelt::further;
 use spelt::next;
+use spelt::standing;
 
 // What a text leads to: its mark, and a number that picks its chain.
 pub struct Marks {
@@ -85,14 +89,21 @@ fn quoted_marks(doc: &[u8], at: usize, object: usize) -> Marks
     let mut mark: u32 = 0;
     let mut stir = object;
     loop {
-        match next(&*doc, &mut room, s) {
-            Given::End => {
-                return Marks { mark, stir };
-            }
-            Given::Byte(b, n) => {
-                mark = marked(mark, b);
-                stir = stirred(stir, b);
-                s = n;
+        let v = standing(&*doc, s);
+        if v < 256 {
+            mark = marked(mark, v as u8);
+            stir = stirred(stir, v as u8);
+            s = further(s);
+        } else {
+            match next(&*doc, &mut room, s) {
+                Given::End => {
+                    return Marks { mark, stir };
+                }
+                Given::Byte(b, n) => {
+                    mark = marked(mark, b);
+                    stir = stirred(stir, b);
+                    s = n;
+                }
             }
         }
     }
@@ -118,6 +129,33 @@ pub fn marks_of(doc: &[u8], at: usize, object: usize) -> Marks
     bare_marks(&*doc, at, object)
 }
 
+// Where the reading of two texts is.
+pub struct Both {
+    pub one: Spelling,
+    pub two: Spelling,
+}
+
+// The bytes that two texts have in common passed, as far as they stand in the document as they are.
+fn common(doc: &[u8], a: Spelling, b: Spelling) -> Both
+    requires { ⌜ Spells (now doc) a × Spells (now doc) b ⌝ }
+    ensures { λ r. ⌜ Common (now (doc .entry)) a b (r .one) (r .two) ⌝ }
+{
+    let mut s = a;
+    let mut t = b;
+    loop {
+        let v = standing(&*doc, s);
+        if 255 < v {
+            return Both { one: s, two: t };
+        }
+        let w = standing(&*doc, t);
+        if v != w {
+            return Both { one: s, two: t };
+        }
+        s = further(s);
+        t = further(t);
+    }
+}
+
 // How the texts of the keys at two places stand to each other.
 pub fn texts(doc: &[u8], a: usize, b: usize) -> Order
     requires { ⌜ Keyed (now doc) a × Keyed (now doc) b ⌝ }
@@ -125,8 +163,9 @@ pub fn texts(doc: &[u8], a: usize, b: usize) -> Order
 {
     let mut room = [0u8; 8];
     let mut other = [0u8; 8];
-    let mut s = begin(&*doc, a);
-    let mut t = begin(&*doc, b);
+    let p = common(&*doc, begin(&*doc, a), begin(&*doc, b));
+    let mut s = p.one;
+    let mut t = p.two;
     loop {
         let x = next(&*doc, &mut room, s);
         let y = next(&*doc, &mut other, t);
@@ -150,8 +189,9 @@ pub fn texts(doc: &[u8], a: usize, b: usize) -> Order
                     if d < c {
                         return Order::More;
                     }
-                    s = n;
-                    t = m;
+                    let q = common(&*doc, n, m);
+                    s = q.one;
+                    t = q.two;
                 }
             },
         }

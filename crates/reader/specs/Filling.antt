@@ -25,12 +25,15 @@ use Rattle.judge.specs.Blamed.{Blamed}
 use Rattle.judge.specs.Contract.{Known, Checked, Filled, Logged}
 use Rattle.reader.specs.Judged.{accepts, answer-stop, stop-total}
 
--- few bytes, and some
+-- few bytes, some, and more
 abbrev pub few-bytes : ℕ
 few-bytes = 1024
 
 abbrev pub some-bytes : ℕ
-some-bytes = 16384
+some-bytes = 4096
+
+abbrev pub more-bytes : ℕ
+more-bytes = 16384
 
 -- the document is within the limit; no key is noted in the log; the text room of our own is large enough for any of so many bytes
 pub record Texted (doc K R T : List ℕ) : Type 0 where

@@ -26,6 +26,8 @@ use Rattle.language.specs.Lines.{linesOf}
 use Rattle.lined.specs.Lined.{Ranked, lined}
 use Rattle.answers.specs.Counted.{Counted, counted-repeat, counted-rows, counted-bytes, counted-ranked, counted-all, counted-total}
 use Rattle.judge.specs.Contract.{Known, Checked, Filled, Logged}
+use Rattle.sieve.specs.Sieve.{large}
+use Rattle.notes.specs.Handed.{mode}
 use Rattle.reader.specs.Judged.{accepts}
 use Rattle.reader.specs.Rounds.{Swept, Repeated, first-sieving, sieving-swept}
 
@@ -80,8 +82,8 @@ module _ (doc : List ℕ) (a : Ans) (c : Cursor) (m z : ℕ) (p : m ≡ spot (c 
             (w .logged (known .tree) (known .is));
       }
 
-  pub passes-sieved : (keys : List ℕ) → Logged deepest doc (set (replicate 19472 0) 6564 1) keys → Swept doc keys 1
-  passes-sieved keys w = sieving-swept doc (set (replicate 19472 0) 6564 1) 0 (first-sieving doc (known .tree) l (known .is) keys (w .logged (known .tree) (known .is))) keys w
+  pub passes-sieved : (keys : List ℕ) → Logged deepest doc (set (replicate large 0) mode 1) keys → Swept doc keys 1
+  passes-sieved keys w = sieving-swept doc (set (replicate large 0) mode 1) 0 (first-sieving doc (known .tree) l (known .is) keys (w .logged (known .tree) (known .is))) keys w
 
 -- ---- what `noted` shows
 

@@ -125,7 +125,7 @@ listing-doubled doc keys r x d = names-map (λ p t. some-twice (sift-some keys (
 pub swept-none : (doc keys : List ℕ) (r n : ℕ) → Swept doc keys r → n ≡ getD keys hits 0 → n < 1 → Doubled (keysOf doc) Nowhere
 swept-none doc keys r n x e l q t = let y = twice-both t in omega (arith, x .found (y .object) (y .text) (y .both) .1)
 
-pub swept-room : (doc keys : List ℕ) (r : ℕ) → Swept doc keys r → 6566 < length keys
+pub swept-room : (doc keys : List ℕ) (r : ℕ) → Swept doc keys r → hits < length keys
 swept-room doc keys r x = omega (arith, x .roomed .long)
 
 pub swept-long : (doc keys : List ℕ) (r : ℕ) → Swept doc keys r → length keys ≡ large
@@ -143,24 +143,24 @@ module _ (S : List ℕ) (e : length S ≡ large) where
   copied-first = record { long = refl; below = λ i l. refl; words = λ i l. absurd (omega arith) }
 
   module _ (T : List ℕ) (i : ℕ) (x : Copied S i T) (l : i < 4096) where
-    pub copied-read : 11280 + i < length T
+    pub copied-read : again + i < length T
     copied-read = omega (arith, x .long)
 
-    pub copied-write : 15376 + i < length T
+    pub copied-write : filter + i < length T
     copied-write = omega (arith, x .long)
 
-    pub copied-more : Copied S (i + 1) (set T (15376 + i) (getD T (11280 + i) 0))
+    pub copied-more : Copied S (i + 1) (set T (filter + i) (getD T (again + i) 0))
     copied-more =
         record {
-          long = length-set T (15376 + i) (getD T (11280 + i) 0) ∙ x .long;
-          below = λ k m. getD-set-other T (15376 + i) k (getD T (11280 + i) 0) 0 (λ z. omega arith) ∙ x .below k m;
+          long = length-set T (filter + i) (getD T (again + i) 0) ∙ x .long;
+          below = λ k m. getD-set-other T (filter + i) k (getD T (again + i) 0) 0 (λ z. omega arith) ∙ x .below k m;
           words = λ k m. by k m (ℕ-discrete k i);
         }
       where
-        by : (k : ℕ) → k < i + 1 → Dec (k ≡ i) → getD (set T (15376 + i) (getD T (11280 + i) 0)) (filter + k) 0 ≡ getD S (again + k) 0
+        by : (k : ℕ) → k < i + 1 → Dec (k ≡ i) → getD (set T (filter + i) (getD T (again + i) 0)) (filter + k) 0 ≡ getD S (again + k) 0
         by k m (yes z) =
-            rw z (getD-set-same T (15376 + i) (getD T (11280 + i) 0) 0 copied-write ∙ x .below (11280 + i) (omega arith))
-        by k m (no z) = getD-set-other T (15376 + i) (filter + k) (getD T (11280 + i) 0) 0 (λ y. z (omega arith)) ∙ x .words k (omega arith)
+            rw z (getD-set-same T (filter + i) (getD T (again + i) 0) 0 copied-write ∙ x .below (again + i) (omega arith))
+        by k m (no z) = getD-set-other T (filter + i) (filter + k) (getD T (again + i) 0) 0 (λ y. z (omega arith)) ∙ x .words k (omega arith)
 
   pub copied-done : (T : List ℕ) (i : ℕ) → Copied S i T → i ≤ 4096 → 4096 ≤ i → Copied S 4096 T
   copied-done T i x l m = let z : i ≡ 4096 = omega arith in rw z at x
@@ -173,10 +173,10 @@ pub record Wiped (keys : List ℕ) (n : ℕ) (keys′ : List ℕ) : Type 0 where
   pub others : (i : ℕ) → (i < hits) ⊎ (filter ≤ i) → getD keys′ i 0 ≡ getD keys i 0
 
 module _ (S : List ℕ) (e : length S ≡ large) where
-  pub wiped-first : Wiped S 6566 S
+  pub wiped-first : Wiped S hits S
   wiped-first = record { long = refl; zero = λ i l m. absurd (omega arith); others = λ i l. refl }
 
-  module _ (T : List ℕ) (i : ℕ) (x : Wiped S i T) (k : 6566 ≤ i) (l : i < 15376) where
+  module _ (T : List ℕ) (i : ℕ) (x : Wiped S i T) (k : hits ≤ i) (l : i < filter) where
     pub wiped-room : i < length T
     wiped-room = omega (arith, x .long)
 
@@ -196,39 +196,39 @@ module _ (S : List ℕ) (e : length S ≡ large) where
         others n (inl m) = getD-set-other T i n 0 0 (λ z. omega arith) ∙ x .others n (inl m)
         others n (inr m) = getD-set-other T i n 0 0 (λ z. omega arith) ∙ x .others n (inr m)
 
-  pub wiped-done : (T : List ℕ) (i : ℕ) → Wiped S i T → i ≤ 15376 → 15376 ≤ i → Wiped S 15376 T
-  wiped-done T i x l m = let z : i ≡ 15376 = omega arith in rw z at x
+  pub wiped-done : (T : List ℕ) (i : ℕ) → Wiped S i T → i ≤ filter → filter ≤ i → Wiped S filter T
+  wiped-done T i x l m = let z : i ≡ filter = omega arith in rw z at x
 
 pub ruleset wiping = (wiped-first, wiped-room, wiped-more, wiped-done, needs)
 
-module _ (S : List ℕ) (e : length S ≡ large) (A : List ℕ) (x : Copied S 4096 A) (B : List ℕ) (y : Wiped A 15376 B) (r m : ℕ) where
-  pub turn-round : 6565 < length B
+module _ (S : List ℕ) (e : length S ≡ large) (A : List ℕ) (x : Copied S 4096 A) (B : List ℕ) (y : Wiped A filter B) (r m : ℕ) where
+  pub turn-round : round < length B
   turn-round = omega (arith, x .long, y .long)
 
-  pub turn-mode : 6564 < length (set B 6565 r)
-  turn-mode = omega (arith, x .long, y .long, length-set B 6565 r)
+  pub turn-mode : mode < length (set B round r)
+  turn-mode = omega (arith, x .long, y .long, length-set B round r)
 
   abbrev D : List ℕ
-  D = set (set B 6565 r) 6564 m
+  D = set (set B round r) mode m
 
   D-long : length D ≡ length S
-  D-long = length-set (set B 6565 r) 6564 m ∙ (length-set B 6565 r ∙ (y .long ∙ x .long))
+  D-long = length-set (set B round r) mode m ∙ (length-set B round r ∙ (y .long ∙ x .long))
 
-  pub turn-broken : 6568 < length (set (set B 6565 r) 6564 m)
+  pub turn-broken : broken < length (set (set B round r) mode m)
   turn-broken = omega (arith, D-long)
 
-  pub turn-same : length (set (set (set B 6565 r) 6564 m) 6568 2) ≡ length S
-  turn-same = length-set D 6568 2 ∙ D-long
+  pub turn-same : length (set (set (set B round r) mode m) broken 2) ≡ length S
+  turn-same = length-set D broken 2 ∙ D-long
 
-  pub turn-done : Turned S r m (set (set (set B 6565 r) 6564 m) 6568 2)
+  pub turn-done : Turned S r m (set (set (set B round r) mode m) broken 2)
   turn-done =
-      let C = set B 6565 r in
-      let p : (i : ℕ) → (i ≡ 6568 → ⊥) → getD (set D 6568 2) i 0 ≡ getD D i 0 = λ i f. getD-set-other D 6568 i 2 0 f in
-      let o : (i : ℕ) → (i ≡ 6568 → ⊥) → (i ≡ 6564 → ⊥) → (i ≡ 6565 → ⊥) → getD (set D 6568 2) i 0 ≡ getD B i 0 = λ i e f g. p i e ∙ (getD-set-other C 6564 i m 0 f ∙ getD-set-other B 6565 i r 0 g) in
+      let C = set B round r in
+      let p : (i : ℕ) → (i ≡ broken → ⊥) → getD (set D broken 2) i 0 ≡ getD D i 0 = λ i f. getD-set-other D broken i 2 0 f in
+      let o : (i : ℕ) → (i ≡ broken → ⊥) → (i ≡ mode → ⊥) → (i ≡ round → ⊥) → getD (set D broken 2) i 0 ≡ getD B i 0 = λ i e f g. p i e ∙ (getD-set-other C mode i m 0 f ∙ getD-set-other B round i r 0 g) in
       record {
         long = turn-same;
-        mode = p 6564 (λ z. omega arith) ∙ getD-set-same C 6564 m 0 turn-mode;
-        round = p 6565 (λ z. omega arith) ∙ (getD-set-other C 6564 6565 m 0 (λ z. omega arith) ∙ getD-set-same B 6565 r 0 turn-round);
+        mode = p mode (λ z. omega arith) ∙ getD-set-same C mode m 0 turn-mode;
+        round = p round (λ z. omega arith) ∙ (getD-set-other C mode round m 0 (λ z. omega arith) ∙ getD-set-same B round r 0 turn-round);
         words = λ i l. o (filter + i) (λ z. omega arith) (λ z. omega arith) (λ z. omega arith) ∙ (y .others (filter + i) (inr (omega arith)) ∙ x .words i l);
         empty = record { zero = λ i k l n. o i n (λ z. omega arith) (λ z. omega arith) ∙ y .zero i k l };
       }
@@ -240,16 +240,16 @@ pub ruleset turning = (turn-round, turn-mode, turn-broken, turn-same, turn-done,
 
 -- ---- the first round: all keys pass
 
-all-pass : (S : List ℕ) (q : ℕ) (s : List ℕ) → getD S 6565 0 ≡ 0 → passing S q s ≡ true
+all-pass : (S : List ℕ) (q : ℕ) (s : List ℕ) → getD S round 0 ≡ 0 → passing S q s ≡ true
 unfolding passing
-all-pass S q s z = rw (eq-eqb (getD S 6565 0) 0 z) refl
+all-pass S q s z = rw (eq-eqb (getD S round 0) 0 z) refl
 
-pub first-sieving : (doc : List ℕ) (t : Tree) → length doc ≤ limit → verdict deepest doc ≡ acc t → (keys : List ℕ) → Kept doc 0 (flat 0 0 t) (length doc) (set (replicate 19472 0) 6564 1) keys
-    → Sieving doc (set (replicate 19472 0) 6564 1) 0
+pub first-sieving : (doc : List ℕ) (t : Tree) → length doc ≤ limit → verdict deepest doc ≡ acc t → (keys : List ℕ) → Kept doc 0 (flat 0 0 t) (length doc) (set (replicate large 0) mode 1) keys
+    → Sieving doc (set (replicate large 0) mode 1) 0
 first-sieving doc t l e keys k =
-    let S : List ℕ = replicate 19472 0 in
-    let n = length-replicate {A = ℕ} 19472 0 in
-    let o : (i : ℕ) → (i ≡ 6564 → ⊥) → getD (set S 6564 1) i 0 ≡ 0 = λ i f. getD-set-other S 6564 i 1 0 f ∙ zeros 19472 i in
+    let S : List ℕ = replicate large 0 in
+    let n = length-replicate {A = ℕ} large 0 in
+    let o : (i : ℕ) → (i ≡ mode → ⊥) → getD (set S mode 1) i 0 ≡ 0 = λ i f. getD-set-other S mode i 1 0 f ∙ zeros large i in
     record {
       roomed =
           record {
@@ -257,11 +257,11 @@ first-sieving doc t l e keys k =
             short = l;
             is = e;
             lie = subst (λ (ks : List Named). Keys doc 0 ks (length doc)) (sym (keys-of doc t e)) (k .lie);
-            long = length-set S 6564 1 ∙ n;
+            long = length-set S mode 1 ∙ n;
           };
-      mode = getD-set-same S 6564 1 0 (omega arith);
-      round = o 6565 (λ z. omega arith);
-      claims = record { claim = λ q s b. all-pass (set S 6564 1) q s (o 6565 (λ z. omega arith)) };
+      mode = getD-set-same S mode 1 0 (omega arith);
+      round = o round (λ z. omega arith);
+      claims = record { claim = λ q s b. all-pass (set S mode 1) q s (o round (λ z. omega arith)) };
       empty = record { zero = λ i m p n. o i (λ z. omega arith) };
     }
 

@@ -189,7 +189,7 @@ module _ (doc : List ℕ) (ks : List Named) (keys : List ℕ) (i j : ℕ) (a : A
         (listed .log ∙ ap (noteds (take log keys′)) same)
         (filed-lie doc ks keys (a .filed))
 
-    pub asking-prefix : length (take log keys″) ≡ 6564
+    pub asking-prefix : length (take log keys″) ≡ log
     asking-prefix = held .long
 
     pub asking-placed : Placed doc (take log keys″) (getD (take log keys″) 0 0)

@@ -1,8 +1,8 @@
 // Reads a document into the rooms lent.
-ghost use Prim.Native.Nat.{_≤_};
+ghost use Prim.Native.Nat.{_+_, _≤_};
 ghost use lib.ListN.{length};
 ghost use Rattle.language.specs.Answered.{number, value, second, third, Answered, Totals, limit};
-ghost use Rattle.reader.specs.Filling.{few-bytes, some-bytes, Texted, Read, Attempted};
+ghost use Rattle.reader.specs.Filling.{few-bytes, some-bytes, more-bytes, Texted, Read, Attempted};
 ghost use Rattle.reader.specs.Rounds.{Swept, Repeated};
 ghost use Rattle.reader.specs.Lent.{Passed, Noted};
 
@@ -31,16 +31,20 @@ use rounds::first_repeat;
 use sieve::LARGE;
 use sieve::MODE;
 
-// Rooms of our own are cleared first, and stand on the stack: so they are small, and smaller for documents of few bytes. These have a row for two bytes, as `- - 1` needs; those for some bytes
+// Rooms of our own are cleared first, and stand on the stack: so they are small, and smaller for documents of few bytes. These have a row for two bytes, as `- - 1` needs; those for some bytes and for more
 // have fewer, and a document with more rows, or with more bytes, is read into the rooms lent.
 const FEW: usize = 1024;
 
-const SOME: usize = 16384;
+const SOME: usize = 4096;
+
+const MORE: usize = 16384;
 
 // The log takes all keys of documents of so many bytes.
 const MANY: usize = 32768;
 
-const ROWS: usize = 1700;
+const SOME_ROWS: usize = 512;
+
+const MORE_ROWS: usize = 1700;
 
 // What reading into rooms of our own gives: the answer, or that they have too few rows.
 pub enum Tried {
@@ -100,7 +104,7 @@ fn settled(
     Tried::Settled(answer(&*doc, &*keys, &*rows, &*bytes, n, m, escapes, table, text))
 }
 
-// The answer by rooms of our own for documents of few bytes, and of some.
+// The answer by rooms of our own for documents of few bytes, of some, and of more.
 fn of_few_bytes(doc: &[u8], table: &mut [u32], text: &mut [u8]) -> Tried
     requires { ⌜ length (now doc) ≤ few-bytes ⌝ }
     ensures { λ r. ⌜ Attempted (now (doc .entry)) (now (table .entry)) (now (text .entry)) r (now (table .exit)) (now (text .exit)) ⌝ }
@@ -115,9 +119,19 @@ fn of_some_bytes(doc: &[u8], table: &mut [u32], text: &mut [u8]) -> Tried
     requires { ⌜ length (now doc) ≤ some-bytes ⌝ }
     ensures { λ r. ⌜ Attempted (now (doc .entry)) (now (table .entry)) (now (text .entry)) r (now (table .exit)) (now (text .exit)) ⌝ }
 {
-    let mut keys = [0u32; FIRST + ROWS];
-    let mut rows = [0u32; WIDTH * ROWS];
+    let mut keys = [0u32; FIRST + SOME_ROWS];
+    let mut rows = [0u32; WIDTH * SOME_ROWS];
     let mut bytes = [0u8; SOME];
+    attempt(&*doc, &mut keys, &mut rows, &mut bytes, table, text)
+}
+
+fn of_more_bytes(doc: &[u8], table: &mut [u32], text: &mut [u8]) -> Tried
+    requires { ⌜ length (now doc) ≤ more-bytes ⌝ }
+    ensures { λ r. ⌜ Attempted (now (doc .entry)) (now (table .entry)) (now (text .entry)) r (now (table .exit)) (now (text .exit)) ⌝ }
+{
+    let mut keys = [0u32; FIRST + MORE_ROWS];
+    let mut rows = [0u32; WIDTH * MORE_ROWS];
+    let mut bytes = [0u8; MORE];
     attempt(&*doc, &mut keys, &mut rows, &mut bytes, table, text)
 }
 
@@ -217,31 +231,48 @@ fn of_any_bytes(doc: &[u8], table: &mut [u32], text: &mut [u8]) -> Answer
     }
 }
 
-// Whether a row is guessed at the byte: a line's end, a comma, a dash, a colon or an opening bracket.
-fn row_at(b: u8) -> bool {
+// The rows guessed at a byte: two at a colon, for a key and its value; one at a dash, a comma and an opening bracket.
+fn rows_at(b: u8) -> u8
+    ensures { λ r. ⌜ r ≤ 2 ⌝ }
+{
     match b {
-        10 | 44 | 45 | 58 | 91 | 123 => true,
-        _ => false,
+        58 => 2,
+        44 | 45 | 91 => 1,
+        _ => 0,
     }
 }
 
-// Whether the first bytes promise more rows than rooms of our own have; short documents have no more than a row for two bytes. A wrong guess costs time alone.
-fn dense(doc: &[u8]) -> bool
-    requires { ⌜ length (now doc) ≤ limit ⌝ }
+// The rows guessed in 64 bytes.
+fn rows_in(doc: &[u8], a: usize) -> usize
+    requires { ⌜ a + 64 ≤ length (now doc) ⌝ }
+    ensures { λ r. ⌜ r ≤ 128 ⌝ }
 {
-    let n = doc.len();
-    let mut ends = 0;
+    let mut n: u8 = 0;
     let mut i = 0;
-    if n <= 2 * ROWS {
-        return false;
-    }
-    while i < FEW && i < n {
-        if row_at(doc[i]) {
-            ends += 1;
-        }
+    while i < 64 {
+        n += rows_at(doc[a + i]);
         i += 1;
     }
-    ROWS * FEW < ends * n
+    n as usize
+}
+
+// Whether eight parts of a document promise as many rows as there is room for, or more; short documents have no more than a row for two bytes. A wrong guess costs time alone.
+fn dense(doc: &[u8], rows: usize) -> bool
+    requires { ⌜ (length (now doc) ≤ limit) × (512 ≤ rows) × (rows ≤ 1700) ⌝ }
+{
+    let n = doc.len();
+    if n <= 2 * rows {
+        return false;
+    }
+    let mut guessed = 0;
+    let mut parts = 0;
+    let mut a = 0;
+    while parts < 8 && a + 64 <= n {
+        guessed += rows_in(&*doc, a);
+        parts += 1;
+        a += n / 8;
+    }
+    rows * 64 * parts <= guessed * n
 }
 
 // The answer by the class of rooms, from the smallest that the document's length allows on. It calls itself for the next one, so that no frame holds the rooms of two.
@@ -262,7 +293,7 @@ fn by_class(doc: &[u8], table: &mut [u32], text: &mut [u8], class: usize) -> Ans
             }
         }
         1 => {
-            if SOME < n || dense(&*doc) {
+            if SOME < n || dense(&*doc, SOME_ROWS) {
                 return by_class(&*doc, table, text, 2);
             }
             match of_some_bytes(&*doc, table, text) {
@@ -271,12 +302,21 @@ fn by_class(doc: &[u8], table: &mut [u32], text: &mut [u8], class: usize) -> Ans
             }
         }
         2 => {
-            if MANY < n {
+            if MORE < n || dense(&*doc, MORE_ROWS) {
                 return by_class(&*doc, table, text, 3);
+            }
+            match of_more_bytes(&*doc, table, text) {
+                Tried::Settled(a) => a,
+                Tried::TooFew => by_class(&*doc, table, text, 3),
+            }
+        }
+        3 => {
+            if MANY < n {
+                return by_class(&*doc, table, text, 4);
             }
             match of_many_bytes(&*doc, table, text) {
                 Tried::Settled(a) => a,
-                Tried::TooFew => by_class(&*doc, table, text, 3),
+                Tried::TooFew => by_class(&*doc, table, text, 4),
             }
         }
         _ => of_any_bytes(&*doc, table, text),

@@ -2,7 +2,7 @@
 ghost use mathlib.Core.Path.{_≡_};
 ghost use Prim.Native.Nat.{_+_, _<_};
 ghost use lib.ListN.{length};
-ghost use Rattle.sieve.specs.Sieve.{large};
+ghost use Rattle.sieve.specs.Sieve.{filter, large};
 ghost use Rattle.reader.specs.Rounds.{Copied, Wiped, Turned, Sieving, Swept, Listing, Repeated};
 ghost use Rattle.reader.specs.Windows.{keysOf, Doubled};
 use super::windows::HALF;
@@ -36,7 +36,7 @@ fn copied(keys: &mut [u32])
 // The sieve is emptied.
 fn wiped(keys: &mut [u32])
     requires { ⌜ length (now keys) ≡ large ⌝ }
-    ensures { λ _. ⌜ Wiped (now (keys .entry)) 15376 (now (keys .exit)) ⌝ }
+    ensures { λ _. ⌜ Wiped (now (keys .entry)) filter (now (keys .exit)) ⌝ }
 {
     let mut i = HITS;
     while i < FILTER {

@@ -1,3 +1,5 @@
 pub mod Bits
 pub mod Sieve
+pub mod More
+pub mod Shown
 pub mod Plain

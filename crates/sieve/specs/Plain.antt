@@ -8,7 +8,8 @@ use lib.ListN.{length, getD}
 use borrow.Author.Needs.{needs}
 use Rattle.exact.specs.Tells.{Tells, tells-yes, tells-no}
 use Rattle.sieve.specs.Bits.{On, Sets}
-use Rattle.sieve.specs.Sieve.{hits, broken, seen, again, filter, large, classOf, class-low, class-small, Mark, mark, Has, has-here, has-later, Double, double-here, double-later, Sieved, Steps, Flags, flag-framed, flag-seen, flag-found}
+use Rattle.sieve.specs.Sieve.{hits, broken, seen, again, filter, large, classOf, class-low, Mark, mark, Has, has-here, has-later, Double, double-here, double-later, Sieved, Steps, Flags, flag-framed, flag-seen, flag-found}
+use Rattle.sieve.specs.Shown.{class-small}
 
 -- ASKED: the sieve has no lists
 pub record Listless (S : List ℕ) (h : ℕ) : Type 0 where
@@ -70,7 +71,7 @@ module _ (S : List ℕ) (h : ℕ) (a : Listless S h) where
   pub plain-class : (c : ℕ) → c ≡ classOf h → (length S ≡ large) × (c < 131072)
   plain-class c e = (a .long, class-small h c e)
 
-  pub plain-room : (c : ℕ) → c ≡ classOf h → (seen + c / 32 < length S) × (7184 < 4294967296)
+  pub plain-room : (c : ℕ) → c ≡ classOf h → (seen + c / 32 < length S) × (seen < 4294967296)
   plain-room c e = (let l = class-small h c e in let m = a .long in omega arith, omega arith)
 
 pub listless : (S : List ℕ) (h w : ℕ) → length S ≡ large → h < 4294967296 → w ≡ getD S broken 0 → w ≡ 2 → Listless S h

@@ -5,42 +5,46 @@ ghost use lib.ListN.{length, getD};
 ghost use Rattle.exact.specs.Tells.{Tells};
 ghost use Rattle.sieve.specs.Bits.{On, Sets};
 ghost use Rattle.sieve.specs.Plain.{Listless};
-ghost use Rattle.sieve.specs.Sieve.{large, lists, broken, classOf, listAt, Flags, NearBelow, Owning, Owned, Begun, Steps};
+ghost use Rattle.sieve.specs.Sieve.{large, lists, broken, classOf, listAt, Flags, Steps};
+ghost use Rattle.sieve.specs.Shown.{NearBelow, Owning, Owned, Begun};
 
 // The log of keys stands before the sieve in one room.
 pub const LOG: usize = 6564;
 
 // Whether keys are sieved, or noted in the log; and how often they were sieved before.
-pub const MODE: usize = 6564;
+pub const MODE: usize = LOG;
 
-pub const ROUND: usize = 6565;
+pub const ROUND: usize = LOG + 1;
 
 // How many keys were found again.
-pub const HITS: usize = 6566;
+pub const HITS: usize = LOG + 2;
 
 // All objects met have lower rows.
-pub const TOP: usize = 6567;
+pub const TOP: usize = LOG + 3;
 
 // 1 if an object was lost, 2 if there are no lists.
-pub const BROKEN: usize = 6568;
+pub const BROKEN: usize = LOG + 4;
 
 const BITS: usize = 2;
 
 // The lists of the depths: the object's row and one more, how many keys, and their hashes.
-pub const LISTS: usize = 6572;
+pub const LISTS: usize = LOG + 8;
 
 const DEPTHS: usize = 34;
 
 const KEYS: usize = 16;
 
+// The words of a run of bits.
+const WORDS: usize = 4096;
+
 // The runs of bits: seen, and found again; and the filter of keys to look at.
-pub const SEEN: usize = 7184;
+pub const SEEN: usize = LISTS + DEPTHS * (KEYS + 2);
 
-pub const AGAIN: usize = 11280;
+pub const AGAIN: usize = SEEN + WORDS;
 
-pub const FILTER: usize = 15376;
+pub const FILTER: usize = AGAIN + WORDS;
 
-pub const LARGE: usize = 19472;
+pub const LARGE: usize = FILTER + WORDS;
 
 // A word of the room, as a number.
 fn word(keys: &[u32], i: usize) -> usize

@@ -9,6 +9,7 @@ use lib.ListN.{length, take, replicate}
 use lib.Seq.{take-nil}
 use borrow.Author.Needs.{needs}
 use Rattle.language.specs.Strings.{keybyte}
+use Rattle.language.specs.Answered.{limit}
 use Rattle.exact.specs.Class.{is}
 use Rattle.exact.specs.Place.{peek}
 use Rattle.characters.specs.declared.Reading.{Reading}
@@ -20,6 +21,7 @@ use Rattle.spelt.specs.declared.spelling.Given.{Given}
 use Rattle.spelt.specs.declared.spelling.Given.the-variants as given
 use Rattle.spelt.specs.Texts.{spelled}
 use Rattle.spelt.specs.Spelling.{Spellable, Gave, Nexts, Begins, weight, rest-tail, begin-bare, step}
+use Rattle.spelt.specs.Standing.{further, Spells, Standing, standing-next, standing-low}
 use Rattle.spelt.specs.Left.{key-more, key-over}
 use Rattle.spelt.specs.Reading.{Keyed, keyed-low, Reads, reads-able, reads-first, reads-end, gave, others, reads-is, reads-on, Bare, bare-of, bare}
 
@@ -102,7 +104,18 @@ module _ (doc : List ℕ) (at q f : ℕ) where
               low = mod-lt (f * h + h / 65536 + b) (omega arith);
             })
 
-pub ruleset hashing = (keyed-low, hashing-first, hashing-able, hashing-low, hashing-full, hashing-done, hashing-less, hashing-more, needs)
+    pub hashing-spells : Spells doc p
+    hashing-spells = record { room = room; able = hashing-able }
+
+    -- a byte that stands as it is
+    module _ (v : ℕ) (y : Standing doc p v) (l : v < 256) where
+      pub hashing-further : p .at < limit
+      hashing-further = standing-low doc p v y l hashing-spells
+
+      pub hashing-stood : 0 < left → (h′ : ℕ) (n : Spelling) → h′ ≡ (f * h + h / 65536 + v) % 4294967296 → n ≡ further p → Hashing doc at q f room n h′ (left - 1)
+      hashing-stood m h′ n e i = rw i (hashing-more room (given.Byte v (further p)) (standing-next doc p v y l room) v (further p) refl refl m h′ e)
+
+pub ruleset hashing = (keyed-low, hashing-first, hashing-able, hashing-low, hashing-full, hashing-done, hashing-more, hashing-spells, hashing-further, hashing-stood, needs)
 
 -- ---- of a bare key, as it stands
 

@@ -13,7 +13,9 @@ use rooms::Cursor;
 pub use spelling::Given;
 pub use spelling::Spelling;
 pub use spelling::begin;
+pub use spelling::further;
 pub use spelling::next;
+pub use spelling::standing;
 
 // So many bytes of a text are in its hash: long keys are few, and those that share so many are told apart in another way.
 const BYTES: usize = 4096;
@@ -63,16 +65,23 @@ fn quoted_hash(doc: &[u8], at: usize, object: usize, factor: usize) -> usize
     let mut h = object;
     let mut left = BYTES;
     while 0 < left {
-        match next(&*doc, &mut room, s) {
-            Given::End => {
-                return h;
-            }
-            Given::Byte(b, n) => {
-                h = turned(h, factor, b);
-                s = n;
+        let v = standing(&*doc, s);
+        if v < 256 {
+            h = turned(h, factor, v as u8);
+            s = further(s);
+            left -= 1;
+        } else {
+            match next(&*doc, &mut room, s) {
+                Given::End => {
+                    return h;
+                }
+                Given::Byte(b, n) => {
+                    h = turned(h, factor, b);
+                    s = n;
+                    left -= 1;
+                }
             }
         }
-        left -= 1;
     }
     h
 }

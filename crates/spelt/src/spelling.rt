@@ -1,12 +1,13 @@
 // The text of a key, read from the document again a byte at a time: bytes as they stand, and those of an escape or a character of several bytes from a room for one piece.
 ghost use mathlib.Core.Path.{_≡_};
 ghost use mathlib.Core.Bool.{false};
-ghost use Prim.Native.Nat.{_+_, _≤_};
+ghost use Prim.Native.Nat.{_+_, _≤_, _<_};
 ghost use Rattle.exact.specs.Class.{is};
 ghost use Rattle.exact.specs.Place.{peek};
 ghost use Rattle.language.specs.Strings.{lettered};
 ghost use Rattle.language.specs.Answered.{limit};
 ghost use Rattle.spelt.specs.Spelling.{Spellable, Nexts, Begins, Pieced};
+ghost use Rattle.spelt.specs.Standing.{further, Spells, Standing};
 use characters::Read;
 use characters::Reading;
 use characters::Took;
@@ -217,6 +218,45 @@ fn fresh(doc: &[u8], room: &mut [u8], s: Spelling) -> Given
             }
             piece(&*doc, room, s, b)
         }
+    }
+}
+
+// The next byte of the text, if it stands in the document as it is; or 256. Most do, and are passed without a room.
+pub fn standing(doc: &[u8], s: Spelling) -> usize
+    requires { ⌜ Spells (now doc) s ⌝ }
+    ensures { λ r. ⌜ Standing (now (doc .entry)) s r ⌝ }
+{
+    if s.from < s.to {
+        return 256;
+    }
+    let quote = s.quote;
+    match (Reading { at: s.at }).byte(&*doc) {
+        Took::Over => 256,
+        Took::Byte(b, _) => {
+            if quote == 0 {
+                if is_key(b as u32) {
+                    return b as usize;
+                }
+                return 256;
+            }
+            if is_plain(b, quote) {
+                return b as usize;
+            }
+            256
+        }
+    }
+}
+
+// The text behind such a byte.
+pub fn further(s: Spelling) -> Spelling
+    requires { ⌜ s .at < limit ⌝ }
+    ensures { λ r. ⌜ r ≡ further s ⌝ }
+{
+    Spelling {
+        at: s.at + 1,
+        quote: s.quote,
+        from: 0,
+        to: 0,
     }
 }
 

@@ -21,7 +21,7 @@ use Rattle.fields.specs.Puts.{Puts}
 use Rattle.fields.specs.Rows.{kept-value}
 use Rattle.fields.specs.Fields.{Field}
 use Rattle.fields.specs.Ends.{endBelow, holds-end}
-use Rattle.fields.specs.Spread.{widest-is}
+use Rattle.stored.specs.Parts.{widest-is}
 use Rattle.fields.specs.Measured.{Measured}
 
 module _ {table : List ℕ} {rows : ℕ} {text : List ℕ} where

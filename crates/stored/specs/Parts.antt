@@ -13,6 +13,11 @@ use borrow.Author.Tests.{le-leb, lt-leb}
 use Rattle.language.specs.Kind.{pick}
 use Rattle.stored.specs.Form.{tagged, head, widest, PART, parted, cut, inside}
 
+-- as a number
+pub widest-is : widest ≡ 65535
+unfolding widest
+widest-is = refl
+
 pub widest-some : 0 < widest
 unfolding widest
 widest-some = omega arith

@@ -36,6 +36,9 @@ module _ (stored : List ℕ) (a stop : ℕ) (w : Lies stored a stop) (b : Bool) 
     pub field-few : a ≤ longest
     field-few = omega (arith, w .order, w .few)
 
+    pub field-inside : a < length stored
+    field-inside = omega (arith, field-begins)
+
     module _ (e : ℕ) (f : Behind stored a e) where
       pub field-whole : Field stored a e
       field-whole = whole-field stored w (tells-yes b h t) f
@@ -43,7 +46,11 @@ module _ (stored : List ℕ) (a stop : ℕ) (w : Lies stored a stop) (b : Bool) 
       pub field-told : (P : Tree → Type 0) (q : Tested) → Tests stored (One P) a e q → Tests stored (One P) a stop q
       field-told P q z = field-tests stored P a e stop (f .is) (let y = tells-yes b h t in omega (arith, f .is, y .ends)) q z
 
-pub ruleset fielding = (field-none, field-begins, field-few, field-whole, field-told, needs)
+-- a scalar's tag
+pub tag-low : (stored : List ℕ) (a : ℕ) → getD stored a 0 < 8 → NoContainer stored a
+tag-low stored a l = record { no-array = λ e. omega arith; no-object = λ e. omega arith }
+
+pub ruleset fielding = (field-none, field-begins, field-few, field-inside, field-whole, field-told, tag-low, needs)
 
 -- ---- a key, and a scalar
 

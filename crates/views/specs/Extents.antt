@@ -8,14 +8,10 @@ use lib.ListN.{length, getD, take, drop, length-append, length-drop, take-append
 use lib.Seq.{slice, length-slice, drop-cons, take-at, drop-at, length-take-le}
 use Rattle.language.specs.Lent.{lent}
 use Rattle.stored.specs.Form.{tagged, head, widest, PART, cut}
-use Rattle.stored.specs.Parts.{Fields, field-apart, cut-short, cut-long, cut-length}
+use Rattle.stored.specs.Parts.{widest-is, Fields, field-apart, cut-short, cut-long, cut-length}
 use Rattle.stored.specs.Bytes.{At, at-left, at-right, at-byte, at-join, at-as, at-place, slice-at}
 use Rattle.views.specs.declared.parts.Span.{Span}
 use Rattle.views.specs.declared.parts.Span.the-variants.{Of, Nothing}
-
-widest-is : widest ≡ 65535
-unfolding widest
-widest-is = refl
 
 module _ (v : List ℕ) where
   -- the length that the head at a place tells

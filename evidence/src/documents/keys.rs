@@ -40,18 +40,25 @@ pub fn shortest(count: usize) -> String {
 /// A number of keys of the first row's object, by which the library tells keys apart.
 struct Number {
     factor: u32,
+    /// How often the upper half of the sum so far is added to it.
+    halves: u32,
     shift: u32,
     many: u32,
 }
 
 /// The chain, as crates/places picks chains.
-const CHAIN: Number = Number { factor: 31, shift: 20, many: 1 << 12 };
-/// The class in the first round, as crates/notes and crates/sieve have it; only the first 256 bytes are in it.
-const CLASS: Number = Number { factor: 2_834_435_763, shift: 15, many: 1 << 17 };
+const CHAIN: Number = Number { factor: 31, halves: 0, shift: 20, many: 1 << 12 };
+/// The class in the first round, as crates/spelt, crates/notes and crates/sieve have it.
+const CLASS: Number = Number { factor: 2_834_435_763, halves: 1, shift: 15, many: 1 << 17 };
+/// So many bytes of a text are in a hash.
+const HASHED: usize = 4_096;
 
 impl Number {
     fn fold(&self, start: u32, key: &[u8]) -> u32 {
-        key.iter().fold(start, |sum, byte| sum.wrapping_mul(self.factor).wrapping_add(u32::from(*byte)))
+        key.iter().fold(start, |sum, &byte| {
+            let half = self.halves * (sum >> 16);
+            sum.wrapping_mul(self.factor).wrapping_add(half).wrapping_add(u32::from(byte))
+        })
     }
 
     fn told(&self, folded: u32) -> u32 {
@@ -119,9 +126,9 @@ pub fn of_one_class(most: usize) -> String {
     object(CLASS.zero(6), most)
 }
 
-/// Pairs of keys that have one hash in every round, whatever its odd factor is: the two differ by 64 in each of 64 letters, by
-/// the signs of Thue and Morse, and the product of x - 1, x² - 1, up to x³² - 1 has 26 factors of two.
-pub fn of_one_hash(most: usize) -> String {
+/// Pairs of keys that a sum of products does not tell apart, whatever its odd factor is: the two differ by 64 in each of 64
+/// letters, by the signs of Thue and Morse, and the product of x - 1, x² - 1, up to x³² - 1 has 26 factors of two.
+pub fn of_one_sum(most: usize) -> String {
     object((0..1 << 18).map(|i| lettered(i, 3)).flat_map(|before| ends().map(|end| [&before[..], &end].concat())), most)
 }
 
@@ -131,7 +138,7 @@ fn ends() -> [Vec<u8>; 2] {
 }
 
 /// The same, all of one chain too. Their marks are two: those of the last 32 letters.
-pub fn of_one_hash_and_chain(most: usize) -> String {
+pub fn of_one_sum_and_chain(most: usize) -> String {
     let ends = ends();
     let power = (0..64).fold(1u32, |power, _| power.wrapping_mul(CHAIN.factor));
     let behind = CHAIN.fold(0, &ends[0]);
@@ -142,14 +149,14 @@ pub fn of_one_hash_and_chain(most: usize) -> String {
 
 /// The same with the 64 letters in front, so that half of the keys share them, all of them of two marks, and of so few chains
 /// that each is long.
-pub fn of_one_hash_and_mark(most: usize) -> String {
+pub fn of_one_sum_and_mark(most: usize) -> String {
     let begins = ends();
     let before = CHAIN.fold(0, &begins[0]);
     let behind = (0..1usize << 18).map(|i| marked(i, 6)).filter(|end| CHAIN.told(CHAIN.fold(before, end)) < 100);
     object(behind.flat_map(|end| begins.clone().map(|begin| [begin, end.clone()].concat())), most)
 }
 
-/// Keys of 264 bytes that differ in their last eight alone, behind all that is in a hash.
+/// Keys of 264 bytes that differ in their last eight alone.
 pub fn of_one_beginning(most: usize) -> String {
     object((0..most / 264).map(|i| format!("{:-<256}{i:08}", "").into_bytes()), most)
 }
@@ -160,6 +167,26 @@ pub fn of_one_beginning_and_mark(most: usize) -> String {
     let before = CHAIN.fold(0, &begin);
     let ends = (0..1usize << 18).map(|i| marked(i, 6)).filter(|end| CHAIN.told(CHAIN.fold(before, end)) < 100);
     object(ends.map(|end| [&begin[..], &end].concat()), most)
+}
+
+/// Keys that differ behind all that is in a hash, so that each round's is the same for all; as they stand, and in quotes.
+pub fn of_one_hash(most: usize) -> String {
+    object((0..most / HASHED).map(|i| format!("{:-<HASHED$}{i:04}", "").into_bytes()), most)
+}
+
+pub fn of_one_hash_in_quotes(most: usize) -> String {
+    object((0..most / HASHED).map(|i| format!("\"{:-<HASHED$}{i:04}\"", "").into_bytes()), most)
+}
+
+/// So many keys of three letters in an object below 31 arrays; and an array of strings there, of as many bytes.
+pub fn below_arrays(count: usize) -> [String; 2] {
+    let below = |open: &str, shut: &str, parts: &mut dyn Iterator<Item = String>| {
+        let parts = parts.collect::<Vec<_>>().join(", ");
+        format!("{}{open}{parts}{shut}{}\n", "[".repeat(31), "]".repeat(31))
+    };
+    let key = |i| String::from_utf8_lossy(&lettered(i, 3)).into_owned();
+    let object = below("{", "}", &mut (0..count).map(|i| format!("{}: 1", key(i))));
+    [object, below("[", "]", &mut (0..count).map(|i| format!("\"{}-\"", key(i))))]
 }
 
 /// The same lines, the last first.
@@ -174,5 +201,5 @@ pub fn others(object: &str) -> String {
 
 /// The same lines as strings of an array: as many bytes to judge, and no keys.
 pub fn as_array(object: &str) -> String {
-    object.lines().map(|line| format!("- \"{}\"\n", &line[4..])).collect()
+    object.lines().map(|line| format!("- \"{}\"\n", line[4..].replace('"', "-"))).collect()
 }

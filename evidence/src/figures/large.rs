@@ -1,5 +1,8 @@
 //! What a byte costs in the longest documents beside documents of 32 KB, and what large objects cost beside arrays of as many
-//! bytes: reading, storing the table, and loading that.
+//! bytes: reading, storing the table, and loading that. One document of 1 MB stands beside 32 different ones of 32 KB, each in
+//! rooms of its own: both are as many bytes, in as much memory, and neither is seen more often than the other, so that it is
+//! the length alone that tells them apart, not what a processor has learnt or keeps near of a document that it reads again
+//! and again.
 
 use super::{Bench, MANY};
 use crate::clock::Shortest;
@@ -34,19 +37,22 @@ const VERY_LARGE: f64 = 16.0;
 /// The same of keys chosen to cost the most.
 const CHOSEN: f64 = 40.0;
 
-/// The shortest times in seconds of reading a document, of storing its table and of loading that, each if there is such a thing.
+/// As many documents of 32 KB as one of 1 MB has bytes.
+const SHORT: u64 = (LONGEST / keys::SOME) as u64;
+
+/// The shortest times in seconds of reading documents, of storing their tables and of loading those, each if there is such a thing.
 #[derive(Clone, Copy)]
 pub struct Large {
-    /// Of the document, and of its stored form.
+    /// Of the documents, and of their stored forms.
     bytes: [usize; 3],
-    /// The keys of its largest object.
+    /// The keys of the largest object.
     keys: usize,
     times: [f64; 3],
     second: f64,
 }
 
 impl Large {
-    /// Nanoseconds a byte of the document, or of the stored form.
+    /// Nanoseconds a byte of the documents, or of the stored forms.
     fn a_byte(&self, what: usize) -> f64 {
         self.times[what] / self.bytes[what] as f64 * 1e9
     }
@@ -57,10 +63,10 @@ impl Large {
     }
 }
 
-/// A document and one of the same form beside which it is measured.
+/// A document and those of the same form beside which it is measured.
 pub struct Case {
     pub name: &'static str,
-    small: Vec<u8>,
+    small: Vec<Vec<u8>>,
     large: Vec<u8>,
     /// How many times as much a byte may cost, if that is known before.
     most: Option<f64>,
@@ -69,12 +75,12 @@ pub struct Case {
 /// Every shape of 32 KB and of 1 MB.
 pub fn shapes() -> impl Iterator<Item = Case> {
     let people = SHAPES.iter().map(|&(name, shape)| {
-        let [small, large] = [keys::SOME, LONGEST].map(|size| shape(&mut Rng::new(1), size).into_bytes());
-        Case { name, small, large, most: None }
+        let small = (1..=SHORT).map(|seed| shape(&mut Rng::new(seed), keys::SOME).into_bytes()).collect();
+        Case { name, small, large: shape(&mut Rng::new(1), LONGEST).into_bytes(), most: None }
     });
     let hostile = HOSTILE.iter().map(|&(name, shape)| {
-        let [small, large] = [keys::SOME, LONGEST].map(shape);
-        Case { name, small, large, most: None }
+        let small = (0..SHORT).map(|_| shape(keys::SOME)).collect();
+        Case { name, small, large: shape(LONGEST), most: None }
     });
     people.chain(hostile)
 }
@@ -85,25 +91,33 @@ pub fn objects() -> impl Iterator<Item = Case> {
         ("40,000 short ones", keys::numbered(40_000), LARGE),
         ("130,000 short ones", keys::shortest(130_000), VERY_LARGE),
     ];
-    let chosen: [(_, fn(usize) -> String); 10] = [
+    let chosen: [(_, fn(usize) -> String); 12] = [
         ("of one chain", keys::of_one_chain),
         ("of one mark", keys::of_one_mark),
         ("of one mark and one chain", keys::of_one_mark_and_chain),
         ("of 200 bytes that share their last 32", keys::of_one_end),
         ("of one class in the first round", keys::of_one_class),
-        ("two of one hash in every round", keys::of_one_hash),
-        ("two of one hash in every round, all of one chain", keys::of_one_hash_and_chain),
-        ("two of one hash in every round, all of two marks and a hundred chains", keys::of_one_hash_and_mark),
+        ("two of one sum of products", keys::of_one_sum),
+        ("two of one sum of products, all of one chain", keys::of_one_sum_and_chain),
+        ("two of one sum of products, all of two marks and a hundred chains", keys::of_one_sum_and_mark),
         ("of 264 bytes that share their first 256", keys::of_one_beginning),
         ("of 268 bytes that share their first 256, of one mark and a hundred chains", keys::of_one_beginning_and_mark),
+        ("of 4,100 bytes that share all that is in a hash", keys::of_one_hash),
+        ("the same in quotes", keys::of_one_hash_in_quotes),
     ];
     let chosen = chosen.into_iter().map(|(name, made)| (name, made(LONGEST), CHOSEN));
-    short.into_iter().chain(chosen).map(|(name, object, most)| Case {
+    let beside = |name, [object, array]: [String; 2], most| Case {
         name,
-        small: keys::as_array(&object).into_bytes(),
+        small: vec![array.into_bytes()],
         large: object.into_bytes(),
         most: Some(most),
-    })
+    };
+    let deep = [beside("130,000 short ones below 31 arrays", keys::below_arrays(130_000), VERY_LARGE)];
+    let flat = short.into_iter().chain(chosen).map(move |(name, object, most)| {
+        let array = keys::as_array(&object);
+        beside(name, [object, array], most)
+    });
+    flat.chain(deep)
 }
 
 /// What a case costs, and how many times as much a byte may cost in the larger document.
@@ -145,63 +159,95 @@ impl Costs {
     }
 }
 
+/// A document with what it is read, stored and loaded from and into.
+struct Turned<'a> {
+    doc: &'a [u8],
+    /// Its table and text, and rooms of the same size; nothing where it is refused.
+    known: (Vec<u32>, Vec<u8>),
+    rooms: (Vec<u32>, Vec<u8>),
+    form: Vec<u8>,
+    out: Vec<u8>,
+    /// The keys of its largest object.
+    keys: usize,
+}
+
+impl Turned<'_> {
+    fn rows(&self) -> usize {
+        self.known.0.len() / WORDS
+    }
+
+    fn read(&mut self, reader: &mut impl Reader) {
+        let _ = black_box(reader.read(black_box(self.doc), &mut self.rooms.0, &mut self.rooms.1));
+    }
+
+    fn store(&mut self) {
+        let lent = Lent { table: &self.known.0, rows: self.rows(), text: &self.known.1 };
+        let _ = black_box(Proved.store(black_box(&lent), &mut self.out));
+    }
+
+    fn load(&mut self) {
+        let _ = black_box(Proved.load(black_box(&self.form), &mut self.rooms.0, &mut self.rooms.1));
+    }
+}
+
 impl Bench {
     /// What a case costs, measured again where that seems to be too much. Nothing where something differs.
     pub fn costs(&mut self, case: &Case) -> Option<Costs> {
-        let (small, large) = (self.large(&case.small)?, self.large(&case.large)?);
-        let most = case.most.unwrap_or(match large.keys {
+        let large = std::slice::from_ref(&case.large);
+        let mut costs = Costs { small: self.large(&case.small)?, large: self.large(large)?, most: GROWTH };
+        costs.most = case.most.unwrap_or(match costs.large.keys {
             keys if keys > KEYS.1 => VERY_LARGE,
             keys if keys > KEYS.0 => LARGE,
             _ => GROWTH,
         });
-        let mut costs = Costs { small, large, most };
         for _ in 1..TIMES {
             if costs.good() {
                 break;
             }
             costs.small = costs.small.shorter(self.large(&case.small)?);
-            costs.large = costs.large.shorter(self.large(&case.large)?);
+            costs.large = costs.large.shorter(self.large(large)?);
         }
         Some(costs)
     }
 
-    /// A document is read, its table stored and that loaded, again and again.
-    fn large(&mut self, doc: &[u8]) -> Option<Large> {
-        let answer = self.both(doc)?;
-        let (rows, bytes) = answer.map_or((0, 0), |counts| (counts.rows, counts.text));
-        let (words, text) = (self.table[..rows * WORDS].to_vec(), self.room[..bytes].to_vec());
-        let lent = Lent { table: &words, rows, text: &text };
-        let form = if rows > 0 { self.kept(&lent)? } else { Vec::new() };
-        let (mut out, mut times) = (vec![0; form.len()], [(); 4].map(|()| Shortest::default()));
-        let Bench { clock, machine, second: reader, table, room } = self;
+    /// Documents are read, their tables stored and those loaded, again and again.
+    fn large(&mut self, docs: &[Vec<u8>]) -> Option<Large> {
+        let mut turned = docs.iter().map(|doc| self.turned(doc)).collect::<Option<Vec<_>>>()?;
+        let stored = turned.iter().any(|one| one.rows() > 0);
+        let mut times = [(); 4].map(|()| Shortest::default());
+        let Bench { clock, machine, second: reader, .. } = self;
         for round in 1..=MANY {
             let [reading, storing, loading, second] = &mut times;
-            reading.turn(machine, *clock, || {
-                let _ = black_box(Proved.read(black_box(doc), table, room));
-            });
-            second.turn(machine, *clock, || {
-                let _ = black_box(reader.read(black_box(doc), table, room));
-            });
-            if rows > 0 {
-                storing.turn(machine, *clock, || {
-                    let _ = black_box(Proved.store(black_box(&lent), &mut out));
-                });
-                loading.turn(machine, *clock, || {
-                    let _ = black_box(Proved.load(black_box(&form), table, room));
-                });
+            reading.turn(machine, *clock, || turned.iter_mut().for_each(|one| one.read(&mut Proved)));
+            second.turn(machine, *clock, || turned.iter_mut().for_each(|one| one.read(reader)));
+            if stored {
+                storing.turn(machine, *clock, || turned.iter_mut().for_each(Turned::store));
+                loading.turn(machine, *clock, || turned.iter_mut().for_each(Turned::load));
             }
             let all = times.iter().map(|time| time.all).sum::<f64>();
             if round >= FEW && all > LONG_ENOUGH || all > TOO_LONG {
                 break;
             }
         }
-        let objects = words.chunks(WORDS).filter(|row| row[0] == OBJECT);
+        let forms = turned.iter().map(|one| one.form.len()).sum();
+        let keys = turned.iter().map(|one| one.keys).max()?;
+        let [reading, storing, loading, second] = times.map(|time| time.a_call);
+        let times = if stored { [reading, storing, loading] } else { [reading, 0.0, 0.0] };
+        Some(Large { bytes: [turned.iter().map(|one| one.doc.len()).sum(), forms, forms], keys, times, second })
+    }
+
+    /// A document with its rooms, if both readers agree on it, and both stored forms of its table.
+    fn turned<'a>(&mut self, doc: &'a [u8]) -> Option<Turned<'a>> {
+        let answer = self.both(doc)?;
+        let (rows, bytes) = answer.map_or((0, 0), |counts| (counts.rows, counts.text));
+        let known = (self.table[..rows * WORDS].to_vec(), self.room[..bytes].to_vec());
+        let lent = Lent { table: &known.0, rows, text: &known.1 };
+        let form = if rows > 0 { self.kept(&lent)? } else { Vec::new() };
+        let objects = known.0.chunks(WORDS).filter(|row| row[0] == OBJECT);
         let largest = objects.map(|row| row[TEXT_TO] as usize).max().unwrap_or(0);
         // A repeated key is looked for among all, and no table tells how many there are.
         let keys = if answer.is_err_and(|no| no.number == REPEAT) { doc.len() } else { largest };
-        let [reading, storing, loading, second] = times.map(|time| time.a_call);
-        let times = if rows > 0 { [reading, storing, loading] } else { [reading, 0.0, 0.0] };
-        Some(Large { bytes: [doc.len(), form.len(), form.len()], keys, times, second })
+        Some(Turned { doc, rooms: known.clone(), known, out: vec![0; form.len()], form, keys })
     }
 
     /// The stored form of a table, if it is stored and loaded as by the second functions.

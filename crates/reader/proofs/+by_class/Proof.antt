@@ -1,4 +1,4 @@
--- `by_class` answers as the class that it comes to does; the class rises, to 3 at most.
+-- `by_class` answers as the class that it comes to does; the class rises, to 4 at most.
 use Rattle.reader.specs.Filling.{tried-answer, tried-again, tried-total}
 use borrow.Author.Needs.{needs}
 use Prim.Native.Nat.{ℕ, _-_, _<_}
@@ -11,12 +11,13 @@ use Rattle.reader.proofs.dense.Reads as dense-reads
 use Rattle.reader.proofs.of_any_bytes.Reads as of-any-bytes-reads
 use Rattle.reader.proofs.of_few_bytes.Reads as of-few-bytes-reads
 use Rattle.reader.proofs.of_many_bytes.Reads as of-many-bytes-reads
+use Rattle.reader.proofs.of_more_bytes.Reads as of-more-bytes-reads
 use Rattle.reader.proofs.of_some_bytes.Reads as of-some-bytes-reads
 use Rattle.reader.proofs.+by_class.{statement}
 use Rattle.reader.proofs.+by_class.Tie.{close}
 
 abbrev μ-by-class : Measures 3 by-class-kinds.ps ℕ
-μ-by-class κs a = 4 - a .1 .1 .1 .0
+μ-by-class κs a = 5 - a .1 .1 .1 .0
 
 abbrev by-class-at : ℕ → In 3 by-class-kinds.ps
 by-class-at t = and 3 by-class-kinds.ps (is 3 by-class-kinds.ps μ-by-class t) by-class.Pre
@@ -26,7 +27,7 @@ by-class-below t =
     and 3 by-class-kinds.ps (falls 3 by-class-kinds.ps _<_ μ-by-class t) by-class.Pre
 
 abbrev by-class-claims : ℕ → by-class-lts.Claims
-by-class-claims t = (by-class-below t, by-class.Post, of-few-bytes-reads.Asked, of-few-bytes-reads.Learnt, dense-reads.Asked, dense-reads.Learnt, of-some-bytes-reads.Asked, of-some-bytes-reads.Learnt, of-many-bytes-reads.Asked, of-many-bytes-reads.Learnt, of-any-bytes-reads.Asked, of-any-bytes-reads.Learnt)
+by-class-claims t = (by-class-below t, by-class.Post, of-few-bytes-reads.Asked, of-few-bytes-reads.Learnt, dense-reads.Asked, dense-reads.Learnt, of-some-bytes-reads.Asked, of-some-bytes-reads.Learnt, of-more-bytes-reads.Asked, of-more-bytes-reads.Learnt, of-many-bytes-reads.Asked, of-many-bytes-reads.Learnt, of-any-bytes-reads.Asked, of-any-bytes-reads.Learnt)
 
 by-class-by-class-requires : (t : ℕ) → by-class-lts.Need-by-class-requires (by-class-claims t) (by-class-at t) by-class.Post
 by-class-by-class-requires t c κs = search needs
@@ -79,6 +80,9 @@ by-class-enum-told-2 t c = search needs
 by-class-by-class-requires-4 : (t : ℕ) → by-class-lts.Need-by-class-requires-4 (by-class-claims t) (by-class-at t) by-class.Post
 by-class-by-class-requires-4 t c κs = search needs
 
+by-class-dense-requires-2 : (t : ℕ) → by-class-lts.Need-dense-requires-2 (by-class-claims t) (by-class-at t) by-class.Post
+by-class-dense-requires-2 t c κs = search needs
+
 by-class-by-class-requires-5 : (t : ℕ) → by-class-lts.Need-by-class-requires-5 (by-class-claims t) (by-class-at t) by-class.Post
 by-class-by-class-requires-5 t c κs = search needs
 
@@ -91,8 +95,8 @@ by-class-same-length-6 t c = search needs
 by-class-returns-3 : (t : ℕ) → by-class-lts.Need-returns-3 (by-class-claims t) (by-class-at t) by-class.Post
 by-class-returns-3 t c = (search (tried-answer, tried-again, needs), search (tried-total, needs))
 
-by-class-of-many-bytes-requires : (t : ℕ) → by-class-lts.Need-of-many-bytes-requires (by-class-claims t) (by-class-at t) by-class.Post
-by-class-of-many-bytes-requires t c κs = search needs
+by-class-of-more-bytes-requires : (t : ℕ) → by-class-lts.Need-of-more-bytes-requires (by-class-claims t) (by-class-at t) by-class.Post
+by-class-of-more-bytes-requires t c κs = search needs
 
 by-class-enum-known-a-3 : (t : ℕ) → by-class-lts.Need-enum-known-a-3 (by-class-claims t) (by-class-at t) by-class.Post
 by-class-enum-known-a-3 t c = search needs
@@ -103,8 +107,8 @@ by-class-enum-told-3 t c = search needs
 by-class-by-class-requires-6 : (t : ℕ) → by-class-lts.Need-by-class-requires-6 (by-class-claims t) (by-class-at t) by-class.Post
 by-class-by-class-requires-6 t c κs = search needs
 
-by-class-of-any-bytes-requires : (t : ℕ) → by-class-lts.Need-of-any-bytes-requires (by-class-claims t) (by-class-at t) by-class.Post
-by-class-of-any-bytes-requires t c κs = search needs
+by-class-by-class-requires-7 : (t : ℕ) → by-class-lts.Need-by-class-requires-7 (by-class-claims t) (by-class-at t) by-class.Post
+by-class-by-class-requires-7 t c κs = search needs
 
 by-class-same-length-7 : (t : ℕ) → by-class-lts.Need-same-length-7 (by-class-claims t) (by-class-at t) by-class.Post
 by-class-same-length-7 t c = search needs
@@ -114,6 +118,21 @@ by-class-same-length-8 t c = search needs
 
 by-class-returns-4 : (t : ℕ) → by-class-lts.Need-returns-4 (by-class-claims t) (by-class-at t) by-class.Post
 by-class-returns-4 t c = (search (tried-answer, tried-again, needs), search (tried-total, needs))
+
+by-class-of-many-bytes-requires : (t : ℕ) → by-class-lts.Need-of-many-bytes-requires (by-class-claims t) (by-class-at t) by-class.Post
+by-class-of-many-bytes-requires t c κs = search needs
+
+by-class-enum-known-a-4 : (t : ℕ) → by-class-lts.Need-enum-known-a-4 (by-class-claims t) (by-class-at t) by-class.Post
+by-class-enum-known-a-4 t c = search needs
+
+by-class-enum-told-4 : (t : ℕ) → by-class-lts.Need-enum-told-4 (by-class-claims t) (by-class-at t) by-class.Post
+by-class-enum-told-4 t c = search needs
+
+by-class-by-class-requires-8 : (t : ℕ) → by-class-lts.Need-by-class-requires-8 (by-class-claims t) (by-class-at t) by-class.Post
+by-class-by-class-requires-8 t c κs = search needs
+
+by-class-of-any-bytes-requires : (t : ℕ) → by-class-lts.Need-of-any-bytes-requires (by-class-claims t) (by-class-at t) by-class.Post
+by-class-of-any-bytes-requires t c κs = search needs
 
 by-class-same-length-9 : (t : ℕ) → by-class-lts.Need-same-length-9 (by-class-claims t) (by-class-at t) by-class.Post
 by-class-same-length-9 t c = search needs
@@ -169,6 +188,33 @@ by-class-same-length-20 t c = search needs
 by-class-returns-10 : (t : ℕ) → by-class-lts.Need-returns-10 (by-class-claims t) (by-class-at t) by-class.Post
 by-class-returns-10 t c = (search (tried-answer, tried-again, needs), search (tried-total, needs))
 
+by-class-same-length-21 : (t : ℕ) → by-class-lts.Need-same-length-21 (by-class-claims t) (by-class-at t) by-class.Post
+by-class-same-length-21 t c = search needs
+
+by-class-same-length-22 : (t : ℕ) → by-class-lts.Need-same-length-22 (by-class-claims t) (by-class-at t) by-class.Post
+by-class-same-length-22 t c = search needs
+
+by-class-returns-11 : (t : ℕ) → by-class-lts.Need-returns-11 (by-class-claims t) (by-class-at t) by-class.Post
+by-class-returns-11 t c = (search (tried-answer, tried-again, needs), search (tried-total, needs))
+
+by-class-same-length-23 : (t : ℕ) → by-class-lts.Need-same-length-23 (by-class-claims t) (by-class-at t) by-class.Post
+by-class-same-length-23 t c = search needs
+
+by-class-same-length-24 : (t : ℕ) → by-class-lts.Need-same-length-24 (by-class-claims t) (by-class-at t) by-class.Post
+by-class-same-length-24 t c = search needs
+
+by-class-returns-12 : (t : ℕ) → by-class-lts.Need-returns-12 (by-class-claims t) (by-class-at t) by-class.Post
+by-class-returns-12 t c = (search (tried-answer, tried-again, needs), search (tried-total, needs))
+
+by-class-same-length-25 : (t : ℕ) → by-class-lts.Need-same-length-25 (by-class-claims t) (by-class-at t) by-class.Post
+by-class-same-length-25 t c = search needs
+
+by-class-same-length-26 : (t : ℕ) → by-class-lts.Need-same-length-26 (by-class-claims t) (by-class-at t) by-class.Post
+by-class-same-length-26 t c = search needs
+
+by-class-returns-13 : (t : ℕ) → by-class-lts.Need-returns-13 (by-class-claims t) (by-class-at t) by-class.Post
+by-class-returns-13 t c = (search (tried-answer, tried-again, needs), search (tried-total, needs))
+
 pub +by-class-spec : {M : Type 1} → statement M
 +by-class-spec = close μ-by-class λ t. by-class-lts.spec (by-class-claims t)
     (by-class-at t)
@@ -190,18 +236,24 @@ pub +by-class-spec : {M : Type 1} → statement M
     (by-class-enum-known-a-2 t)
     (by-class-enum-told-2 t)
     (by-class-by-class-requires-4 t)
+    (by-class-dense-requires-2 t)
     (by-class-by-class-requires-5 t)
     (by-class-same-length-5 t)
     (by-class-same-length-6 t)
     (by-class-returns-3 t)
-    (by-class-of-many-bytes-requires t)
+    (by-class-of-more-bytes-requires t)
     (by-class-enum-known-a-3 t)
     (by-class-enum-told-3 t)
     (by-class-by-class-requires-6 t)
-    (by-class-of-any-bytes-requires t)
+    (by-class-by-class-requires-7 t)
     (by-class-same-length-7 t)
     (by-class-same-length-8 t)
     (by-class-returns-4 t)
+    (by-class-of-many-bytes-requires t)
+    (by-class-enum-known-a-4 t)
+    (by-class-enum-told-4 t)
+    (by-class-by-class-requires-8 t)
+    (by-class-of-any-bytes-requires t)
     (by-class-same-length-9 t)
     (by-class-same-length-10 t)
     (by-class-returns-5 t)
@@ -220,3 +272,12 @@ pub +by-class-spec : {M : Type 1} → statement M
     (by-class-same-length-19 t)
     (by-class-same-length-20 t)
     (by-class-returns-10 t)
+    (by-class-same-length-21 t)
+    (by-class-same-length-22 t)
+    (by-class-returns-11 t)
+    (by-class-same-length-23 t)
+    (by-class-same-length-24 t)
+    (by-class-returns-12 t)
+    (by-class-same-length-25 t)
+    (by-class-same-length-26 t)
+    (by-class-returns-13 t)

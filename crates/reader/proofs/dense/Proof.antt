@@ -1,19 +1,18 @@
--- `dense` counts no more ends than bytes, so its products are small.
-use mathlib.Core.Logic.{⊎-elim}
+-- `dense` guesses no more than two rows at a byte, so its products are small.
+use Prim.Native.Nat.{_-_, _*_, _≤_}
 use native.Mathlib.Omega.{arith}
 use native.Mathlib.Nat.{mul-le-mul}
-use Prim.Native.Nat.{_-_, _≤_}
 use lib.ListN.{length}
-use borrow.Author.Needs.{needs}
 use Rattle.language.specs.Answered.{limit}
+use borrow.Author.Needs.{needs}
 use Rattle.reader.proofs.dense.Statement.{statement}
 use Rattle.reader.proofs.dense.Tie as tie
 
 abbrev Inv-loop : tie.InvT-loop
-Inv-loop doc n ends₀ i₀ ends i = (ends ≤ i) × (i ≤ 1024)
+Inv-loop doc rows n guessed₀ parts₀ a₀ guessed parts a = (guessed ≤ 128 * parts) × (parts ≤ 8) × (a ≤ limit * parts)
 
 abbrev μ-loop : tie.MeasureT-loop
-μ-loop doc n ends₀ i₀ ends i = 1024 - i
+μ-loop doc rows n guessed₀ parts₀ a₀ guessed parts a = 8 - parts
 
 mul-if1 : tie.Need-mul-if1 Inv-loop μ-loop
 mul-if1 c = search needs
@@ -24,29 +23,35 @@ returns c = search needs
 loop-holds : tie.Need-loop-holds Inv-loop μ-loop
 loop-holds c = search needs
 
-shared-slice-read-row-at : tie.Need-shared-slice-read-row-at Inv-loop μ-loop
-shared-slice-read-row-at c = search needs
+add-if2 : tie.Need-add-if2 Inv-loop μ-loop
+add-if2 c = search needs
 
-row-at-requires : tie.Need-row-at-requires Inv-loop μ-loop
-row-at-requires c κs = search needs
+rows-in-requires : tie.Need-rows-in-requires Inv-loop μ-loop
+rows-in-requires c κs = search needs
 
-add-ends : tie.Need-add-ends Inv-loop μ-loop
-add-ends c = search needs
+add-guessed : tie.Need-add-guessed Inv-loop μ-loop
+add-guessed c = search needs
 
-add-i : tie.Need-add-i Inv-loop μ-loop
-add-i c = search needs
+add-parts : tie.Need-add-parts Inv-loop μ-loop
+add-parts c = search needs
+
+add-a : tie.Need-add-a Inv-loop μ-loop
+add-a c = search needs
 
 loop-less : tie.Need-loop-less Inv-loop μ-loop
 loop-less c = search needs
 
 loop-again : tie.Need-loop-again Inv-loop μ-loop
-loop-again c = ⊎-elim (λ w. search needs) (λ w. search needs) (c .if3 .came)
+loop-again c = search needs
 
 mul-result : tie.Need-mul-result Inv-loop μ-loop
 mul-result c = search needs
 
 mul-result-2 : tie.Need-mul-result-2 Inv-loop μ-loop
-mul-result-2 c = omega (arith, mul-le-mul {n₁ = c .before .loop .ends} {m₁ = length (c .before .before .before .before .args .doc .now)} {n₂ = 1024} {m₂ = limit} (omega arith) (omega arith))
+mul-result-2 c = omega (arith, mul-le-mul {n₁ = c .before .before .before .before .args .rows * 64} {m₁ = c .before .loop .parts} {n₂ = 108800} {m₂ = 8} (omega arith) (omega arith))
+
+mul-result-3 : tie.Need-mul-result-3 Inv-loop μ-loop
+mul-result-3 c = omega (arith, mul-le-mul {n₁ = c .before .loop .guessed} {m₁ = length (c .before .before .before .before .args .doc .now)} {n₂ = 1024} {m₂ = limit} (omega arith) (omega arith))
 
 returns-2 : tie.Need-returns-2 Inv-loop μ-loop
 returns-2 c = search needs
@@ -60,12 +65,14 @@ dense-spec =
     mul-if1
     returns
     loop-holds
-    shared-slice-read-row-at
-    row-at-requires
-    add-ends
-    add-i
+    add-if2
+    rows-in-requires
+    add-guessed
+    add-parts
+    add-a
     loop-less
     loop-again
     mul-result
     mul-result-2
+    mul-result-3
     returns-2)

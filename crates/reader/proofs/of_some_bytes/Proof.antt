@@ -1,4 +1,4 @@
--- `of_some_bytes` lends a log with room for 850 keys.
+-- `of_some_bytes` lends a log with room for 256 keys.
 use Rattle.reader.specs.Filling.{some-bytes, texted}
 use mathlib.Core.Path.{refl}
 use native.Mathlib.Omega.{arith}
@@ -18,7 +18,7 @@ slice-aggregate-attempt-3 c = search needs
 attempt-requires : tie.Need-attempt-requires
 attempt-requires c κs =
     let s = c .before .before .before .before .before .before .before .before in
-    texted (s .args .doc .now) 425 1704 15300 some-bytes (omega (arith, s .pre)) refl (omega arith) (omega arith) (s .pre)
+    texted (s .args .doc .now) 128 516 4608 some-bytes (omega (arith, s .pre)) refl (omega arith) (omega arith) (s .pre)
 
 same-length : tie.Need-same-length
 same-length c = search needs

@@ -1,5 +1,5 @@
 -- `first` begins the list of an object. Assumes nothing.
-use Rattle.sieve.specs.Sieve.{beginning}
+use Rattle.sieve.specs.Shown.{beginning}
 use borrow.Author.Needs.{needs}
 use Rattle.sieve.proofs.first.Statement.{statement}
 use Rattle.sieve.proofs.first.Tie as tie

@@ -1,5 +1,5 @@
 -- `flag` sets the bit of a key found again, and counts it. Assumes nothing.
-use Rattle.sieve.specs.Sieve.{flagging}
+use Rattle.sieve.specs.Shown.{flagging}
 use borrow.Author.Needs.{needs}
 use Rattle.sieve.proofs.flag.Statement.{statement}
 use Rattle.sieve.proofs.flag.Tie as tie

@@ -1,5 +1,5 @@
 -- `known` takes one key more of an object met before. Assumes nothing.
-use Rattle.sieve.specs.Sieve.{placing, placed-own}
+use Rattle.sieve.specs.Shown.{placing, placed-own}
 use borrow.Author.Needs.{needs}
 use borrow.Author.Tests.{eqb-true}
 use borrow.Author.Needs.{needs}

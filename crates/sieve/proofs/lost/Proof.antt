@@ -1,5 +1,5 @@
 -- `lost` takes every key for one found again. Assumes nothing.
-use Rattle.sieve.specs.Sieve.{losing}
+use Rattle.sieve.specs.Shown.{losing}
 use borrow.Author.Needs.{needs}
 use Rattle.sieve.proofs.lost.Statement.{statement}
 use Rattle.sieve.proofs.lost.Tie as tie

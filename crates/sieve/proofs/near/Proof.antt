@@ -1,6 +1,6 @@
 -- `near` tells whether a hash is among the first of a list. Assumes nothing.
 use Prim.Native.Nat.{_-_, _≤_}
-use Rattle.sieve.specs.Sieve.{NearBelow, nearing}
+use Rattle.sieve.specs.Shown.{NearBelow, nearing}
 use Rattle.sieve.proofs.near.Statement.{statement}
 use Rattle.sieve.proofs.near.Tie as tie
 

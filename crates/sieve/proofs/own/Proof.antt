@@ -1,5 +1,5 @@
 -- `own` puts a key into its list, or finds it again. Assumes nothing.
-use Rattle.sieve.specs.Sieve.{owning}
+use Rattle.sieve.specs.Shown.{owning}
 use borrow.Author.Needs.{needs}
 use Rattle.sieve.proofs.own.Statement.{statement}
 use Rattle.sieve.proofs.own.Tie as tie

@@ -1,5 +1,5 @@
 -- `placed` takes one key more of an object. Assumes nothing.
-use Rattle.sieve.specs.Sieve.{placing}
+use Rattle.sieve.specs.Shown.{placing}
 use borrow.Author.Needs.{needs}
 use Rattle.sieve.proofs.placed.Statement.{statement}
 use Rattle.sieve.proofs.placed.Tie as tie

@@ -1,6 +1,6 @@
 -- `sieve` takes one key more. Assumes nothing.
 use Rattle.sieve.specs.Plain.{listless}
-use Rattle.sieve.specs.Sieve.{placing, unbroken, one-more}
+use Rattle.sieve.specs.Shown.{placing, unbroken, one-more}
 use borrow.Author.Needs.{needs}
 use Rattle.sieve.proofs.sieve.Statement.{statement}
 use Rattle.sieve.proofs.sieve.Tie as tie

@@ -15,6 +15,27 @@ begin-requires c κs = search hashing
 loop-holds : tie.Need-loop-holds Inv-loop μ-loop
 loop-holds c = search hashing
 
+standing-requires : tie.Need-standing-requires Inv-loop μ-loop
+standing-requires c κs = search hashing
+
+cast-turned : tie.Need-cast-turned Inv-loop μ-loop
+cast-turned c = search hashing
+
+turned-requires : tie.Need-turned-requires Inv-loop μ-loop
+turned-requires c κs = search hashing
+
+further-requires : tie.Need-further-requires Inv-loop μ-loop
+further-requires c κs = search hashing
+
+sub-left : tie.Need-sub-left Inv-loop μ-loop
+sub-left c = search hashing
+
+loop-less : tie.Need-loop-less Inv-loop μ-loop
+loop-less c = search hashing
+
+loop-again : tie.Need-loop-again Inv-loop μ-loop
+loop-again c = search hashing
+
 slice-aggregate-next : tie.Need-slice-aggregate-next Inv-loop μ-loop
 slice-aggregate-next c = search hashing
 
@@ -30,17 +51,17 @@ returns c = search hashing
 enum-known-b : tie.Need-enum-known-b Inv-loop μ-loop
 enum-known-b c = search hashing
 
-turned-requires : tie.Need-turned-requires Inv-loop μ-loop
-turned-requires c κs = search hashing
+turned-requires-2 : tie.Need-turned-requires-2 Inv-loop μ-loop
+turned-requires-2 c κs = search hashing
 
-sub-left : tie.Need-sub-left Inv-loop μ-loop
-sub-left c = search hashing
+sub-left-2 : tie.Need-sub-left-2 Inv-loop μ-loop
+sub-left-2 c = search hashing
 
-loop-less : tie.Need-loop-less Inv-loop μ-loop
-loop-less c = search hashing
+loop-less-2 : tie.Need-loop-less-2 Inv-loop μ-loop
+loop-less-2 c = search hashing
 
-loop-again : tie.Need-loop-again Inv-loop μ-loop
-loop-again c = search hashing
+loop-again-2 : tie.Need-loop-again-2 Inv-loop μ-loop
+loop-again-2 c = search hashing
 
 returns-2 : tie.Need-returns-2 Inv-loop μ-loop
 returns-2 c = search hashing
@@ -53,13 +74,20 @@ quoted-hash-spec =
     μ-loop
     begin-requires
     loop-holds
+    standing-requires
+    cast-turned
+    turned-requires
+    further-requires
+    sub-left
+    loop-less
+    loop-again
     slice-aggregate-next
     next-requires
     enum-told
     returns
     enum-known-b
-    turned-requires
-    sub-left
-    loop-less
-    loop-again
+    turned-requires-2
+    sub-left-2
+    loop-less-2
+    loop-again-2
     returns-2)

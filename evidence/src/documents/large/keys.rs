@@ -69,15 +69,17 @@ fn repeats(place: usize) -> Meant {
 
 /// Keys chosen to cost the most, without a repeated one, with one in the last line, and with one in the middle.
 fn chosen() -> impl Iterator<Item = (String, Make)> {
-    const CHOSEN: [(&str, fn(usize) -> String); 10] = [
+    const CHOSEN: [(&str, fn(usize) -> String); 12] = [
         ("of one chain", keys::of_one_chain),
         ("of one mark", keys::of_one_mark),
         ("of one mark and one chain", keys::of_one_mark_and_chain),
         ("that share their last 32 bytes", keys::of_one_end),
         ("of one class", keys::of_one_class),
+        ("of one sum", keys::of_one_sum),
+        ("of one sum and one chain", keys::of_one_sum_and_chain),
+        ("of one sum and two marks", keys::of_one_sum_and_mark),
         ("of one hash", keys::of_one_hash),
-        ("of one hash and one chain", keys::of_one_hash_and_chain),
-        ("of one hash and two marks", keys::of_one_hash_and_mark),
+        ("of one hash, in quotes", keys::of_one_hash_in_quotes),
         ("that share their first 256 bytes", keys::of_one_beginning),
         ("that share their first 256 bytes, of one mark", keys::of_one_beginning_and_mark),
     ];

@@ -10,10 +10,10 @@ use Rattle.cutkeys.proofs.after.chained_behind.Statement.{statement}
 use Rattle.cutkeys.proofs.after.chained_behind.Tie as tie
 
 abbrev Inv-loop : tie.InvT-loop
-Inv-loop stored starts d froms tos heads links n from stop k₀ k = Going (wholeKeys stored starts d stop) (Touched (wholeKeys stored starts d stop) stored froms tos n) from (k .place) × Seen′ stored starts d stop k
+Inv-loop stored starts d text froms tos heads links n from stop k₀ k = Going (wholeKeys stored starts d stop) (Touched (wholeKeys stored starts d stop) text froms tos n) from (k .place) × Seen′ stored starts d stop k
 
 abbrev μ-loop : tie.MeasureT-loop
-μ-loop stored starts d froms tos heads links n from stop k₀ k = stop - k .place
+μ-loop stored starts d text froms tos heads links n from stop k₀ k = stop - k .place
 
 seek-requires : tie.Need-seek-requires Inv-loop μ-loop
 seek-requires c κs = search (finding, trailing)
@@ -25,7 +25,7 @@ in-chains-requires : tie.Need-in-chains-requires Inv-loop μ-loop
 in-chains-requires c κs =
     let i = c .before .before .loop .inv in
     let p = found-part _ _ _ _ _ (i .1) (c .if1 .taken) in
-    (c .before .before .before .before .before .before .before .before .before .pre .0, p)
+    (c .before .before .before .before .before .before .before .before .before .before .pre .0, p)
 
 enum-told : tie.Need-enum-told Inv-loop μ-loop
 enum-told c = search (finding, trailing)
@@ -53,11 +53,11 @@ loop-less c = search (finding, trailing)
 
 loop-again : tie.Need-loop-again Inv-loop μ-loop
 loop-again c =
-    let a = c .before .before .before .before .before .before .before .before .before .before .before .before .before in
+    let a = c .before .before .before .before .before .before .before .before .before .before .before .before .before .before in
     let i = c .before .before .before .before .before .before .loop .inv in
     let l = c .before .before .before .before .if1 .taken in
     let y = c .before .before .before .in-chains in
-    let t = found-sits _ _ _ _ _ (i .1) l (a .args .froms .now) (a .args .tos .now) (a .args .n) (y .result) (y .ensures) in
+    let t = found-sits _ _ _ _ _ (i .1) l (a .args .text .now) (a .args .froms .now) (a .args .tos .now) (a .args .n) (y .result) (y .ensures) in
     let f = trailed-past _ _ _ _ _ _ _ (i .0) l (y .result) t in
     let q = found-next _ _ _ _ _ (i .1) l _ (c .seek2 .ensures) in
     (search (f, q, needs), c .seek2 .ensures .seen)

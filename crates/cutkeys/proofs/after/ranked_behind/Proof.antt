@@ -10,10 +10,10 @@ use Rattle.cutkeys.proofs.after.ranked_behind.Statement.{statement}
 use Rattle.cutkeys.proofs.after.ranked_behind.Tie as tie
 
 abbrev Inv-loop : tie.InvT-loop
-Inv-loop stored starts d froms tos order n from stop k₀ k = Going (wholeKeys stored starts d stop) (Touched (wholeKeys stored starts d stop) stored froms tos n) from (k .place) × Seen′ stored starts d stop k
+Inv-loop stored starts d text froms tos order n from stop k₀ k = Going (wholeKeys stored starts d stop) (Touched (wholeKeys stored starts d stop) text froms tos n) from (k .place) × Seen′ stored starts d stop k
 
 abbrev μ-loop : tie.MeasureT-loop
-μ-loop stored starts d froms tos order n from stop k₀ k = stop - k .place
+μ-loop stored starts d text froms tos order n from stop k₀ k = stop - k .place
 
 seek-requires : tie.Need-seek-requires Inv-loop μ-loop
 seek-requires c κs = search (finding, trailing)
@@ -29,11 +29,11 @@ enum-told c = search (finding, trailing)
 
 returns : tie.Need-returns Inv-loop μ-loop
 returns c =
-    let a = c .before .before .before .before .before .before .before .before .before .before .before in
+    let a = c .before .before .before .before .before .before .before .before .before .before .before .before in
     let i = c .before .before .before .before .before .loop .inv in
     let l = c .before .before .before .if1 .taken in
     let y = c .before .before .in-order in
-    let t = found-finds _ _ _ _ _ (i .1) l (a .args .froms .now) (a .args .tos .now) (a .args .n) (a .args .order .now) (y .result) (y .ensures) in
+    let t = found-finds _ _ _ _ _ (i .1) l (a .args .text .now) (a .args .froms .now) (a .args .tos .now) (a .args .n) (a .args .order .now) (y .result) (y .ensures) in
     let f = trailed-there _ _ _ _ _ _ _ (i .0) l _ (y .result) t in
     search (f, needs)
 
@@ -51,11 +51,11 @@ loop-less c = search (finding, trailing)
 
 loop-again : tie.Need-loop-again Inv-loop μ-loop
 loop-again c =
-    let a = c .before .before .before .before .before .before .before .before .before .before .before .before in
+    let a = c .before .before .before .before .before .before .before .before .before .before .before .before .before in
     let i = c .before .before .before .before .before .before .loop .inv in
     let l = c .before .before .before .before .if1 .taken in
     let y = c .before .before .before .in-order in
-    let t = found-finds _ _ _ _ _ (i .1) l (a .args .froms .now) (a .args .tos .now) (a .args .n) (a .args .order .now) (y .result) (y .ensures) in
+    let t = found-finds _ _ _ _ _ (i .1) l (a .args .text .now) (a .args .froms .now) (a .args .tos .now) (a .args .n) (a .args .order .now) (y .result) (y .ensures) in
     let f = trailed-gap _ _ _ _ _ _ _ (i .0) l _ (y .result) t (a .pre .0) in
     let q = found-next _ _ _ _ _ (i .1) l _ (c .seek2 .ensures) in
     (search (f, q, needs), c .seek2 .ensures .seen)

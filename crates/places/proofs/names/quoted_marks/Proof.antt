@@ -16,6 +16,30 @@ begin-requires c κs = search marking
 loop-holds : tie.Need-loop-holds Inv-loop μ-loop
 loop-holds c = search marking
 
+standing-requires : tie.Need-standing-requires Inv-loop μ-loop
+standing-requires c κs = search marking
+
+cast-marked : tie.Need-cast-marked Inv-loop μ-loop
+cast-marked c = search marking
+
+marked-requires : tie.Need-marked-requires Inv-loop μ-loop
+marked-requires c κs = search marking
+
+cast-stirred : tie.Need-cast-stirred Inv-loop μ-loop
+cast-stirred c = search marking
+
+stirred-requires : tie.Need-stirred-requires Inv-loop μ-loop
+stirred-requires c κs = search marking
+
+further-requires : tie.Need-further-requires Inv-loop μ-loop
+further-requires c κs = search marking
+
+loop-less : tie.Need-loop-less Inv-loop μ-loop
+loop-less c = search marking
+
+loop-again : tie.Need-loop-again Inv-loop μ-loop
+loop-again c = search marking
+
 slice-aggregate-next : tie.Need-slice-aggregate-next Inv-loop μ-loop
 slice-aggregate-next c = search marking
 
@@ -31,17 +55,17 @@ returns c = search marking
 enum-known-b : tie.Need-enum-known-b Inv-loop μ-loop
 enum-known-b c = search marking
 
-marked-requires : tie.Need-marked-requires Inv-loop μ-loop
-marked-requires c κs = search marking
+marked-requires-2 : tie.Need-marked-requires-2 Inv-loop μ-loop
+marked-requires-2 c κs = search marking
 
-stirred-requires : tie.Need-stirred-requires Inv-loop μ-loop
-stirred-requires c κs = search marking
+stirred-requires-2 : tie.Need-stirred-requires-2 Inv-loop μ-loop
+stirred-requires-2 c κs = search marking
 
-loop-less : tie.Need-loop-less Inv-loop μ-loop
-loop-less c = search marking
+loop-less-2 : tie.Need-loop-less-2 Inv-loop μ-loop
+loop-less-2 c = search marking
 
-loop-again : tie.Need-loop-again Inv-loop μ-loop
-loop-again c = search marking
+loop-again-2 : tie.Need-loop-again-2 Inv-loop μ-loop
+loop-again-2 c = search marking
 
 pub quoted-marks-spec : {M : Type 1} → statement M
 quoted-marks-spec =
@@ -51,12 +75,20 @@ quoted-marks-spec =
     μ-loop
     begin-requires
     loop-holds
+    standing-requires
+    cast-marked
+    marked-requires
+    cast-stirred
+    stirred-requires
+    further-requires
+    loop-less
+    loop-again
     slice-aggregate-next
     next-requires
     enum-told
     returns
     enum-known-b
-    marked-requires
-    stirred-requires
-    loop-less
-    loop-again)
+    marked-requires-2
+    stirred-requires-2
+    loop-less-2
+    loop-again-2)

@@ -1,5 +1,6 @@
 -- `texts` tells how two texts stand to each other. The loop's invariant: they agree so far.
-use Rattle.places.specs.Names.{Agree, agreeing}
+use Rattle.places.specs.Names.{Agree, agreeing, agree-begun, agree-able₂, agree-spells, agree-spells₂, agree-weight, agree-further}
+use borrow.Author.Needs.{needs}
 use Rattle.spelt.specs.Spelling.{weight}
 use Rattle.places.proofs.names.texts.Statement.{statement}
 use Rattle.places.proofs.names.texts.Tie as tie
@@ -16,8 +17,13 @@ begin-requires c κs = search agreeing
 begin-requires-2 : tie.Need-begin-requires-2 Inv-loop μ-loop
 begin-requires-2 c κs = search agreeing
 
+common-requires : tie.Need-common-requires Inv-loop μ-loop
+common-requires c κs = search agreeing
+
 loop-holds : tie.Need-loop-holds Inv-loop μ-loop
-loop-holds c = search agreeing
+loop-holds c =
+    let s = c .before .before .before .before .before .before in
+    agree-begun _ _ _ _ _ (s .pre .0) (s .pre .1) (c .before .before .before .before .begin .ensures) (c .before .before .before .begin2 .ensures) _ _ (c .before .before .common .ensures)
 
 slice-aggregate-next : tie.Need-slice-aggregate-next Inv-loop μ-loop
 slice-aggregate-next c = search agreeing
@@ -29,7 +35,7 @@ slice-aggregate-next-2 : tie.Need-slice-aggregate-next-2 Inv-loop μ-loop
 slice-aggregate-next-2 c = search agreeing
 
 next-requires-2 : tie.Need-next-requires-2 Inv-loop μ-loop
-next-requires-2 c κs = search agreeing
+next-requires-2 c κs = agree-able₂ _ _ _ _ _ _ _ (c .before .before .before .before .loop .inv)
 
 enum-told : tie.Need-enum-told Inv-loop μ-loop
 enum-told c = search agreeing
@@ -64,11 +70,21 @@ returns-4 c = search agreeing
 returns-5 : tie.Need-returns-5 Inv-loop μ-loop
 returns-5 c = search agreeing
 
+common-requires-2 : tie.Need-common-requires-2 Inv-loop μ-loop
+common-requires-2 c κs =
+    let f = agree-spells _ _ _ _ _ _ _ (c .before .before .before .before .before .before .before .before .before .before .before .before .before .before .loop .inv) _ _ (c .before .before .before .before .before .before .before .before .before .before .before .before .next .ensures) _ _ (c .before .before .before .before .before .before .before .before .before .next2 .ensures) in
+    let g = agree-spells₂ _ _ _ _ _ _ _ (c .before .before .before .before .before .before .before .before .before .before .before .before .before .before .loop .inv) _ _ (c .before .before .before .before .before .before .before .before .before .before .before .before .next .ensures) _ _ (c .before .before .before .before .before .before .before .before .before .next2 .ensures) in
+    search (f, g, needs)
+
 loop-less : tie.Need-loop-less Inv-loop μ-loop
-loop-less c = search agreeing
+loop-less c =
+    let f = agree-weight _ _ _ _ _ _ _ (c .before .before .before .before .before .before .before .before .before .before .before .before .before .before .before .before .before .loop .inv) _ _ (c .before .before .before .before .before .before .before .before .before .before .before .before .before .before .before .next .ensures) _ _ (c .before .before .before .before .before .before .before .before .before .before .before .before .next2 .ensures) in
+    search (f, needs)
 
 loop-again : tie.Need-loop-again Inv-loop μ-loop
-loop-again c = search agreeing
+loop-again c =
+    let f = agree-further _ _ _ _ _ _ _ (c .before .before .before .before .before .before .before .before .before .before .before .before .before .before .before .before .before .loop .inv) _ _ (c .before .before .before .before .before .before .before .before .before .before .before .before .before .before .before .next .ensures) _ _ (c .before .before .before .before .before .before .before .before .before .before .before .before .next2 .ensures) in
+    f _ _ _ _ (search needs) (search needs) (c .before .before .before .if2 .left) (c .before .before .before .before .if1 .left) (search (c .before .before .before .before .before .before .before .before .before .before .before .before .before .before .before .next, needs)) (search (c .before .before .before .before .before .before .before .before .before .before .before .before .next2, needs)) _ _ (c .before .before .common2 .ensures)
 
 pub texts-spec : {M : Type 1} → statement M
 texts-spec =
@@ -78,6 +94,7 @@ texts-spec =
     μ-loop
     begin-requires
     begin-requires-2
+    common-requires
     loop-holds
     slice-aggregate-next
     next-requires
@@ -94,5 +111,6 @@ texts-spec =
     enum-known-y
     returns-4
     returns-5
+    common-requires-2
     loop-less
     loop-again)

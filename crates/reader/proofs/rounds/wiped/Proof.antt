@@ -2,16 +2,16 @@
 use mathlib.Core.Path.{_≡_}
 use Prim.Native.Nat.{_-_, _≤_}
 use lib.ListN.{length}
-use Rattle.sieve.specs.Sieve.{large}
+use Rattle.sieve.specs.Sieve.{hits, filter, large}
 use Rattle.reader.specs.Rounds.{Wiped, wiping}
 use Rattle.reader.proofs.rounds.wiped.Statement.{statement}
 use Rattle.reader.proofs.rounds.wiped.Tie as tie
 
 abbrev Inv-loop : tie.InvT-loop
-Inv-loop keys₀ i₀ keys i = Wiped keys₀ i keys × (length keys₀ ≡ large) × (6566 ≤ i) × (i ≤ 15376)
+Inv-loop keys₀ i₀ keys i = Wiped keys₀ i keys × (length keys₀ ≡ large) × (hits ≤ i) × (i ≤ filter)
 
 abbrev μ-loop : tie.MeasureT-loop
-μ-loop keys₀ i₀ keys i = 15376 - i
+μ-loop keys₀ i₀ keys i = filter - i
 
 loop-holds : tie.Need-loop-holds Inv-loop μ-loop
 loop-holds c = search wiping

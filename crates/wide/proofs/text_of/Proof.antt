@@ -1,8 +1,8 @@
 -- `text_of` copies a content, run after run.
-use Rattle.cutfill.proofs.Laws.{Copying, copying-seen, copying}
+use Rattle.wide.specs.Copies.{Copying, copying-seen, copying}
 use Prim.Native.Nat.{_-_}
-use Rattle.cutfill.proofs.text_of.Statement.{statement}
-use Rattle.cutfill.proofs.text_of.Tie as tie
+use Rattle.wide.proofs.text_of.Statement.{statement}
+use Rattle.wide.proofs.text_of.Tie as tie
 
 abbrev Inv-loop : tie.InvT-loop
 Inv-loop stored starts d n text₀ x i₀ text i = Copying stored starts d n x i text₀ text

@@ -2,8 +2,8 @@
 use Rattle.distinct.specs.Ranks.{ranged-in}
 use Rattle.distinct.specs.Windows.{rankwise}
 use borrow.Author.Needs.{needs}
-use Rattle.cutkeys.proofs.windows.by_ranks.Statement.{statement}
-use Rattle.cutkeys.proofs.windows.by_ranks.Tie as tie
+use Rattle.cutkeys.proofs.after.by_ranks.Statement.{statement}
+use Rattle.cutkeys.proofs.after.by_ranks.Tie as tie
 
 ranked-all-requires : tie.Need-ranked-all-requires
 ranked-all-requires c κs = search needs
@@ -16,9 +16,9 @@ returns c = search rankwise
 
 ranked-behind-requires : tie.Need-ranked-behind-requires
 ranked-behind-requires c κs =
-    let s = c .before .before .before .before .before .before .before .before .before .before in
+    let s = c .before .before .before .before .before .before .before .before .before .before .before in
     let a = c .before .before .before .before .ranked-all in
-    let f = ranged-in (s .args .stored .now) (s .args .froms .now) (s .args .tos .now) _ (s .args .n) (a .result) (a .ensures) (s .args .order .now) in
+    let f = ranged-in (s .args .text .now) (s .args .froms .now) (s .args .tos .now) _ (s .args .n) (a .result) (a .ensures) (s .args .order .now) in
     (search (f, needs), s .pre .2)
 
 same-length-2 : tie.Need-same-length-2

@@ -5,47 +5,53 @@ use borrow.Fn.Kinds.{In}
 use borrow.Fn.PlainCycle.{Measures, is, falls, and}
 use Rattle.uncut.proofs.tested.child.Reads as child
 use Rattle.uncut.proofs.tested.child.Kinds as child-kinds
-use Rattle.uncut.proofs.tested.+child+children+container+of_kind+pair+value.Lts-child as child-lts
+use Rattle.uncut.proofs.tested.+child+children+container+member+of_kind+pair+value.Lts-child as child-lts
 use Rattle.uncut.proofs.tested.children.Reads as children
 use Rattle.uncut.proofs.tested.children.Kinds as children-kinds
-use Rattle.uncut.proofs.tested.+child+children+container+of_kind+pair+value.Lts-children as children-lts
+use Rattle.uncut.proofs.tested.+child+children+container+member+of_kind+pair+value.Lts-children as children-lts
 use Rattle.uncut.proofs.tested.container.Reads as container
 use Rattle.uncut.proofs.tested.container.Kinds as container-kinds
-use Rattle.uncut.proofs.tested.+child+children+container+of_kind+pair+value.Lts-container as container-lts
+use Rattle.uncut.proofs.tested.+child+children+container+member+of_kind+pair+value.Lts-container as container-lts
+use Rattle.uncut.proofs.tested.member.Reads as member
+use Rattle.uncut.proofs.tested.member.Kinds as member-kinds
+use Rattle.uncut.proofs.tested.+child+children+container+member+of_kind+pair+value.Lts-member as member-lts
 use Rattle.uncut.proofs.tested.of_kind.Reads as of-kind
 use Rattle.uncut.proofs.tested.of_kind.Kinds as of-kind-kinds
-use Rattle.uncut.proofs.tested.+child+children+container+of_kind+pair+value.Lts-of_kind as of-kind-lts
+use Rattle.uncut.proofs.tested.+child+children+container+member+of_kind+pair+value.Lts-of_kind as of-kind-lts
 use Rattle.uncut.proofs.tested.pair.Reads as pair
 use Rattle.uncut.proofs.tested.pair.Kinds as pair-kinds
-use Rattle.uncut.proofs.tested.+child+children+container+of_kind+pair+value.Lts-pair as pair-lts
+use Rattle.uncut.proofs.tested.+child+children+container+member+of_kind+pair+value.Lts-pair as pair-lts
 use Rattle.uncut.proofs.tested.value.Reads as value
 use Rattle.uncut.proofs.tested.value.Kinds as value-kinds
-use Rattle.uncut.proofs.tested.+child+children+container+of_kind+pair+value.Lts-value as value-lts
+use Rattle.uncut.proofs.tested.+child+children+container+member+of_kind+pair+value.Lts-value as value-lts
 use Rattle.uncut.proofs.heads.behind.Reads as behind-reads
 use Rattle.uncut.proofs.heads.is_field.Reads as is-field-reads
 use Rattle.uncut.proofs.tested.closed.Reads as closed-reads
 use Rattle.uncut.proofs.tested.key.Reads as key-reads
 use Rattle.uncut.proofs.tested.scalar.Reads as scalar-reads
-use Rattle.uncut.proofs.tested.+child+children+container+of_kind+pair+value.{statement}
-use Rattle.uncut.proofs.tested.+child+children+container+of_kind+pair+value.Tie.{close}
+use Rattle.uncut.proofs.tested.+child+children+container+member+of_kind+pair+value.{statement}
+use Rattle.uncut.proofs.tested.+child+children+container+member+of_kind+pair+value.Tie.{close}
 
 abbrev μ-child : Measures 1 child-kinds.ps ℕ
-μ-child κs a = 6 * a .1 .1 .1 .0 + 5
+μ-child κs a = 7 * a .1 .1 .1 .0 + 6
 
 abbrev μ-children : Measures 1 children-kinds.ps ℕ
-μ-children κs a = 6 * a .1 .1 .1 .0 + 6
+μ-children κs a = 7 * a .1 .1 .1 .0 + 7
 
 abbrev μ-container : Measures 1 container-kinds.ps ℕ
-μ-container κs a = 6 * a .1 .1 .1 .0 + 1
+μ-container κs a = 7 * a .1 .1 .1 .0 + 1
+
+abbrev μ-member : Measures 1 member-kinds.ps ℕ
+μ-member κs a = 7 * a .1 .1 .1 .0 + 4
 
 abbrev μ-of-kind : Measures 1 of-kind-kinds.ps ℕ
-μ-of-kind κs a = 6 * a .1 .1 .1 .0 + 2
+μ-of-kind κs a = 7 * a .1 .1 .1 .0 + 2
 
 abbrev μ-pair : Measures 1 pair-kinds.ps ℕ
-μ-pair κs a = 6 * a .1 .1 .1 .0 + 4
+μ-pair κs a = 7 * a .1 .1 .1 .0 + 5
 
 abbrev μ-value : Measures 1 value-kinds.ps ℕ
-μ-value κs a = 6 * a .1 .1 .1 .0 + 3
+μ-value κs a = 7 * a .1 .1 .1 .0 + 3
 
 abbrev child-at : ℕ → In 1 child-kinds.ps
 child-at t = and 1 child-kinds.ps (is 1 child-kinds.ps μ-child t) child.Pre
@@ -67,6 +73,12 @@ abbrev container-below : ℕ → In 1 container-kinds.ps
 container-below t =
     and 1 container-kinds.ps (falls 1 container-kinds.ps _<_ μ-container t) container.Pre
 
+abbrev member-at : ℕ → In 1 member-kinds.ps
+member-at t = and 1 member-kinds.ps (is 1 member-kinds.ps μ-member t) member.Pre
+
+abbrev member-below : ℕ → In 1 member-kinds.ps
+member-below t = and 1 member-kinds.ps (falls 1 member-kinds.ps _<_ μ-member t) member.Pre
+
 abbrev of-kind-at : ℕ → In 1 of-kind-kinds.ps
 of-kind-at t = and 1 of-kind-kinds.ps (is 1 of-kind-kinds.ps μ-of-kind t) of-kind.Pre
 
@@ -86,16 +98,19 @@ abbrev value-below : ℕ → In 1 value-kinds.ps
 value-below t = and 1 value-kinds.ps (falls 1 value-kinds.ps _<_ μ-value t) value.Pre
 
 abbrev child-claims : ℕ → child-lts.Claims
-child-claims t = (pair-below t, pair.Post, value-below t, value.Post)
+child-claims t = (pair-below t, pair.Post, member-below t, member.Post)
 
 abbrev container-claims : ℕ → container-lts.Claims
 container-claims t = (children-below t, children.Post, closed-reads.Asked, closed-reads.Learnt)
+
+abbrev member-claims : ℕ → member-lts.Claims
+member-claims t = (is-field-reads.Asked, is-field-reads.Learnt, behind-reads.Asked, behind-reads.Learnt, scalar-reads.Asked, scalar-reads.Learnt, value-below t, value.Post)
 
 abbrev of-kind-claims : ℕ → of-kind-lts.Claims
 of-kind-claims t = (container-below t, container.Post, scalar-reads.Asked, scalar-reads.Learnt)
 
 abbrev pair-claims : ℕ → pair-lts.Claims
-pair-claims t = (key-reads.Asked, key-reads.Learnt, value-below t, value.Post)
+pair-claims t = (key-reads.Asked, key-reads.Learnt, member-below t, member.Post)
 
 abbrev value-claims : ℕ → value-lts.Claims
 value-claims t = (is-field-reads.Asked, is-field-reads.Learnt, behind-reads.Asked, behind-reads.Learnt, of-kind-below t, of-kind.Post)
@@ -106,8 +121,8 @@ child-pair-requires t c κs = search childing
 child-returns : (t : ℕ) → child-lts.Need-returns (child-claims t) (child-at t) child.Post
 child-returns t c = search childing
 
-child-value-requires : (t : ℕ) → child-lts.Need-value-requires (child-claims t) (child-at t) child.Post
-child-value-requires t c κs = search childing
+child-member-requires : (t : ℕ) → child-lts.Need-member-requires (child-claims t) (child-at t) child.Post
+child-member-requires t c κs = search childing
 
 child-returns-2 : (t : ℕ) → child-lts.Need-returns-2 (child-claims t) (child-at t) child.Post
 child-returns-2 t c = search childing
@@ -248,6 +263,27 @@ container-returns-2 t c = search containing
 container-returns-3 : (t : ℕ) → container-lts.Need-returns-3 (container-claims t) (container-at t) container.Post
 container-returns-3 t c = search containing
 
+member-is-field-requires : (t : ℕ) → member-lts.Need-is-field-requires (member-claims t) (member-at t) member.Post
+member-is-field-requires t c κs = search fielding
+
+member-shared-slice-read-if2 : (t : ℕ) → member-lts.Need-shared-slice-read-if2 (member-claims t) (member-at t) member.Post
+member-shared-slice-read-if2 t c = search fielding
+
+member-behind-requires : (t : ℕ) → member-lts.Need-behind-requires (member-claims t) (member-at t) member.Post
+member-behind-requires t c κs = search fielding
+
+member-scalar-requires : (t : ℕ) → member-lts.Need-scalar-requires (member-claims t) (member-at t) member.Post
+member-scalar-requires t c κs = search fielding
+
+member-returns : (t : ℕ) → member-lts.Need-returns (member-claims t) (member-at t) member.Post
+member-returns t c = search fielding
+
+member-value-requires : (t : ℕ) → member-lts.Need-value-requires (member-claims t) (member-at t) member.Post
+member-value-requires t c κs = search fielding
+
+member-returns-2 : (t : ℕ) → member-lts.Need-returns-2 (member-claims t) (member-at t) member.Post
+member-returns-2 t c = search fielding
+
 of-kind-shared-slice-read-match : (t : ℕ) → of-kind-lts.Need-shared-slice-read-match (of-kind-claims t) (of-kind-at t) of-kind.Post
 of-kind-shared-slice-read-match t c = search tagging
 
@@ -278,8 +314,8 @@ pair-enum-told t c = search pairing
 pair-enum-known-next : (t : ℕ) → pair-lts.Need-enum-known-next (pair-claims t) (pair-at t) pair.Post
 pair-enum-known-next t c = search pairing
 
-pair-value-requires : (t : ℕ) → pair-lts.Need-value-requires (pair-claims t) (pair-at t) pair.Post
-pair-value-requires t c κs = search pairing
+pair-member-requires : (t : ℕ) → pair-lts.Need-member-requires (pair-claims t) (pair-at t) pair.Post
+pair-member-requires t c κs = search pairing
 
 pair-enum-told-2 : (t : ℕ) → pair-lts.Need-enum-told-2 (pair-claims t) (pair-at t) pair.Post
 pair-enum-told-2 t c = search pairing
@@ -314,14 +350,14 @@ value-returns t c = search fielding
 value-returns-2 : (t : ℕ) → value-lts.Need-returns-2 (value-claims t) (value-at t) value.Post
 value-returns-2 t c = search fielding
 
-pub +child+children+container+of-kind+pair+value-spec : {M : Type 1} → statement M
-+child+children+container+of-kind+pair+value-spec =
-    close μ-child μ-children μ-container μ-of-kind μ-pair μ-value (λ t. child-lts.spec (child-claims t)
+pub +child+children+container+member+of-kind+pair+value-spec : {M : Type 1} → statement M
++child+children+container+member+of-kind+pair+value-spec =
+    close μ-child μ-children μ-container μ-member μ-of-kind μ-pair μ-value (λ t. child-lts.spec (child-claims t)
     (child-at t)
     child.Post
     (child-pair-requires t)
     (child-returns t)
-    (child-value-requires t)
+    (child-member-requires t)
     (child-returns-2 t))
     (λ t. children-lts.spec
     (child-below t, child.Post)
@@ -352,6 +388,16 @@ pub +child+children+container+of-kind+pair+value-spec : {M : Type 1} → stateme
     (container-closed-requires t)
     (container-returns-2 t)
     (container-returns-3 t))
+    (λ t. member-lts.spec (member-claims t)
+    (member-at t)
+    member.Post
+    (member-is-field-requires t)
+    (member-shared-slice-read-if2 t)
+    (member-behind-requires t)
+    (member-scalar-requires t)
+    (member-returns t)
+    (member-value-requires t)
+    (member-returns-2 t))
     (λ t. of-kind-lts.spec (of-kind-claims t)
     (of-kind-at t)
     of-kind.Post
@@ -368,7 +414,7 @@ pub +child+children+container+of-kind+pair+value-spec : {M : Type 1} → stateme
     (pair-key-requires t)
     (pair-enum-told t)
     (pair-enum-known-next t)
-    (pair-value-requires t)
+    (pair-member-requires t)
     (pair-enum-told-2 t)
     (pair-enum-known-end t)
     (pair-add-t16 t)
