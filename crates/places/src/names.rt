@@ -163,12 +163,10 @@ pub fn texts(doc: &[u8], a: usize, b: usize) -> Order
 {
     let mut room = [0u8; 8];
     let mut other = [0u8; 8];
-    let p = common(&*doc, begin(&*doc, a), begin(&*doc, b));
-    let mut s = p.one;
-    let mut t = p.two;
+    let mut p = common(&*doc, begin(&*doc, a), begin(&*doc, b));
     loop {
-        let x = next(&*doc, &mut room, s);
-        let y = next(&*doc, &mut other, t);
+        let x = next(&*doc, &mut room, p.one);
+        let y = next(&*doc, &mut other, p.two);
         match x {
             Given::End => match y {
                 Given::End => {
@@ -189,9 +187,7 @@ pub fn texts(doc: &[u8], a: usize, b: usize) -> Order
                     if d < c {
                         return Order::More;
                     }
-                    let q = common(&*doc, n, m);
-                    s = q.one;
-                    t = q.two;
+                    p = common(&*doc, n, m);
                 }
             },
         }

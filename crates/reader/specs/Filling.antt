@@ -4,6 +4,7 @@ use mathlib.Core.List.{List}
 use Prim.Native.Nat.{ℕ, _+_, _*_, _≤_, _<_}
 use native.Mathlib.Omega.{arith}
 use lib.ListN.{length, getD, replicate, length-replicate}
+use borrow.Author.Needs.{needs}
 use Rattle.rooms.specs.declared.Cursor.{Cursor}
 use Rattle.rooms.specs.declared.Ans.{Ans}
 use Rattle.rooms.specs.declared.Ans.the-variants.{Ok}
@@ -34,6 +35,51 @@ some-bytes = 4096
 
 abbrev pub more-bytes : ℕ
 more-bytes = 16384
+
+-- rooms of a class are for a document of so many bytes
+pub record Classed (doc : List ℕ) (class : ℕ) : Type 0 where
+  pub short : length doc ≤ limit
+  pub few : class ≡ 0 → length doc ≤ few-bytes
+  pub some : class ≡ 1 → length doc ≤ some-bytes
+  pub more : class ≡ 2 → length doc ≤ more-bytes
+
+module _ (doc : List ℕ) where
+  -- the last two are for any
+  pub classed-last : (c : ℕ) → 2 < c → length doc ≤ limit → Classed doc c
+  classed-last c l h = record { short = h; few = λ e. absurd (omega arith); some = λ e. absurd (omega arith); more = λ e. absurd (omega arith) }
+
+  pub classed-few : length doc ≤ few-bytes → Classed doc 0
+  classed-few h = record { short = omega arith; few = λ e. h; some = λ e. absurd (omega arith); more = λ e. absurd (omega arith) }
+
+  pub classed-some : length doc ≤ some-bytes → Classed doc 1
+  classed-some h = record { short = omega arith; few = λ e. absurd (omega arith); some = λ e. h; more = λ e. absurd (omega arith) }
+
+  pub classed-more : length doc ≤ more-bytes → Classed doc 2
+  classed-more h = record { short = omega arith; few = λ e. absurd (omega arith); some = λ e. absurd (omega arith); more = λ e. h }
+
+  module _ (c : ℕ) (x : Classed doc c) where
+    pub class-limit : length doc ≤ limit
+    class-limit = x .short
+
+    pub class-few : c ≡ 0 → length doc ≤ few-bytes
+    class-few = x .few
+
+    pub class-some : c ≡ 1 → length doc ≤ some-bytes
+    class-some = x .some
+
+    pub class-more : c ≡ 2 → length doc ≤ more-bytes
+    class-more = x .more
+
+    -- where rows are too few the next class has more
+    pub after-few : c ≡ 0 → Classed doc 1
+    after-few e = let l = x .few e in classed-some (omega arith)
+
+    pub after-some : c ≡ 1 → Classed doc 2
+    after-some e = let l = x .some e in classed-more (omega arith)
+
+pub ruleset classing = (classed-last, classed-few, classed-some, classed-more, needs)
+
+pub ruleset classes = (class-limit, class-few, class-some, class-more, after-few, after-some, classed-last, needs)
 
 -- the document is within the limit; no key is noted in the log; the text room of our own is large enough for any of so many bytes
 pub record Texted (doc K R T : List ℕ) : Type 0 where

@@ -1,8 +1,10 @@
 // Reads a document into the rooms lent.
+ghost use mathlib.Core.Path.{_≡_};
+ghost use mathlib.Core.Bool.{true};
 ghost use Prim.Native.Nat.{_+_, _≤_};
 ghost use lib.ListN.{length};
 ghost use Rattle.language.specs.Answered.{number, value, second, third, Answered, Totals, limit};
-ghost use Rattle.reader.specs.Filling.{few-bytes, some-bytes, more-bytes, Texted, Read, Attempted};
+ghost use Rattle.reader.specs.Filling.{few-bytes, some-bytes, more-bytes, Classed, Texted, Read, Attempted};
 ghost use Rattle.reader.specs.Rounds.{Swept, Repeated};
 ghost use Rattle.reader.specs.Lent.{Passed, Noted};
 
@@ -256,13 +258,17 @@ fn rows_in(doc: &[u8], a: usize) -> usize
     n as usize
 }
 
-// Whether eight parts of a document promise as many rows as there is room for, or more; short documents have no more than a row for two bytes. A wrong guess costs time alone.
-fn dense(doc: &[u8], rows: usize) -> bool
-    requires { ⌜ (length (now doc) ≤ limit) × (512 ≤ rows) × (rows ≤ 1700) ⌝ }
+// Whether a document of at most so many bytes promises fewer rows than there is room for, by eight parts of it; short ones have no more than a row for two bytes. A wrong guess costs time alone.
+fn sparse(doc: &[u8], bytes: usize, rows: usize) -> bool
+    requires { ⌜ (length (now doc) ≤ limit) × (rows ≤ 1700) ⌝ }
+    ensures { λ r. ⌜ (r ≡ true → length (now (doc .entry)) ≤ bytes) ⌝ }
 {
     let n = doc.len();
-    if n <= 2 * rows {
+    if bytes < n {
         return false;
+    }
+    if n <= 2 * rows {
+        return true;
     }
     let mut guessed = 0;
     let mut parts = 0;
@@ -272,53 +278,52 @@ fn dense(doc: &[u8], rows: usize) -> bool
         parts += 1;
         a += n / 8;
     }
-    rows * 64 * parts <= guessed * n
+    guessed * n < rows * 64 * parts
 }
 
-// The answer by the class of rooms, from the smallest that the document's length allows on. It calls itself for the next one, so that no frame holds the rooms of two.
-fn by_class(doc: &[u8], table: &mut [u32], text: &mut [u8], class: usize) -> Answer
+// The class of rooms for a document: the smallest that its length and the rows that it promises allow.
+fn class_of(doc: &[u8]) -> usize
     requires { ⌜ length (now doc) ≤ limit ⌝ }
+    ensures { λ r. ⌜ Classed (now (doc .entry)) r ⌝ }
+{
+    if doc.len() <= FEW {
+        return 0;
+    }
+    if sparse(&*doc, SOME, SOME_ROWS) {
+        return 1;
+    }
+    if sparse(&*doc, MORE, MORE_ROWS) {
+        return 2;
+    }
+    if doc.len() <= MANY {
+        return 3;
+    }
+    4
+}
+
+// The answer by the class of rooms. It calls itself for the next one where rows are too few, so that no frame holds the rooms of two.
+fn by_class(doc: &[u8], table: &mut [u32], text: &mut [u8], class: usize) -> Answer
+    requires { ⌜ Classed (now doc) class ⌝ }
     ensures { λ r. ⌜ Answered (now (doc .entry)) (now (table .entry)) (now (text .entry)) (number r) (value r) (second r) (now (table .exit)) (now (text .exit)) ⌝ }
     ensures { λ r. ⌜ Totals (now (doc .entry)) (number r) (third r) ⌝ }
 {
-    let n = doc.len();
     match class {
-        0 => {
-            if FEW < n {
-                return by_class(&*doc, table, text, 1);
-            }
-            match of_few_bytes(&*doc, table, text) {
-                Tried::Settled(a) => a,
-                Tried::TooFew => by_class(&*doc, table, text, 1),
-            }
-        }
-        1 => {
-            if SOME < n || dense(&*doc, SOME_ROWS) {
-                return by_class(&*doc, table, text, 2);
-            }
-            match of_some_bytes(&*doc, table, text) {
-                Tried::Settled(a) => a,
-                Tried::TooFew => by_class(&*doc, table, text, 2),
-            }
-        }
-        2 => {
-            if MORE < n || dense(&*doc, MORE_ROWS) {
-                return by_class(&*doc, table, text, 3);
-            }
-            match of_more_bytes(&*doc, table, text) {
-                Tried::Settled(a) => a,
-                Tried::TooFew => by_class(&*doc, table, text, 3),
-            }
-        }
-        3 => {
-            if MANY < n {
-                return by_class(&*doc, table, text, 4);
-            }
-            match of_many_bytes(&*doc, table, text) {
-                Tried::Settled(a) => a,
-                Tried::TooFew => by_class(&*doc, table, text, 4),
-            }
-        }
+        0 => match of_few_bytes(&*doc, table, text) {
+            Tried::Settled(a) => a,
+            Tried::TooFew => by_class(&*doc, table, text, 1),
+        },
+        1 => match of_some_bytes(&*doc, table, text) {
+            Tried::Settled(a) => a,
+            Tried::TooFew => by_class(&*doc, table, text, 2),
+        },
+        2 => match of_more_bytes(&*doc, table, text) {
+            Tried::Settled(a) => a,
+            Tried::TooFew => by_class(&*doc, table, text, 3),
+        },
+        3 => match of_many_bytes(&*doc, table, text) {
+            Tried::Settled(a) => a,
+            Tried::TooFew => by_class(&*doc, table, text, 4),
+        },
         _ => of_any_bytes(&*doc, table, text),
     }
 }
@@ -331,5 +336,6 @@ pub fn read(doc: &[u8], table: &mut [u32], text: &mut [u8]) -> Answer
     if LIMIT < doc.len() {
         return Answer::Long;
     }
-    by_class(&*doc, table, text, 0)
+    let class = class_of(&*doc);
+    by_class(&*doc, table, text, class)
 }

@@ -1,13 +1,14 @@
 -- WHAT `write` PROMISES, from what `sound` and `house` do. Assumes nothing.
-use mathlib.Core.Path.{_≡_, sym, ap, subst, _∙_}
+use mathlib.Core.Path.{_≡_, refl, sym, ap, subst, _∙_}
 use mathlib.Core.List.{List, _++_}
 use mathlib.Core.Bool.{Bool, true, false}
-use Prim.Native.Nat.{ℕ, _+_, _≤_, _<_}
+use Prim.Native.Nat.{ℕ, _+_, _*_, _≤_, _<_}
 use native.Mathlib.Omega.{arith}
 use lib.ListN.{length, drop}
 use lib.Seq.{sets-eq}
 use borrow.Author.Needs.{needs as needs-of}
 use Rattle.notation.specs.Class.{pick}
+use Rattle.exact.specs.Class.{clash}
 use Rattle.language.specs.Answered.{deepest, limit, LONG, TEXT, BADROW}
 use Rattle.language.specs.Lent.{bytesIn}
 use Rattle.language.specs.Sound.{Sound}
@@ -76,6 +77,25 @@ module _ {table : List ℕ} {rows : ℕ} {text : List ℕ} where
   pub wrote-bad : {out : List ℕ} → (Sound table rows text → ⊥) → Written table rows text out BADROW 0 out
   wrote-bad u = bad u
 
+-- ---- without counting
+
+-- whatever is written of so many rows and so much text is within the limit, and has room
+pub record Room (rows : ℕ) (text out : List ℕ) : Type 0 where
+  pub short : 100 * rows + 10 * length text ≤ limit
+  pub fits : 100 * rows + 10 * length text ≤ bytesIn out
+
+abbrev pub Roomy : ℕ → List ℕ → List ℕ → Bool → Type 0
+Roomy rows text out b = b ≡ true → Room rows text out
+
+module _ (rows : ℕ) (text out : List ℕ) where
+  pub roomy-not : Roomy rows text out false
+  roomy-not e = absurd (clash e refl)
+
+  pub roomy-yes : (m : ℕ) → m ≡ bytesIn out → rows ≤ 5000 → length text ≤ 50000 → 100 * rows + 10 * length text ≤ m → Roomy rows text out true
+  roomy-yes m f k l h e = record { short = omega arith; fits = omega arith }
+
+pub ruleset rooming = (roomy-not, roomy-yes, needs-of)
+
 -- ---- what `write` shows, once the test of soundness has answered b
 
 module _ (table : List ℕ) (rows : ℕ) (text : List ℕ) (b : Bool) (h : Sounded table rows text (pick b 0 BADROW)) where
@@ -85,6 +105,16 @@ module _ (table : List ℕ) (rows : ℕ) (text : List ℕ) (b : Bool) (h : Sound
   module _ (e : b ≡ true) where
     pub write-root : Root table text
     write-root = sound-root (yes-sound h e)
+
+    pub write-straight : (out : List ℕ) (c : Bool) → Roomy rows text out c → c ≡ true → (k : ℕ) (out' : List ℕ) → ((i : Root table text) → Puts (house (i .tree)) 0 k out out')
+        → Written table rows text out 0 k out'
+    write-straight out c r f k out' p =
+        let s = yes-sound h e in
+        let m = r f in
+        let g : (i : Root table text) → k ≡ length (house (i .tree)) = λ i. omega (arith, p i .ends) in
+        let w = house-most (profile-shaped (s .holds .profile)) (omega arith) in
+        let q : length (house (s .tree)) ≡ k = count s g in
+        wrote-done s g (omega (arith, m .short, w, q, s .holds .count, s .holds .text-fits)) (omega (arith, m .fits, w, q, s .holds .count, s .holds .text-fits)) p
 
     module _ (n : ℕ) (g : (i : Root table text) → n ≡ length (house (i .tree))) (out : List ℕ) where
       pub write-long : limit < n → Written table rows text out LONG 0 out
@@ -97,4 +127,4 @@ module _ (table : List ℕ) (rows : ℕ) (text : List ℕ) (b : Bool) (h : Sound
         pub write-done : n ≤ m → (k : ℕ) (out' : List ℕ) → ((i : Root table text) → Puts (house (i .tree)) 0 k out out') → Written table rows text out 0 n out'
         write-done i k out' p = wrote-done (yes-sound h e) g l (omega arith) p
 
-pub ruleset writing = (write-bad, write-root, write-long, write-short, write-done, needs-of)
+pub ruleset writing = (write-bad, write-root, write-straight, write-long, write-short, write-done, needs-of)

@@ -13,6 +13,7 @@ use lines::count;
 use lines::house;
 use sound::sound;
 ghost use Rattle.language.specs.Written.{wroteNumber, wroteCount, Written};
+ghost use Rattle.writer.specs.Wrote.{Roomy};
 
 // A character: its scalar value, and the place behind its bytes.
 pub struct Code {
@@ -26,11 +27,35 @@ pub struct Step {
     pub x: usize,
 }
 
+// Tables of at most so many rows and text bytes: whatever is written of one is within the limit, since a row takes at most a hundred bytes and a byte of text ten.
+const ROWS: usize = 5000;
+
+const BYTES: usize = 50000;
+
+// Whether the output has room for whatever is written of such a table, so that its bytes need not be counted first.
+fn roomy(rows: usize, text: &[u8], out: &[u8]) -> bool
+    ensures { λ b. ⌜ Roomy rows (now (text .entry)) (now (out .entry)) b ⌝ }
+{
+    if ROWS < rows {
+        return false;
+    }
+    if BYTES < text.len() {
+        return false;
+    }
+    if bytes_lent(&*out) < 100 * rows + 10 * text.len() {
+        return false;
+    }
+    true
+}
+
 // Writes a profile into the output lent; a refusal leaves it as it came.
 pub fn write(table: &[u32], rows: usize, text: &[u8], out: &mut [u8]) -> Wrote
     ensures { λ r. ⌜ Written (now (table .entry)) rows (now (text .entry)) (now (out .entry)) (wroteNumber r) (wroteCount r) (now (out .exit)) ⌝ }
 {
     if sound(&*table, rows, &*text) {
+        if roomy(rows, &*text, &*out) {
+            return Wrote::Done(house(&*table, &*text, out));
+        }
         let n = count(&*table, &*text);
         if LIMIT < n {
             return Wrote::TooLong;

@@ -6,10 +6,10 @@ use Rattle.places.proofs.names.texts.Statement.{statement}
 use Rattle.places.proofs.names.texts.Tie as tie
 
 abbrev Inv-loop : tie.InvT-loop
-Inv-loop doc a b room₀ other₀ s₀ t₀ room other s t = Agree doc a b room s other t
+Inv-loop doc a b room₀ other₀ p₀ room other p = Agree doc a b room (p .one) other (p .two)
 
 abbrev μ-loop : tie.MeasureT-loop
-μ-loop doc a b room₀ other₀ s₀ t₀ room other s t = weight doc s
+μ-loop doc a b room₀ other₀ p₀ room other p = weight doc (p .one)
 
 begin-requires : tie.Need-begin-requires Inv-loop μ-loop
 begin-requires c κs = search agreeing
@@ -22,8 +22,8 @@ common-requires c κs = search agreeing
 
 loop-holds : tie.Need-loop-holds Inv-loop μ-loop
 loop-holds c =
-    let s = c .before .before .before .before .before .before in
-    agree-begun _ _ _ _ _ (s .pre .0) (s .pre .1) (c .before .before .before .before .begin .ensures) (c .before .before .before .begin2 .ensures) _ _ (c .before .before .common .ensures)
+    let s = c .before .before .before .before in
+    agree-begun _ _ _ _ _ (s .pre .0) (s .pre .1) (c .before .before .begin .ensures) (c .before .begin2 .ensures) _ _ (c .common .ensures)
 
 slice-aggregate-next : tie.Need-slice-aggregate-next Inv-loop μ-loop
 slice-aggregate-next c = search agreeing
@@ -78,13 +78,13 @@ common-requires-2 c κs =
 
 loop-less : tie.Need-loop-less Inv-loop μ-loop
 loop-less c =
-    let f = agree-weight _ _ _ _ _ _ _ (c .before .before .before .before .before .before .before .before .before .before .before .before .before .before .before .before .before .loop .inv) _ _ (c .before .before .before .before .before .before .before .before .before .before .before .before .before .before .before .next .ensures) _ _ (c .before .before .before .before .before .before .before .before .before .before .before .before .next2 .ensures) in
+    let f = agree-weight _ _ _ _ _ _ _ (c .before .before .before .before .before .before .before .before .before .before .before .before .before .before .before .loop .inv) _ _ (c .before .before .before .before .before .before .before .before .before .before .before .before .before .next .ensures) _ _ (c .before .before .before .before .before .before .before .before .before .before .next2 .ensures) in
     search (f, needs)
 
 loop-again : tie.Need-loop-again Inv-loop μ-loop
 loop-again c =
-    let f = agree-further _ _ _ _ _ _ _ (c .before .before .before .before .before .before .before .before .before .before .before .before .before .before .before .before .before .loop .inv) _ _ (c .before .before .before .before .before .before .before .before .before .before .before .before .before .before .before .next .ensures) _ _ (c .before .before .before .before .before .before .before .before .before .before .before .before .next2 .ensures) in
-    f _ _ _ _ (search needs) (search needs) (c .before .before .before .if2 .left) (c .before .before .before .before .if1 .left) (search (c .before .before .before .before .before .before .before .before .before .before .before .before .before .before .before .next, needs)) (search (c .before .before .before .before .before .before .before .before .before .before .before .before .next2, needs)) _ _ (c .before .before .common2 .ensures)
+    let f = agree-further _ _ _ _ _ _ _ (c .before .before .before .before .before .before .before .before .before .before .before .before .before .before .before .loop .inv) _ _ (c .before .before .before .before .before .before .before .before .before .before .before .before .before .next .ensures) _ _ (c .before .before .before .before .before .before .before .before .before .before .next2 .ensures) in
+    f _ _ _ _ (search needs) (search needs) (c .before .if2 .left) (c .before .before .if1 .left) (search (c .before .before .before .before .before .before .before .before .before .before .before .before .before .next, needs)) (search (c .before .before .before .before .before .before .before .before .before .before .next2, needs)) _ _ (c .common2 .ensures)
 
 pub texts-spec : {M : Type 1} → statement M
 texts-spec =
