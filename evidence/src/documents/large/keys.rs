@@ -67,6 +67,9 @@ fn repeats(place: usize) -> Meant {
     Err(Refusal { number: REPEAT, place })
 }
 
+/// No line of theirs has more bytes, so that there is room for one more.
+const LINE: usize = 4_200;
+
 /// Keys chosen to cost the most, without a repeated one, with one in the last line, and with one in the middle.
 fn chosen() -> impl Iterator<Item = (String, Make)> {
     const CHOSEN: [(&str, fn(usize) -> String); 12] = [
@@ -85,7 +88,7 @@ fn chosen() -> impl Iterator<Item = (String, Make)> {
     ];
     let ways = [("", None), (", the first repeated at the end", Some(1)), (", the first repeated halfway", Some(2))];
     CHOSEN.into_iter().flat_map(move |(name, made)| {
-        ways.map(move |(way, part)| named(format!("keys {name}{way}"), move || again(made(LONGEST - 300), part)))
+        ways.map(move |(way, part)| named(format!("keys {name}{way}"), move || again(made(LONGEST - LINE), part)))
     })
 }
 
