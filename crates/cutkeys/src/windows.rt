@@ -24,7 +24,7 @@ const FEW: usize = 512;
 
 const SOME: usize = 2048;
 
-const MOST: usize = 4096;
+const MOST: usize = 5632;
 
 // The places of the texts of the keys from `from` on, as many as there is room for.
 fn gather(

@@ -19,7 +19,7 @@ slice-aggregate-window-4 : tie.Need-slice-aggregate-window-4
 slice-aggregate-window-4 c = search needs
 
 window-requires : tie.Need-window-requires
-window-requires c κs = (search needs, search needs, rooms-first 4096 4096 4096 4096 (omega arith) (omega arith) refl refl refl)
+window-requires c κs = (search needs, search needs, rooms-first 5632 5632 4096 5632 (omega arith) (omega arith) refl refl refl)
 
 returns : tie.Need-returns
 returns c = search needs
