@@ -1,4 +1,6 @@
 // The answer for a document whose rows and text are known: REPEAT, ROWS and TEXT in this order, or both copied into the rooms lent, and the rows' lines and columns told.
+#![tactic(auto)]
+
 ghost use Rattle.std.specs.Prelude.{◌≡◌, ◌≤◌, length};
 ghost use Rattle.std.proofs.lemmas.List.Edits.{sets};
 ghost use Rattle.std.proofs.Math.Seq.{slice};

@@ -1,4 +1,6 @@
 // Asks the questions of good and of damaged tables, and prints a line for each: the question, its number and its value.
+#![tactic(auto)]
+
 mod comparing;
 mod cutting;
 mod damaging;

@@ -1,1 +1,2 @@
 // Readers and their exactness stand in specs/.
+#![tactic(auto)]

@@ -1,4 +1,6 @@
 // The reading cursor, readers of characters, comments and line comments, and the test for CHAR.
+#![tactic(auto)]
+
 ghost use Rattle.std.specs.Prelude.{◌+◌, drop};
 ghost use Rattle.exact.specs.Class.{is, only};
 ghost use Rattle.exact.specs.Lang.{byte_r};

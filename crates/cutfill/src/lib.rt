@@ -1,4 +1,6 @@
 // The rooms are filled from a content that is cut: fields that stand whole in a run are filled as those of a short file, the others by views of what is inside them.
+#![tactic(auto)]
+
 ghost use Rattle.std.specs.Prelude.{◌≡◌, ◌+◌, ◌-◌, ◌*◌, ◌≤◌, ◌<◌, length};
 ghost use Rattle.std.proofs.lemmas.List.Edits.{sets};
 ghost use Rattle.exact.specs.Tells.{Tells};

@@ -1,4 +1,6 @@
 // The keys of an object whose content is cut: whether no two have one text.
+#![tactic(auto)]
+
 ghost use Rattle.std.specs.Prelude.{◌<◌};
 ghost use Rattle.views.specs.Views.{viewed};
 ghost use Rattle.views.specs.Spans.{Lies};

@@ -1,4 +1,6 @@
 // The texts of scalars and keys that are cut: as in `texts`, over a content of n bytes and not over a part of a room.
+#![tactic(auto)]
+
 mod float;
 mod integer;
 mod reading;

@@ -1,4 +1,6 @@
 // Whether a value stands in a content that is cut, or in stored bytes that are more than one field holds. What lies whole before the nearest cut is tested where it stands, as in `tested`.
+#![tactic(auto)]
+
 ghost use Rattle.std.specs.Prelude.{true, false, ◌+◌, ◌<◌, ◌≤◌};
 ghost use Rattle.sound.specs.Members.{Sane, One, IsKey, Member, container_kind};
 ghost use Rattle.views.specs.Views.{viewed};

@@ -1,4 +1,6 @@
 // The upgrade decision (document 02, Ticket 6), above the reader: it asks the public functions of tables and integers, and reads nothing else but kinds and counts of rows.
+#![tactic(auto)]
+
 ghost use Rattle.exact.specs.Tells.{Tells};
 ghost use Rattle.upgrade.specs.Decides as D;
 ghost use Rattle.decide.specs.Contract.{InstalledRow, SheetRows};

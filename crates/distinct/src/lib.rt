@@ -1,4 +1,6 @@
 // Keys by number, each a text between two places of a room, told apart in chains and in the order of their texts.
+#![tactic(auto)]
+
 ghost use Rattle.std.specs.Prelude.{◌≡◌, ◌<◌, length, get_or};
 ghost use Rattle.std.proofs.Math.Seq.{slice};
 ghost use Rattle.exact.specs.Tells.{Tells};

@@ -209,6 +209,8 @@ both_join (soft q v at s) (soft p v' at' s') k (inr x) = absurd x
 -- a language whose reader fails has no word here, so the two cannot both have a value
 pub fails_none : {X W : Type 0} {P : Tail W} {at : ℕ} {s : List ℕ} (o : Out X) (k : X → ℕ → List ℕ → Res W)
     → Fails o → Verdict P at s (finish o k) → (w : W) → P s w → ⊥
+fails_none {X = X} {W = W} {P = P} {at = at} {s = s} (ok _ _ _) k h _ = elim h [ ]
+fails_none {X = X} {W = W} {P = P} {at = at} {s = s} (soft _ _ _ _) k h _ = elim h [ ]
 fails_none (bad p) k h (stops _ v z) = z
 
 -- one of two is refused, no later than the other goes

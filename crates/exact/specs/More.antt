@@ -88,6 +88,7 @@ bind_past q (s_soft {p = n} {v = v} {a = a} {t = t}) = omega (arith, reach_raise
 -- the soft answer looks no further than the spaces that follow
 seen_near : {X : Type 0} {d at : ℕ} {s : List ℕ} {o : Out X} {m : ℕ} {v : X} {a : ℕ} {t : List ℕ} → Tamed d at s o → Seen o m v a t
     → (m ≤ a + margin t) × (at + margin s ≤ a + margin t)
+seen_near {X = X} {d = d} {at = at} {s = s} {m = m} {v = v} {a = a} {t = t} (t_bad p _ _) x7 = elim x7 [ ]
 seen_near (t_ok m) s_ok = (omega arith, margin_kept m)
 seen_near (t_soft p m l) s_soft = (omega arith, margin_kept m)
 

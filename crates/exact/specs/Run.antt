@@ -122,6 +122,7 @@ module _ {S : Type 0} (next : S → ℕ → S) (full live : S → Bool) where
         by false e = at_end at (run_some σ l K ne at) (λ w x. none w (from K σ at [] w x))
           where
             none : (w : W) → either (On K σ at) (Ended K σ at) [] w → ⊥
+            none w (inl x6) = elim x6 [ ]
             none w (inr x) = clash x.0 e
     run_go {W} K k ne cl (b ∷ s) σ l at h =
         by

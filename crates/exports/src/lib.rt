@@ -1,1 +1,2 @@
 // What the C functions promise stands in specs/; this crate has no code.
+#![tactic(auto)]

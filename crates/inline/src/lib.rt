@@ -1,4 +1,6 @@
 // Inline values: scalars, and containers in brackets. Elements and pairs are read in a loop; a container inside another takes one of the allowance.
+#![tactic(auto)]
+
 ghost use Rattle.std.specs.Prelude.{◌≡◌, true, false, drop};
 ghost use Rattle.rooms.specs.Contract.{Ready, Answers, Reaches};
 ghost use Rattle.exact.specs.Class.{is};

@@ -1,4 +1,6 @@
 // Integers' texts compared as numbers (document 01, Questions). No public function has a `requires`.
+#![tactic(auto)]
+
 mod comparing;
 mod integer;
 mod numeral;

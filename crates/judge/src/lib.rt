@@ -1,5 +1,7 @@
 // Blocks and documents: each reader reads at the cursor, writes its rows and its text into the rooms lent as far as those reach, and answers the cursor behind its
 // lines, how far a further line would begin, and where its span ends; or the place where it is refused.
+#![tactic(auto)]
+
 use rooms::Cursor;
 
 mod lines;

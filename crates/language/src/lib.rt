@@ -1,4 +1,6 @@
 // The words that document 01 gives numbers to: kinds, rows, places, refusals and answers.
+#![tactic(auto)]
+
 ghost use Rattle.std.specs.Prelude.{◌≡◌, ◌/◌};
 ghost use Rattle.language.specs.Kind.{has_text};
 ghost use Rattle.language.specs.Answered as answered;

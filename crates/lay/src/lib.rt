@@ -1,4 +1,6 @@
 // Lays a sound table whose root is an object over another, into a third.
+#![tactic(auto)]
+
 ghost use Rattle.std.specs.Prelude.{◌≡◌};
 ghost use Rattle.exact.specs.Tells.{Tells};
 ghost use Rattle.language.specs.Alike.{unspan};

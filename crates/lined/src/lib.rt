@@ -1,4 +1,6 @@
 // Lines and columns, told in one walk over the document beside its rows. Where neither an LF nor a tail byte of a character lies before the next row, that row costs two tests.
+#![tactic(auto)]
+
 ghost use Rattle.std.specs.Prelude.{◌≡◌, ◌+◌, ◌≤◌, ◌<◌, min, max, length, get_or};
 ghost use Rattle.language.specs.Answered.{limit};
 ghost use Rattle.language.specs.Lines.{lines_of};

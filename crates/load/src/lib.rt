@@ -1,4 +1,6 @@
 // Loading: stored bytes are passed over and tested, their rows counted; then the rooms lent are tested and filled.
+#![tactic(auto)]
+
 ghost use Rattle.std.specs.Prelude.{◌≡◌, ◌-◌, ◌*◌, ◌≤◌, length};
 ghost use Rattle.language.specs.Lent.{lent};
 ghost use Rattle.uncut.specs.Short.{longest};

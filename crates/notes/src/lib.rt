@@ -1,4 +1,6 @@
 // The keys handed on while a document is passed over. A small room notes for each its object's row and its first byte; a large one sieves them, or notes those that pass a filter.
+#![tactic(auto)]
+
 ghost use Rattle.std.specs.Prelude.{◌≡◌, ◌++◌, ◌+◌, ◌*◌, ◌%◌, ◌≤◌, ◌<◌, length, get_or, set, take, drop};
 ghost use Rattle.language.specs.Answered.{limit};
 ghost use Rattle.spelt.specs.Texts.{spelled};

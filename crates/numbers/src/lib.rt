@@ -1,4 +1,6 @@
 // Keywords and numbers. What a number is, is found before anything is written.
+#![tactic(auto)]
+
 ghost use Rattle.std.specs.Prelude.{◌≡◌, [], false, ℕ, ◌+◌, ◌≤◌, ◌<◌, length, drop};
 ghost use Rattle.language.specs.Kind.{TRUE, FLOAT};
 ghost use Rattle.rooms.specs.Told.{spot};

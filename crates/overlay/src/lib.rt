@@ -1,4 +1,6 @@
 // The definition of laying one profile over another, and what is proved of it, stand in specs/; here is the answer alone.
+#![tactic(auto)]
+
 ghost use Rattle.std.specs.Prelude.{◌≡◌};
 ghost use Rattle.overlay.specs.Overlaid.{gave_number, gave_first, gave_second};
 

@@ -1,4 +1,6 @@
 // Repeated keys, found by their places: the keys noted of a document stand in chains; where a chain grows long, in the order of their names.
+#![tactic(auto)]
+
 ghost use Rattle.std.specs.Prelude.{◌<◌, ◌≤◌, slice_index};
 ghost use Rattle.repeats.specs.Numbering.{Same};
 ghost use Rattle.repeats.specs.Walk.{Walks};

@@ -1,1 +1,2 @@
 // What is proved about the promise stands in specs/; this crate has no code.
+#![tactic(auto)]

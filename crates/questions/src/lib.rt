@@ -1,4 +1,6 @@
 // The questions of document 01, asked of any lent table, row count and text room. None has a `requires`.
+#![tactic(auto)]
+
 use language::Row;
 
 mod finding;

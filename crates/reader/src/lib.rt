@@ -1,4 +1,6 @@
 // Reads a document into the rooms lent.
+#![tactic(auto)]
+
 ghost use Rattle.std.specs.Prelude.{◌≡◌, true, ◌+◌, ◌≤◌, length};
 ghost use Rattle.language.specs.Answered.{number, value, second, third, Answered, Totals, limit};
 ghost use Rattle.reader.specs.Filling.{few_bytes, some_bytes, more_bytes, Classed, Texted, Read, Attempted};

@@ -1,4 +1,6 @@
 // What is found of repeated keys; the words of chains and of the order of names.
+#![tactic(auto)]
+
 ghost use Rattle.std.specs.Prelude.{◌≡◌, ◌+◌, ◌*◌, ◌%◌, ◌≤◌, ◌<◌, length, get_or};
 ghost use Rattle.repeats.specs.Numbering.{spread};
 ghost use Rattle.repeats.specs.Sorted.{Inserted};

@@ -1,4 +1,6 @@
 // A sieve of keys, each an object's row and a hash: whatever key comes twice has its bit set in the second of two runs of bits. Each depth has a list of the first keys of the object last met there, so that small objects set no bits; without lists every key has its bit.
+#![tactic(auto)]
+
 ghost use Rattle.std.specs.Prelude.{◌≡◌, ◌+◌, ◌/◌, ◌≤◌, ◌<◌, length, get_or};
 ghost use Rattle.exact.specs.Tells.{Tells};
 ghost use Rattle.sieve.specs.Bits.{On, Sets};

@@ -1,4 +1,6 @@
 // Whether a table, a count of rows and a text room are sound: each row in its turn is tested for what the tree of a document would have there.
+#![tactic(auto)]
+
 ghost use Rattle.std.specs.Prelude.{◌≡◌, suc, ◌+◌, ◌*◌, ◌≤◌, ◌<◌, length, get_or};
 ghost use Rattle.exact.specs.Tells.{Tells};
 ghost use Rattle.notation.specs.Class.{pick};

@@ -32,6 +32,7 @@ module _ (doc : List ℕ) where
   leaf_begins h = by_children h (λ u c. absurd (has_child c))
 
   among_begin : (ts : List Tree) → Each Begin ts → (u : Tree) → Among u (forest ts) → Begin u
+  among_begin [] g u x'' = elim x'' [ ]
   among_begin (t ∷ ts) g u among_first = g.0
   among_begin (t ∷ ts) g u (among_later m) = among_begin ts g.1 u m
 

@@ -11,15 +11,19 @@ abbrev pub Either : Tree → Type 0
 Either t = Formed t ⊎ IsKey t
 
 element_formed : {c : ℕ} {u : Tree} {ts : Forest} → Elements c ts → Among u ts → Formed u
+element_formed {u = u} Rattle.spans.specs.Formed.no_element x4 = elim x4 [ ]
 element_formed (element x y) among_first = x
 element_formed (element x y) (among_later m) = element_formed y m
 
 pair_either : {c : ℕ} {u : Tree} {ts : Forest} → Pairs c ts → Among u ts → Either u
+pair_either {u = u} Rattle.spans.specs.Formed.no_pair x4 = elim x4 [ ]
 pair_either (pair x y z) among_first = inr x
 pair_either (pair x y z) (among_later among_first) = inl y
 pair_either (pair x y z) (among_later (among_later m)) = pair_either z m
 
 child_either : {u t : Tree} → Formed t → Child u t → Either u
+child_either {u = u} (formed_word {k = k} {a = a} {e = e} {s = s} _ _ _) x9 = elim x9 [ ]
+child_either {u = u} (formed_text {k = k} {a = a} {e = e} {s = s} _ _) x8 = elim x8 [ ]
 child_either (formed_array x) (child m) = inl (element_formed x m)
 child_either (formed_object x) (child m) = pair_either x m
 

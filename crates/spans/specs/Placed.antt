@@ -63,28 +63,35 @@ pub record Inside (t u : Tree) : Type 0 where
   pub ends : after u ≤ after t
 
 among_placed : {a e : ℕ} {u : Tree} {ts : Forest} → Along a ts e → Among u ts → Placed u
+among_placed {u = u} (along_none {a = a} {e = e} _) x6 = elim x6 [ ]
 among_placed (along_more b p l) among_first = p
 among_placed (along_more b p l) (among_later m) = among_placed l m
 
 among_begins : {a e : ℕ} {u : Tree} {ts : Forest} → Along a ts e → Among u ts → a ≤ first u
+among_begins {u = u} (along_none {a = a} {e = e} _) x6 = elim x6 [ ]
 among_begins (along_more b p l) among_first = b
 among_begins (along_more b p l) (among_later m) = let x = span_some p in let y = among_begins l m in omega arith
 
 among_ends : {a e : ℕ} {u : Tree} {ts : Forest} → Along a ts e → Among u ts → after u ≤ e
+among_ends {u = u} (along_none {a = a} {e = e} _) x6 = elim x6 [ ]
 among_ends (along_more b p l) among_first = along_le l
 among_ends (along_more b p l) (among_later m) = among_ends l m
 
 among_ordered : {a e : ℕ} {u w : Tree} {ts : Forest} → Along a ts e → Ordered u w ts → after u ≤ first w
+among_ordered {u = u} {w = w} (along_none {a = a} {e = e} _) x6 = elim x6 [ ]
 among_ordered (along_more b p l) (ordered_first m) = among_begins l m
 among_ordered (along_more b p l) (ordered_later m) = among_ordered l m
 
 pub child_placed : {t u : Tree} → Placed t → Child u t → Placed u
+child_placed {u = u} (placed_leaf {k = k} {a = a} {e = e} {s = s} _) x5 = elim x5 [ ]
 child_placed (placed_node h l) (child m) = among_placed l m
 
 pub child_inside : {t u : Tree} → Placed t → Child u t → Inside t u
+child_inside {u = u} (placed_leaf {k = k} {a = a} {e = e} {s = s} _) x5 = elim x5 [ ]
 child_inside (placed_node h l) (child m) = record { begins = among_begins l m; ends = among_ends l m }
 
 pub siblings_ordered : {t u w : Tree} → Placed t → Siblings u w t → after u ≤ first w
+siblings_ordered {u = u} {w = w} (placed_leaf {k = k} {a = a} {e = e} {s = s} _) x5 = elim x5 [ ]
 siblings_ordered (placed_node h l) (siblings m) = among_ordered l m
 
 pub within_placed : {t u : Tree} → Placed t → Within u t → Placed u

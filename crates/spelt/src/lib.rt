@@ -1,4 +1,6 @@
 // The texts of keys by their places in the document, read again a byte at a time; and their hashes.
+#![tactic(auto)]
+
 ghost use Rattle.std.specs.Prelude.{◌≡◌, ◌+◌, ◌*◌, ◌/◌, ◌%◌, ◌<◌};
 ghost use Rattle.spelt.specs.Reading.{Keyed, Bare};
 ghost use Rattle.spelt.specs.Hash.{HashOf};

@@ -1,4 +1,6 @@
 // Storing: a sound table and its text as tagged fields, one byte tag, two bytes length and the content.
+#![tactic(auto)]
+
 ghost use Rattle.std.specs.Prelude.{◌≡◌, length};
 ghost use Rattle.stored.specs.Form.{form};
 ghost use Rattle.store.specs.Answers.{Needs};

@@ -1,4 +1,6 @@
 // What `store` and `load` answer (document 02, Tickets 4 and 11); its definitions and what follows from them stand in specs/.
+#![tactic(auto)]
+
 ghost use Rattle.std.specs.Prelude.{◌≡◌};
 ghost use Rattle.stored.specs.Stored as S;
 ghost use Rattle.stored.specs.Loaded as L;

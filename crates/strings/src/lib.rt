@@ -1,5 +1,7 @@
 // Quoted strings, keys and inline bytes: each reads at the cursor, writes its row and its decoded text into the rooms lent as far as those reach, and answers
 // the cursor behind it or the place where it is refused.
+#![tactic(auto)]
+
 mod clean;
 mod digits;
 mod escapes;

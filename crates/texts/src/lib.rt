@@ -1,4 +1,6 @@
 // Whether a part of the text room is the text of a scalar: "the UTF-8 of scalar values", a float of the grammar, an integer, bytes.
+#![tactic(auto)]
+
 mod float;
 mod reading;
 mod script;

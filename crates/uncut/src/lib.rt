@@ -1,4 +1,6 @@
 // Fields without parts, in stored bytes that one field holds: whether they are those of a value, and the rooms filled from them.
+#![tactic(auto)]
+
 mod after;
 mod filling;
 mod heads;

@@ -1,4 +1,6 @@
 // What `decide` answers (document 02, Ticket 6); its definitions and what follows from them stand in specs/.
+#![tactic(auto)]
+
 ghost use Rattle.std.specs.Prelude.{◌≡◌};
 ghost use Rattle.upgrade.specs.Decides as D;
 

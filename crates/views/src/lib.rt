@@ -1,4 +1,6 @@
 // Contents in parts, as if they were whole: a view is the places of the fields around, each in the content of the one around it, from the stored bytes in.
+#![tactic(auto)]
+
 ghost use Rattle.std.specs.Prelude.{◌≡◌, ◌+◌, ◌-◌, ◌*◌, ◌/◌, ◌%◌, ◌<◌, ◌≤◌, length, get_or, take};
 ghost use Rattle.language.specs.Lent.{lent};
 ghost use Rattle.views.specs.Views.{viewed, place_of, Seen, Reached, Deeper, ByteAsked, Content};

@@ -1,4 +1,6 @@
 // Contents that are cut: what testing one gives, the bytes that stand before the nearest cut, and a copy of one.
+#![tactic(auto)]
+
 ghost use Rattle.std.specs.Prelude.{◌≡◌, length, take};
 ghost use Rattle.std.proofs.lemmas.List.Edits.{sets};
 ghost use Rattle.views.specs.Spans.{Lies};

@@ -1,4 +1,6 @@
 // The writer: a sound table and its text as a profile in the house style.
+#![tactic(auto)]
+
 mod codes;
 mod flat;
 mod leaves;

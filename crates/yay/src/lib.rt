@@ -1,4 +1,6 @@
 // The C interface: each function answers a number of documents 01 and 02, 0 for none, and puts its values where it is told.
+#![tactic(auto)]
+
 ghost use Rattle.exports.specs.Exports.{FoundAt, ComparedTo, TextAt};
 ghost use Rattle.language.specs.Answered.{Answered, Totals};
 ghost use Rattle.language.specs.Written.{Sounded, Written};
