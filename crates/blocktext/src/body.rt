@@ -10,7 +10,7 @@ use characters::{Reading, Skip};
 use rooms::{Ans, Cursor, copy, lesser, put_byte};
 
 // What stands at a line: nothing but an LF, and the place behind it; a text and the place of its LF; no line of the body, and how far one would begin; or a line that is refused.
-#[derive(Drop)]
+#[derive(Clone, Copy)]
 pub enum Seen {
     Empty(usize),
     Written(usize, usize),
@@ -19,7 +19,7 @@ pub enum Seen {
 }
 
 // The body: the place behind it, how far a further line would begin, where its last text ends, and the least indentation; or the place where it is refused.
-#[derive(Drop)]
+#[derive(Clone, Copy)]
 pub enum Extent {
     Whole(usize, usize, usize, usize),
     Broken(usize),

@@ -17,7 +17,7 @@ use rooms::{Ans, Block, Cursor};
 use strings::quoted;
 
 // Where the quoted string of a further line begins; or that there is none, and how far one would begin.
-#[derive(Drop)]
+#[derive(Clone, Copy)]
 pub enum Next {
     Line(usize),
     Over(usize),

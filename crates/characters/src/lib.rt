@@ -23,27 +23,27 @@ use table::walk_end;
 use value::value;
 
 // The reading cursor: the place that a reader has come to.
-#[derive(Drop)]
+#[derive(Clone, Copy)]
 pub struct Reading {
     pub at: usize,
 }
 
 // What taking a byte gives: the byte and the place behind it, or that the document is at its end.
-#[derive(Drop)]
+#[derive(Clone, Copy)]
 pub enum Took {
     Byte(u8, Reading),
     Over,
 }
 
 // What reading a character gives: its scalar value and the place behind it, or the place of the first byte that no character has there.
-#[derive(Drop)]
+#[derive(Clone, Copy)]
 pub enum Read {
     Scalar(u32, Reading),
     Not(usize),
 }
 
 // What passing over a part of a line gives: the place behind it, or the place where it is refused.
-#[derive(Drop)]
+#[derive(Clone, Copy)]
 pub enum Skip {
     End(usize),
     Bad(usize),

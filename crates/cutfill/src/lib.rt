@@ -21,7 +21,7 @@ use views::{LEVELS, Reach, Span, deeper, extent, place};
 use wide::{near, text_of};
 
 // Where filling has come to: the place of the content, the row and the text byte behind what is filled, and how many fields that are. Rows are told the row of their parent, `up`.
-#[derive(Drop)]
+#[derive(Clone, Copy)]
 pub struct Came {
     at: usize,
     row: usize,

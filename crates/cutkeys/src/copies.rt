@@ -27,7 +27,7 @@ const MOST: usize = 640;
 const ROOM: usize = 24576;
 
 // The first key from a place on that is cut and short: its place, the bytes of its text, and the place of the key behind it, and where that one stands, as in `Named`; or that there is none, by the place where the content ends.
-#[derive(Drop)]
+#[derive(Clone, Copy)]
 pub struct Short {
     pub place: usize,
     pub bytes: usize,

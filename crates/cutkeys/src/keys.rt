@@ -15,7 +15,7 @@ use views::{LEVELS, Span, extent, place};
 use wide::near;
 
 // A key: where its text stands in the stored bytes, if it stands there whole, and the place of the key behind it and its value; and where that one stands, with how many bytes before the nearest cut, or 0 and 0 if that is not known.
-#[derive(Drop)]
+#[derive(Clone, Copy)]
 pub struct Named {
     pub from: usize,
     pub to: usize,
@@ -26,7 +26,7 @@ pub struct Named {
 }
 
 // The first key from a place on that stands whole: its place, where its text stands, and the place of the key behind it, and where that one stands, as above; or that there is none, by the place where the content ends.
-#[derive(Drop)]
+#[derive(Clone, Copy)]
 pub struct Found {
     pub place: usize,
     pub from: usize,
@@ -37,14 +37,14 @@ pub struct Found {
 }
 
 // Where a key's field ends and where its value's does, before a cut; or 0.
-#[derive(Drop)]
+#[derive(Clone, Copy)]
 pub struct Pair {
     pub end: usize,
     pub next: usize,
 }
 
 // The bytes of a field's content, and the place behind it.
-#[derive(Drop)]
+#[derive(Clone, Copy)]
 pub struct Size {
     pub bytes: usize,
     pub end: usize,

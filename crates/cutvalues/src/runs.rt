@@ -12,7 +12,7 @@ use uncut::{Tested, behind, is_field};
 use wide::Walked;
 
 // What passing members gives: the place behind them, and the count of them, of their rows and of their text bytes; or that none stand up to the end.
-#[derive(Drop)]
+#[derive(Clone, Copy)]
 pub enum Ran {
     Good(usize, usize, usize, usize),
     Bad,

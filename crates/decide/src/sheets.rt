@@ -11,7 +11,7 @@ use questions::{Found, find, text};
 use sound::sound;
 
 // What a table is: a sheet, with the rows of its version and its floor, or something other.
-#[derive(Drop)]
+#[derive(Clone, Copy)]
 pub enum Sheet {
     Rows(usize, usize),
     Other,

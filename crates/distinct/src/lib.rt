@@ -13,7 +13,7 @@ pub use chains::{chained, chained_all, in_chains};
 pub use ranks::{in_order, ranked_all};
 
 // What a look for a text in a chain gives: the number of the key that has it, or that none has, or that the chain is too long.
-#[derive(Drop)]
+#[derive(Clone, Copy)]
 pub enum Sought {
     At(usize),
     Nowhere,
@@ -21,21 +21,21 @@ pub enum Sought {
 }
 
 // Where a text stands among keys in order: it is that of the key of this number, or belongs behind so many.
-#[derive(Drop)]
+#[derive(Clone, Copy)]
 pub enum Standing {
     At(usize),
     Gap(usize),
 }
 
 // A window of n keys, and where the key behind them stands.
-#[derive(Drop)]
+#[derive(Clone, Copy)]
 pub struct Taken {
     pub n: usize,
     pub next: usize,
 }
 
 // What entering the chains of a window tells: two keys have one text, or a chain is too long, or n keys stand there, and where the key behind them stands.
-#[derive(Drop)]
+#[derive(Clone, Copy)]
 pub enum Entered {
     Twice,
     Long,
@@ -43,7 +43,7 @@ pub enum Entered {
 }
 
 // What a window tells: two keys have one text, or the walk goes on from a key.
-#[derive(Drop)]
+#[derive(Clone, Copy)]
 pub enum Went {
     Twice,
     On(usize),

@@ -17,7 +17,7 @@ use rooms::{Ans, Cursor, Far, put_row, row_of};
 use strings::{inline_bytes, key, string};
 
 // What follows an element or a pair: another, the end of the list, or neither.
-#[derive(Drop)]
+#[derive(Clone, Copy)]
 pub enum Sep {
     More(Cursor),
     Last(Cursor),

@@ -9,7 +9,7 @@ pub use comparing::compare;
 pub use integer::is_integer;
 
 // How the left integer stands to the right one.
-#[derive(Drop)]
+#[derive(Clone, Copy)]
 pub enum Compared {
     Less,
     Equal,

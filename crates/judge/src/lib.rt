@@ -12,7 +12,7 @@ mod whole;
 pub use whole::{blame, check, pass};
 
 // How a block begins: with a dash, with a key, or with neither; then the place where a key is refused.
-#[derive(Drop)]
+#[derive(Clone, Copy)]
 pub enum Start {
     Dash,
     Key,
@@ -20,7 +20,7 @@ pub enum Start {
 }
 
 // The next line of a block: a further member there, or none, and how far the line begins one.
-#[derive(Drop)]
+#[derive(Clone, Copy)]
 pub enum Next {
     More(Cursor),
     Over(usize),

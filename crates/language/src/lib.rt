@@ -36,15 +36,15 @@ pub fn bytes_lent(room: &[u8]) -> usize
 }
 
 // A place is counted in bytes from 0.
-#[derive(Drop)]
+#[derive(Clone, Copy)]
 pub struct Place(pub usize);
 
 // A row is counted from 0, and is never taken for a place.
-#[derive(Drop)]
+#[derive(Clone, Copy)]
 pub struct Row(pub usize);
 
 // The kind of a row, by its number.
-#[derive(Drop)]
+#[derive(Clone, Copy)]
 pub struct Kind(pub u32);
 
 impl Kind {
@@ -87,7 +87,7 @@ impl Kind {
 }
 
 // What `read` answers: the rows read, the count of text bytes and that of escapes; or a refusal, with its place, the rows needed or the count of text bytes needed.
-#[derive(Drop)]
+#[derive(Clone, Copy)]
 pub enum Answer {
     Accepted(Row, usize, usize),
     Long,
@@ -101,7 +101,7 @@ pub enum Answer {
 }
 
 // What `write` answers: the count of bytes written; that the table is not sound; that the bytes are too many; or how many bytes the output would need.
-#[derive(Drop)]
+#[derive(Clone, Copy)]
 pub enum Wrote {
     Done(usize),
     BadRow,

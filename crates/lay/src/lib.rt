@@ -21,14 +21,14 @@ use overlay::Gave;
 use sound::{sound, word};
 
 // The row and the text byte of the targets that come next.
-#[derive(Drop)]
+#[derive(Clone, Copy)]
 pub struct Spot {
     pub row: usize,
     pub text: usize,
 }
 
 // What comes next behind the upper's new pairs, and how many they are.
-#[derive(Drop)]
+#[derive(Clone, Copy)]
 pub struct Grown {
     pub row: usize,
     pub text: usize,
@@ -36,7 +36,7 @@ pub struct Grown {
 }
 
 // What laying gives: what comes next, or a clash.
-#[derive(Drop)]
+#[derive(Clone, Copy)]
 pub enum Lay {
     Done(Spot),
     Clash,

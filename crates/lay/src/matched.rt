@@ -89,7 +89,7 @@ pub fn matches(
 }
 
 // The marks that are left, from the i-th to the n-th, and where they stand.
-#[derive(Drop)]
+#[derive(Clone, Copy)]
 pub struct Left {
     pub i: usize,
     pub n: usize,

@@ -13,7 +13,7 @@ ghost use Rattle.lined.specs.Lined.{lined, Ranked};
 use language::WIDTH;
 
 // Where the walk stands: the line; its begin and as many more as tail bytes were passed in it, so that the column of p is p + 1 - start; the next LF, or a place behind the last row; a place up to which no tail byte comes.
-#[derive(Drop)]
+#[derive(Clone, Copy)]
 struct Walk {
     line: u32,
     start: usize,

@@ -17,7 +17,7 @@ use wide::Walked;
 const LONGEST: usize = WIDEST + 3;
 
 // The rows and the text bytes that the stored bytes hold, no rows if they are no stored form.
-#[derive(Drop)]
+#[derive(Clone, Copy)]
 pub struct Held {
     rows: usize,
     bytes: usize,

@@ -5,7 +5,7 @@ ghost use Rattle.numbers.specs.Contract.{PastGap, Grouped};
 use characters::{Reading, Skip, Took};
 
 // Digits: the place behind them, and whether no space stands between them.
-#[derive(Drop)]
+#[derive(Clone, Copy)]
 pub struct Stretch {
     pub end: Reading,
     pub dense: bool,

@@ -9,7 +9,7 @@ use characters::{Reading, Skip, Took};
 use language::Kind;
 
 // A number without its sign: its kind, the place behind it, the place behind its last digits, and whether no space stands in it.
-#[derive(Drop)]
+#[derive(Clone, Copy)]
 pub struct Numeral {
     pub kind: Kind,
     pub end: usize,
@@ -18,7 +18,7 @@ pub struct Numeral {
 }
 
 // What is found where a number may stand: the number, or the place where it is refused.
-#[derive(Drop)]
+#[derive(Clone, Copy)]
 pub enum Scanned {
     Number(Numeral),
     Refused(usize),

@@ -5,7 +5,7 @@ ghost use Rattle.std.specs.Prelude.{◌≡◌};
 ghost use Rattle.overlay.specs.Overlaid.{gave_number, gave_first, gave_second};
 
 // What an overlay answers: the rows and the text bytes of the result; that a table is not sound or its root no object; a clash; or how many rows or text bytes the targets would need.
-#[derive(Drop)]
+#[derive(Clone, Copy)]
 pub enum Gave {
     Done(usize, usize),
     BadRow,

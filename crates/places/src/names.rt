@@ -15,7 +15,7 @@ use rooms::Cursor;
 use spelt::{Given, Spelling, begin, further, next, standing};
 
 // What a text leads to: its mark, and a number that picks its chain.
-#[derive(Drop)]
+#[derive(Clone, Copy)]
 pub struct Marks {
     pub mark: u32,
     pub stir: usize,
@@ -121,7 +121,7 @@ pub fn marks_of(doc: &[u8], at: usize, object: usize) -> Marks
 }
 
 // Where the reading of two texts is.
-#[derive(Drop)]
+#[derive(Clone, Copy)]
 pub struct Both {
     pub one: Spelling,
     pub two: Spelling,

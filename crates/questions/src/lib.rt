@@ -11,7 +11,7 @@ pub use finding::find;
 pub use reading::{text, text_number};
 
 // Where the value of a key stands.
-#[derive(Drop)]
+#[derive(Clone, Copy)]
 pub enum Found {
     At(Row),
     Missing,

@@ -37,7 +37,7 @@ const SOME_ROWS: usize = 512;
 const MORE_ROWS: usize = 1700;
 
 // What reading into rooms of our own gives: the answer, or that they have too few rows.
-#[derive(Drop)]
+#[derive(Clone, Copy)]
 pub enum Tried {
     Settled(Answer),
     TooFew,

@@ -6,14 +6,14 @@ ghost use Rattle.repeats.specs.Numbering.{spread};
 ghost use Rattle.repeats.specs.Sorted.{Inserted};
 
 // Where the first key stands that is the same as an earlier one of its object, if there is one.
-#[derive(Drop)]
+#[derive(Clone, Copy)]
 pub enum Repeat {
     At(usize),
     Nowhere,
 }
 
 // What a look through a chain gives: the same key is met, or not, or the chain is too long.
-#[derive(Drop)]
+#[derive(Clone, Copy)]
 pub enum Walk {
     Met,
     Past,
@@ -21,7 +21,7 @@ pub enum Walk {
 }
 
 // How two names stand to each other in their order.
-#[derive(Drop)]
+#[derive(Clone, Copy)]
 pub enum Order {
     Less,
     Same,
@@ -29,7 +29,7 @@ pub enum Order {
 }
 
 // Where a key belongs among those in order: behind so many, or it is there already.
-#[derive(Drop)]
+#[derive(Clone, Copy)]
 pub enum Found {
     Gap(usize),
     There,

@@ -15,7 +15,7 @@ use language::{Kind, WIDTH};
 pub const ESCAPE: usize = 4294967296;
 
 // Where a reader stands: the byte and the row that come next, and the text byte that comes next with the escapes read so far, in one word.
-#[derive(Drop)]
+#[derive(Clone, Copy)]
 pub struct Cursor {
     pub at: usize,
     pub row: usize,
@@ -23,28 +23,28 @@ pub struct Cursor {
 }
 
 // What reading a byte gives: the byte and the next cursor, or the document's end.
-#[derive(Drop)]
+#[derive(Clone, Copy)]
 pub enum Step {
     Byte(u8, Cursor),
     Over,
 }
 
 // What a reader answers: the cursor after what it read, or the place where it is refused.
-#[derive(Drop)]
+#[derive(Clone, Copy)]
 pub enum Ans {
     Ok(Cursor),
     No(usize),
 }
 
 // The same with the place up to which something longer stays viable, 0 for none.
-#[derive(Drop)]
+#[derive(Clone, Copy)]
 pub enum Far {
     Upto(Cursor, usize),
     Not(usize),
 }
 
 // What the reader of a block answers: the same, with the place where the span of what it read ends.
-#[derive(Drop)]
+#[derive(Clone, Copy)]
 pub enum Block {
     Done(Cursor, usize, usize),
     Bad(usize),
@@ -85,7 +85,7 @@ impl Block {
 }
 
 // The words of a row but its line and column, which are told once all rows are read.
-#[derive(Drop)]
+#[derive(Clone, Copy)]
 pub struct Words {
     pub kind: u32,
     pub first: u32,

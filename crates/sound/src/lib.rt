@@ -23,7 +23,7 @@ use once::apart;
 use texts::{scalar_text, scripted};
 
 // What testing rows gives: the row and the text byte behind them, or that no tree has these rows.
-#[derive(Drop)]
+#[derive(Clone, Copy)]
 pub enum Tested {
     Good(usize, usize),
     Bad,

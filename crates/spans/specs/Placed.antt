@@ -94,11 +94,11 @@ pub siblings_ordered : {t u w : Tree} → Placed t → Siblings u w t → after 
 siblings_ordered {u = u} {w = w} (placed_leaf {k = k} {a = a} {e = e} {s = s} _) x5 = elim x5 [ ]
 siblings_ordered (placed_node h l) (siblings m) = among_ordered l m
 
-pub within_placed : {t u : Tree} → Placed t → Within u t → Placed u
+pub within_placed : {u t : Tree} → Placed t → Within u t → Placed u
 within_placed p itself = p
 within_placed p (below c w) = within_placed (child_placed p c) w
 
-pub within_inside : {t u : Tree} → Placed t → Within u t → Inside t u
+pub within_inside : {u t : Tree} → Placed t → Within u t → Inside t u
 within_inside p itself = record { begins = omega arith; ends = omega arith }
 within_inside p (below c w) =
     let x = child_inside p c in

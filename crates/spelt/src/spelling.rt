@@ -12,7 +12,7 @@ use rooms::{Ans, Cursor, copy};
 use strings::{scalar_escape, stands_for};
 
 // Where the reading of a text is: the place of what comes next, the quote that it stands in, 0 for a bare key, and the bytes of the room that come before it.
-#[derive(Drop)]
+#[derive(Clone, Copy)]
 pub struct Spelling {
     pub at: usize,
     pub quote: u8,
@@ -21,7 +21,7 @@ pub struct Spelling {
 }
 
 // What it gives: the next byte, or that the text is over.
-#[derive(Drop)]
+#[derive(Clone, Copy)]
 pub enum Given {
     Byte(u8, Spelling),
     End,

@@ -11,7 +11,7 @@ use language::Row;
 pub const WIDEST: usize = 65535;
 
 // The count of bytes stored; that the table is not sound; or how many bytes the output would need.
-#[derive(Drop)]
+#[derive(Clone, Copy)]
 pub enum Storing {
     Done(usize),
     BadRow,
@@ -19,7 +19,7 @@ pub enum Storing {
 }
 
 // The rows and the count of text bytes loaded; that the bytes are no stored form; the rows or the count of text bytes that the rooms would need.
-#[derive(Drop)]
+#[derive(Clone, Copy)]
 pub enum Loading {
     Done(Row, usize),
     BadForm,

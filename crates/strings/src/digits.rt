@@ -8,7 +8,7 @@ ghost use Rattle.strings.specs.Contract.{digit_of, Digited, DigitRead};
 use characters::{Reading, Took};
 
 // What reading a digit gives: its value and the place behind it, or that none stands here.
-#[derive(Drop)]
+#[derive(Clone, Copy)]
 pub enum Digit {
     Of(u32, Reading),
     None,

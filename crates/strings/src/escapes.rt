@@ -12,7 +12,7 @@ use characters::{Read, Reading, Skip, is_plain};
 use rooms::{Ans, Cursor, ESCAPE, Step, copy, put_byte};
 
 // The digits of `\u{..}`: the scalar value that they name and the place behind them, or the place where they are refused.
-#[derive(Drop)]
+#[derive(Clone, Copy)]
 pub enum Coded {
     Named(u32, Reading),
     Unnamed(usize),

@@ -36,7 +36,7 @@ fn pair(doc: &[u8], text: &mut [u8], c: Cursor) -> Ans
 }
 
 // Where a further pair begins behind one that ends at the cursor: here, behind a space, or nowhere, and then how far one would begin.
-#[derive(Drop)]
+#[derive(Clone, Copy)]
 pub enum Next {
     Begins(Cursor),
     Stops(usize),

@@ -10,14 +10,14 @@ use fields::part;
 use rooms::{put_row, row_of};
 
 // Where filling has come to: the row and the text byte behind what is filled.
-#[derive(Drop)]
+#[derive(Clone, Copy)]
 pub struct Filled {
     row: usize,
     text: usize,
 }
 
 // The same behind a container's children, and how many they are.
-#[derive(Drop)]
+#[derive(Clone, Copy)]
 pub struct FilledAll {
     pub row: usize,
     pub text: usize,

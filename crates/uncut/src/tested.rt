@@ -11,7 +11,7 @@ use super::once::apart;
 use texts::{scalar_text, scripted};
 
 // What testing gives: the place behind the fields and the count of their rows, or that no tree has them.
-#[derive(Drop)]
+#[derive(Clone, Copy)]
 pub enum Tested {
     Good(usize, usize),
     Bad,

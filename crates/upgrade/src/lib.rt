@@ -5,7 +5,7 @@ ghost use Rattle.std.specs.Prelude.{◌≡◌};
 ghost use Rattle.upgrade.specs.Decides as D;
 
 // Install the sheet's version, keep the installed one, or the floor stands between them; or a table is no sheet's, or no installed version's.
-#[derive(Drop)]
+#[derive(Clone, Copy)]
 pub enum Decision {
     Install,
     Keep,

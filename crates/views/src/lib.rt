@@ -14,7 +14,7 @@ use stored::WIDEST;
 pub const LEVELS: usize = 34;
 
 // Where a byte of a content stands in the stored bytes, and how many from it on stand there one behind another.
-#[derive(Drop)]
+#[derive(Clone, Copy)]
 pub struct Reach {
     pub place: usize,
     pub left: usize,

@@ -9,7 +9,7 @@ use super::{LEVELS, byte_at};
 use stored::WIDEST;
 
 // The true tag of a field, the bytes of its content, and the place behind it; or that no field stands there.
-#[derive(Drop)]
+#[derive(Clone, Copy)]
 pub enum Span {
     Of(usize, usize, usize),
     Nothing,

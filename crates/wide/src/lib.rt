@@ -13,7 +13,7 @@ use stored::WIDEST;
 use views::{LEVELS, Reach, run};
 
 // What testing a content gives: the place behind the fields, or the count of members, with the count of their rows and of their text bytes; or that no tree has them.
-#[derive(Drop)]
+#[derive(Clone, Copy)]
 pub enum Walked {
     Good(usize, usize, usize),
     Bad,

@@ -16,14 +16,14 @@ use lines::{count, house};
 use sound::sound;
 
 // A character: its scalar value, and the place behind its bytes.
-#[derive(Drop)]
+#[derive(Clone, Copy)]
 pub struct Code {
     pub value: u32,
     pub next: usize,
 }
 
 // Where a walk over a text, and what it writes, have come to.
-#[derive(Drop)]
+#[derive(Clone, Copy)]
 pub struct Step {
     pub at: usize,
     pub x: usize,

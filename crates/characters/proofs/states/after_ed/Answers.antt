@@ -1,0 +1,25 @@
+-- `after_ed` answers where the character ends that has come to the state `after_ed`.
+use Rattle.utf8.specs.Utf8.{one_more, after_ed}
+use Rattle.utf8.specs.OverNumbers.{says, through}
+use Rattle.characters.specs.Rest.{rest_on}
+use Rattle.characters.proofs.Rests.{resting}
+use Rattle.characters.proofs.states.after_ed.Goals as goal
+
+pub byte-requires : goal.byte-requires
+byte-requires c = search resting
+
+pub overflow_add-i : goal.overflow_add-i
+overflow_add-i c = search resting
+
+pub one_more-requires : goal.one_more-requires
+one_more-requires c = search resting
+
+pub returns-in-128-to-159 : goal.returns-in-128-to-159
+unfolding says through
+returns-in-128-to-159 c = search (rest_on after_ed one_more 128 160, resting)
+
+pub returns-in_default : goal.returns-in_default
+returns-in_default c = search resting
+
+pub returns-in_default-2 : goal.returns-in_default-2
+returns-in_default-2 c = search resting

@@ -1,0 +1,15 @@
+-- `group` meets its contract: a run, or runs with spaces between.
+use Rattle.numbers.proofs.DigitLaws.{digit-laws}
+use Rattle.numbers.proofs.digits.group.Goals as goal
+
+pub spaced_group-requires : goal.spaced_group-requires
+spaced_group-requires c = search digit-laws
+
+pub returns-then-spaced : goal.returns-then-spaced
+returns-then-spaced c = search digit-laws
+
+pub digits-end-requires : goal.digits-end-requires
+digits-end-requires c = search digit-laws
+
+pub returns : goal.returns
+returns c = search digit-laws

@@ -1,0 +1,11 @@
+-- `same` tells equal texts: below `i` the two agree, and they are of one length.
+use Rattle.questions.proofs.WalkLaws.{Alike}
+use Prim.Native.Nat.{◌-◌}
+use lib.ListN.{length}
+use Rattle.questions.proofs.finding.same.Given as goal
+
+abbrev pub invariant-loop-i : goal.invariant-loop-i
+invariant-loop-i l = Alike l.a l.b l.i
+
+abbrev pub decreases-loop-i : goal.decreases-loop-i
+decreases-loop-i l = length l.a - l.i
