@@ -3,7 +3,7 @@
 
 usage: python3 tools/respell.py [--list]      at the top, once, right after port.py
 
-A name that specs/ or proofs/ declare (at the head of a line, as a field or a constructor) is respelled wherever it stands in .antt files, in the clauses of
+A name that specs/ or proofs/ declare (at the head of a line, as a field, a constructor or a set of rules) is respelled wherever it stands in .antt files, in the clauses of
 .rt files and in must-fail edits. Names of Rust, strings, module names and the library's names stay. A dash stays beside a type or a sign.
 Names that would fall together stop it, but for those that KEPT gives another spelling.
 """
@@ -14,6 +14,7 @@ import sys
 
 TOKEN = re.compile(r"[^\s(){}\[\].,;\"@`λ:]+|:[^\s(){}\[\].,;\"@`λ:]+")
 HEAD = re.compile(r"^(?:(?:abbrev|unfoldable|opaque|inline|lemma|rewrite|data|record|pub|instance|mutual|module|private|constructor|infixl|infixr) )*([^\s:{}()]+)(?: [^:=]*)? :(?: |$)")
+RULES = re.compile(r"^ *(?:pub )?ruleset ([^\s:=]+) =")
 INNER = re.compile(r"^ +(?:pub )?([^\s:{}()=]+(?: [^\s:{}()=]+)*) : ")
 # names that would fall together with another word, and what they are called instead
 KEPT = {
@@ -80,6 +81,9 @@ def declared(some):
                 if m and is_proof(f) and re.search(r": (tie\.|\{M : Type 1\})", line):
                     continue
                 if m and not line.startswith(("use ", "pub mod", "mod ", "infix")):
+                    names.setdefault(m.group(1), f)
+                m = RULES.match(line)
+                if m:
                     names.setdefault(m.group(1), f)
                 m = INNER.match(line)
                 if m and not line.lstrip().startswith(("let ", "λ")):

@@ -66,7 +66,7 @@ module _ (stored starts : List ℕ) (d w at k n end r p x : ℕ) (g : FillLeaf s
         → Deeper starts d at new → text' ≡ sets text x (take n (viewed stored new (d + 1))) → Steps starts d h.asked.trees at r p x end (r + 1) (x + n) 1 table table' text text'
     leaf_text_told text text' new l e q s = text_steps stored starts d at k n end r p x h g.other l e q s
 
-pub ruleset leaf-filling = (leaf_next, leaf_inner, leaf_opens, leaf_sum, leaf_bare_row, leaf_text_row, leaf_copied, leaf_bare_told, leaf_text_told, rules)
+pub ruleset leaf_filling = (leaf_next, leaf_inner, leaf_opens, leaf_sum, leaf_bare_row, leaf_text_row, leaf_copied, leaf_bare_told, leaf_text_told, rules)
 
 -- ---- a container
 
@@ -107,4 +107,4 @@ module _ (stored starts : List ℕ) (d w at k n end r p x : ℕ) (g : FillNode s
           node_steps stored starts d at k n end r p x h g.container q f
           (e ∙ ap (λ (i : ℕ). sets table₁ (width * r) (row_list unlined k (place_of starts d at) (place_of starts d (end - 1) + 1) 0 i p r')) z)
 
-pub ruleset node-filling = (node_next, node_inner, rules)
+pub ruleset node_filling = (node_next, node_inner, rules)

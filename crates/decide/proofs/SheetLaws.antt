@@ -81,7 +81,7 @@ module _ (table : List ℕ) (rows : ℕ) (text : List ℕ) where
   image_there r q true t = image q t
   image_there r q false t = Rattle.decide.specs.Contract.no_image q t
 
-pub ruleset under-key = (row_inside, version_there, version_none, image_there, rules)
+pub ruleset under_key = (row_inside, version_there, version_none, image_there, rules)
 
 -- ---- the three properties
 

@@ -183,4 +183,4 @@ module _ (doc : List ℕ) (c : Cursor) (p : ℕ) (a : Ans) (R R' T T' : List ℕ
 
 pub ruleset noting = (deep_noted, scalar_noted, digits_noted, array_noted, object_noted, shut_noted, none_noted, bad_noted, last_noted, element_noted, label_bad, pair_noted, label_key, rules)
 
-pub ruleset noting-line = (marked_noted, line_noted, rules)
+pub ruleset noting_line = (marked_noted, line_noted, rules)

@@ -253,6 +253,6 @@ module _ (doc : List ℕ) (c : Cursor) (p : ℕ) (a : Ans) (R R' T T' : List ℕ
               written = written_append doc c d o p (got.tree ∷ []) (v.tree ∷ []) R R' R'' T T' T'' w₀ w₂;
             }
 
-pub ruleset behind-colon = (spaced_ready, behind_on, behind_bad, behind_nested, ended_ready, rules)
+pub ruleset behind_colon = (spaced_ready, behind_on, behind_bad, behind_nested, ended_ready, rules)
 
-pub ruleset property-laws = (property_none, property_cut, property_ready, property_got, rules)
+pub ruleset property_laws = (property_none, property_cut, property_ready, property_got, rules)

@@ -341,12 +341,12 @@ module _ (doc : List ℕ) (c : Cursor) (p n i : ℕ) (R R' T T' : List ℕ) (h :
         pub nested_other : (q : ℕ) (y : Block) → s ≡ Line q → b ≡ later y q → Blocks doc m p (nested_line_r n m.at (drop m.at doc)) y R R' T T' → In
         nested_other q y e v w = from _ (line_is q e) (rw v (later_block doc m p _ y q R R' T T' w))
 
-pub ruleset member-laws = (member_property, member_cut, member_ready, member_item, rules)
+pub ruleset member_laws = (member_property, member_cut, member_ready, member_item, rules)
 
-pub ruleset block-laws = (block_start, block_ready, block_refused, block_inside, block_count, block_encloses, block_done, block_again, block_falls, rules)
+pub ruleset block_laws = (block_start, block_ready, block_refused, block_inside, block_count, block_encloses, block_done, block_again, block_falls, rules)
 
-pub ruleset bullet-laws = (bullet_ready, bullet_refused, bullet_encloses, bullet_done, rules)
+pub ruleset bullet_laws = (bullet_ready, bullet_refused, bullet_encloses, bullet_done, rules)
 
-pub ruleset item-laws = (item_none, item_dash, item_key, item_other, rules)
+pub ruleset item_laws = (item_none, item_dash, item_key, item_other, rules)
 
-pub ruleset nested-laws = (nested_cut, nested_ready, nested_none, nested_dash, nested_key, nested_other, rules)
+pub ruleset nested_laws = (nested_cut, nested_ready, nested_none, nested_dash, nested_key, nested_other, rules)

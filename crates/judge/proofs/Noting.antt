@@ -170,6 +170,6 @@ module _ (doc : List ℕ) (at row p b : ℕ) (h : b ≡ peek doc at) (S : List �
     unfolding opener_r
     opens_value_notes root x = rw (alt_not doc at 96 b (omega arith) h (open_string_r n) _ e, alt_not doc at 62 b (omega arith) h (open_bytes_r n) _ f) x
 
-pub ruleset line-noting = (line_notes, rules)
+pub ruleset line_noting = (line_notes, rules)
 
-pub ruleset choice-noting = (on_string_notes, on_bytes_notes, on_value_notes, opens_string_notes, opens_bytes_notes, opens_value_notes, rules)
+pub ruleset choice_noting = (on_string_notes, on_bytes_notes, on_value_notes, opens_string_notes, opens_bytes_notes, opens_value_notes, rules)

@@ -86,7 +86,7 @@ module _ (doc : List ℕ) (c : Cursor) (x : Ans) (g : Gap doc c x) (p k n : ℕ)
         (sym (ap (λ (m : Cursor). m.row) f))
         w
 
-pub ruleset behind-noting = (behind_on_notes, behind_bad_notes, behind_nested_notes, rules)
+pub ruleset behind_noting = (behind_on_notes, behind_bad_notes, behind_nested_notes, rules)
 
 -- ---- a property
 
@@ -136,7 +136,7 @@ property_key doc c p a R R' T T' w m e l =
     record { escapes = u.0.escapes; is = got.is ∙ ap (λ (v : Tree). ok v m.at (drop m.at doc)) u.1; ahead = got.span.ahead; inside = got.span.inside } in
     record { short = l; key = key_own doc c.at m.at u.0.bytes key }
 
-pub ruleset property-noting = (property_none_notes, property_cut_notes, property_notes, rules)
+pub ruleset property_noting = (property_none_notes, property_cut_notes, property_notes, rules)
 
 -- ---- a member
 
@@ -167,7 +167,7 @@ module _ (doc : List ℕ) (c : Cursor) (p k n : ℕ) (o : Bool) (S S' : List ℕ
               rw q.is (w₁.kept q.value b q.gives);
         })
 
-pub ruleset member-noting = (member_property_notes, member_cut_notes, member_item_notes, rules)
+pub ruleset member_noting = (member_property_notes, member_cut_notes, member_item_notes, rules)
 
 -- ---- a block
 
@@ -225,7 +225,7 @@ module _ (o : Bool) (k n : ℕ) (doc : List ℕ) (c : Cursor) (R₀ T₀ S₀ : 
             record { loop = Blocks.loop_more o k n doc c R₀ T₀ R T R' T' cur m far cnt f e nl.loop got d.at q.0; kept = kept_wide j i both } in
             rw u (subst (λ (v : Cursor). Noticed o k n doc c R₀ T₀ S₀ R' T' S' v (max far f) (cnt + 1)) (sym q.1) on)
 
-pub ruleset block-noting = (block_start_notes, block_refused_notes, block_done_notes, block_again_notes, rules)
+pub ruleset block_noting = (block_start_notes, block_refused_notes, block_done_notes, block_again_notes, rules)
 
 -- ---- a nested bullet
 
@@ -262,7 +262,7 @@ module _ (doc : List ℕ) (c : Cursor) (p n : ℕ) (S S' : List ℕ) where
     item_other_notes q e x =
         merge_notes doc c.at c.row p q _ _ S S' (Containers.item_line_is n k c.at (drop c.at doc) z q (Containers.looked_line doc c.at s q h e)) x
 
-pub ruleset item-noting = (bullet_notes, item_none_notes, item_dash_notes, item_key_notes, item_other_notes, rules)
+pub ruleset item_noting = (bullet_notes, item_none_notes, item_dash_notes, item_key_notes, item_other_notes, rules)
 
 -- ---- nested content
 
@@ -297,4 +297,4 @@ module _ (doc : List ℕ) (c : Cursor) (p n i : ℕ) (S S' : List ℕ) (h : i �
           from _ (Containers.line_is doc c p n i [] [] [] [] h m l u f k (Bad 0) z s g q e)
           (merge_notes doc m.at m.row p q _ (nested_line_r n m.at (drop m.at doc)) S S' refl (rw y (nested_line_notes doc m.at m.row p n S)))
 
-pub ruleset nested-noting = (nested_cut_notes, nested_none_notes, nested_dash_notes, nested_key_notes, nested_other_notes, rules)
+pub ruleset nested_noting = (nested_cut_notes, nested_none_notes, nested_dash_notes, nested_key_notes, nested_other_notes, rules)

@@ -51,7 +51,7 @@ module _ (doc : List ℕ) (c : Cursor) (S S' : List ℕ) where
     root_other_notes q e x =
         merge_notes doc c.at c.row 0 q _ _ S S' (Documents.root_line_is k c.at (drop c.at doc) z q (looked_line doc c.at s q h e)) x
 
-pub ruleset root-noting = (root_none_notes, root_dash_notes, root_key_notes, root_other_notes, rules)
+pub ruleset root_noting = (root_none_notes, root_dash_notes, root_key_notes, root_other_notes, rules)
 
 -- ---- a whole pass
 
@@ -81,4 +81,4 @@ module _ (k : ℕ) (doc : List ℕ) where
                 rw q (kept_wide i g.span.inside (rw (flats_one 0 0 g.tree) at u));
           }
 
-pub ruleset pass-noting = (passed_none_logged, passed_not_logged, passed_logged, rules)
+pub ruleset pass_noting = (passed_none_logged, passed_not_logged, passed_logged, rules)

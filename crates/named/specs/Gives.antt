@@ -30,6 +30,7 @@ module _ {X : Type 0} where
 
   -- the value ends no earlier than it begins
   pub gives_forward : {d at : ℕ} {s : List ℕ} {o : Out X} {v : X} {a : ℕ} → Tamed d at s o → Gives o v a → at ≤ a
+  gives_forward {d = d} {at = at} {s = s} {v = v} {a = a} (Rattle.exact.specs.Out.t_bad p _ _) x7 = elim x7 [ ]
   gives_forward (t_ok m) gives_ok = omega (arith, forward m)
   gives_forward (t_soft p m l) gives_soft = omega (arith, forward m)
 

@@ -231,6 +231,6 @@ module _ (doc : List ℕ) (at : ℕ) where
 pub group_spaced : (doc : List ℕ) (at : ℕ) (spaced : Bool) (g : Stretch) → spaced ≡ true → Grouped true doc at g → Grouped spaced doc at g
 group_spaced doc at spaced g h x = rw h x
 
-pub ruleset gap-laws = (gap_over, gap_other, gap_inside, gap_ends, gap_goes, rules)
+pub ruleset gap_laws = (gap_over, gap_other, gap_inside, gap_ends, gap_goes, rules)
 
-pub ruleset digit-laws = (going_first, going_more, going_less, going_done, group_none, group_plain, group_spaced, rules)
+pub ruleset digit_laws = (going_first, going_more, going_less, going_done, group_none, group_plain, group_spaced, rules)

@@ -76,7 +76,7 @@ module _ (doc : List ℕ) (d e z : ℕ) (n : Nonzero doc d e z) where
           rw (h, n.plainly, minus_other k)
           (record { end = omega (arith, s.end); room = s.room ∙ (ap (λ u. sets u (x + 1) (squeezed (slice z e doc))) w ∙ rw add-one refl) })
 
-pub ruleset integer-laws = (storing_at, storing_next, dense_part, text_plain, text_zero, text_minus, rules)
+pub ruleset integer_laws = (storing_at, storing_next, dense_part, text_plain, text_zero, text_minus, rules)
 
 -- A NUMBER
 sign_text_lem : {doc : List ℕ} {at d : ℕ} {neg : Bool} (e : ℕ) → d ≤ e → Sign doc at d neg → squeezed (slice at e doc) ≡ minus_of neg ++ squeezed (slice d e doc)
@@ -117,4 +117,4 @@ module _ (doc : List ℕ) (s : Numeral) (at d : ℕ) (neg : Bool) (x : ℕ) (w :
         → Stored T T' x r (number_text s.kind.0 (minus_of neg) (squeezed (slice d s.end doc)))
     number_float k q = rw (ne_eqb s.kind.0 INTEGER k) (rw (sign_text_lem s.end (omega (arith, w.some)) w.sign) at q)
 
-pub ruleset text-laws = (writing_whole, writing_integer, writing_dense, writing_float, writing_tight, number_integer, number_float, rules)
+pub ruleset text_laws = (writing_whole, writing_integer, writing_dense, writing_float, writing_tight, number_integer, number_float, rules)

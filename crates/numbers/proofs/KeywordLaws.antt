@@ -79,6 +79,6 @@ module _ (doc : List ℕ) (c : Cursor) (p : ℕ) (word : List ℕ) (n : ℕ) (re
   keyword_not R T kind text k =
       not_reached doc c p (keyword_r kind word text c.at (drop c.at doc)) R R T T (c.at + n) (keyword_bad doc c.at kind word text n h k)
 
-pub ruleset keyword-laws = (bare_small, keyword_read, keyword_not, rules)
+pub ruleset keyword_laws = (bare_small, keyword_read, keyword_not, rules)
 
 pub ruleset word_laws = (float_read, keyword_not, rules)

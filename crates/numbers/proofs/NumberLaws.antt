@@ -281,16 +281,16 @@ module _ (doc : List ℕ) (c : Cursor) (p : ℕ) (R R' T T' : List ℕ) (f : Far
       let o = plain_r false c.at (drop c.at doc) in
       Laws.refused doc c p o R R' T T' q (reached_refusal doc c p o R R' T T' f q e x)
 
-pub ruleset number-laws = (leads_inside, number_not, number_found, rules)
+pub ruleset number_laws = (leads_inside, number_not, number_found, rules)
 
-pub ruleset write-laws = (number_writing, number_small, number_read, rules)
+pub ruleset write_laws = (number_writing, number_small, number_read, rules)
 
-pub ruleset far-laws = (far_none, far_space, far_here, rules)
+pub ruleset far_laws = (far_none, far_space, far_here, rules)
 
-pub ruleset inside-laws = (inside_took, inside_not, rules)
+pub ruleset inside_laws = (inside_took, inside_not, rules)
 
-pub ruleset pair-laws = (leads_minus, via_nan, via_null, via_minus, rules)
+pub ruleset pair_laws = (leads_minus, via_nan, via_null, via_minus, rules)
 
 pub ruleset word_laws = (passed_n, via_true, via_false, via_infinity, rules)
 
-pub ruleset plain-laws = (first_passed, first_minus, leads_low, leads_high, plain_over, rules)
+pub ruleset plain_laws = (first_passed, first_minus, leads_low, leads_high, plain_over, rules)

@@ -42,4 +42,4 @@ module _ (doc : List ℕ) (c : Cursor) (ready : Ready doc c) (s : List ℕ) (e t
       (reaching doc c p o R R' T T' (record { at = e; row = c.row + 1; text = c.text + told (unescaped s) }) far
       (leaf_text doc c p o kind e far ahead inside R R' T T' (unescaped s) ready a k (omega arith) (omega arith) (rw q at w.table) t))
 
-pub ruleset put-laws = (put_read, put_word, small_row, rules)
+pub ruleset put_laws = (put_read, put_word, small_row, rules)

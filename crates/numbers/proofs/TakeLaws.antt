@@ -134,14 +134,14 @@ pub scan_led : (spaced : Bool) (doc : List ℕ) (at : ℕ) (t : Skip) (n : ℕ) 
     → Scans spaced doc (n - 1) s → Scans spaced doc at s
 scan_led spaced doc at t n s h e y = subst (λ k. Scans spaced doc k s) (sym (before doc at 46 (omega arith) t h n e)) y
 
-pub ruleset sign-laws = (sign_plus, sign_minus, sign_none, sign_over, rules)
+pub ruleset sign_laws = (sign_plus, sign_minus, sign_none, sign_over, rules)
 
-pub ruleset power-laws = (power_not, power_read, passed_inside, rules)
+pub ruleset power_laws = (power_not, power_read, passed_inside, rules)
 
-pub ruleset fraction-laws = (fraction_power, fraction_none, passed_behind, rules)
+pub ruleset fraction_laws = (fraction_power, fraction_none, passed_behind, rules)
 
-pub ruleset point-laws = (pointed_none, pointed_some, led_not, led_some, passed_inside, rules)
+pub ruleset point_laws = (pointed_none, pointed_some, led_not, led_some, passed_inside, rules)
 
-pub ruleset whole-laws = (whole_not, whole_point, whole_power, whole_integer, passed, passed_behind, rules)
+pub ruleset whole_laws = (whole_not, whole_point, whole_power, whole_integer, passed, passed_behind, rules)
 
-pub ruleset scan-laws = (scan_led, passed_behind, passed_other, rules)
+pub ruleset scan_laws = (scan_led, passed_behind, passed_other, rules)

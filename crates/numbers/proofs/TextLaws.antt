@@ -68,7 +68,7 @@ module _ (doc : List ℕ) (a e x : ℕ) (T₀ : List ℕ) (p : Storing doc a e x
         let n : squeezed (slice i e doc) ≡ [] = rw (z, slice_empty e doc) refl in
         record { end = omega (arith, q.count, ap length n); room = sym (q.room ∙ ap (sets T to) n) }
 
-pub ruleset squeeze-laws = (solid_space, solid_byte, squeezing_first, squeezing_turn, squeezing_done, rules)
+pub ruleset squeeze_laws = (solid_space, solid_byte, squeezing_first, squeezing_turn, squeezing_done, rules)
 
 -- IN ONE RUN
 pub store_dense : (doc : List ℕ) (a e x : ℕ) (dense : Bool) (T T' : List ℕ) → Storing doc a e x → Dense doc a e dense → dense ≡ true → T' ≡ sets T x (slice a e doc)
@@ -78,7 +78,7 @@ store_dense doc a e x dense T T' p d h r =
     let l : length (slice a e doc) ≡ e - a = length-slice a e doc p.inside in
     record { end = rw t (omega arith); room = rw t r }
 
-pub ruleset store-laws = (store_dense, rules)
+pub ruleset store_laws = (store_dense, rules)
 
 -- WITHOUT LEADING ZEROS
 plain_zero : (s : List ℕ) → (s ≡ [] → ⊥) → plain (48 ∷ s) ≡ plain s
@@ -170,4 +170,4 @@ skipped_zero b h = rw (eq-eqb b 48 h) refl
 pub skipped_other : (b : ℕ) → (b ≡ 48 → ⊥) → eqb b 32 ≡ or (eqb b 48) (eqb b 32)
 skipped_other b h = rw (ne_eqb b 48 h) refl
 
-pub ruleset skip-laws = (skipping_first, skipping_more, skipping_stop, skipping_end, skipped_zero, skipped_other, rules)
+pub ruleset skip_laws = (skipping_first, skipping_more, skipping_stop, skipping_end, skipped_zero, skipped_other, rules)

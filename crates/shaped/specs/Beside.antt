@@ -38,16 +38,16 @@ module _ (table text : List ℕ) where
       → ForestAt table text r p x (beside ts us)
   unfolding beside sizes texts_of
   beside_at none us f g = moved (omega arith) (omega arith) g
-  beside_at {r} {p} {x} (more t ts) us f g =
-      more_at table text (first_at table text f) (beside_at ts us (rest_at table text f) (moved (row_behind r x t ts) (text_behind r x t ts) g))
+  beside_at {r = r} {p = p} {x = x} (more t ts) us f g =
+      more_at table text (first_at table text f) (beside_at {r = r + size t} ts us (rest_at table text f) (moved (row_behind r x t ts) (text_behind r x t ts) g))
 
   pub beside_left : {r p x : ℕ} (ts us : Forest) → ForestAt table text r p x (beside ts us) → ForestAt table text r p x ts
   unfolding beside
   beside_left {r} {p} {x} none us f = none_at table text (let h = f.text_is.fits in omega arith)
-  beside_left (more t ts) us f = more_at table text (first_at table text f) (beside_left ts us (rest_at table text f))
+  beside_left {r = r} (more t ts) us f = more_at table text (first_at table text f) (beside_left {r = r + size t} ts us (rest_at table text f))
 
   pub beside_right : {r p x : ℕ} (ts us : Forest) → ForestAt table text r p x (beside ts us) → ForestAt table text (r + sizes ts) p (x + length (texts_of ts)) us
   unfolding beside sizes texts_of
   beside_right none us f = moved (omega arith) (omega arith) f
-  beside_right {r} {p} {x} (more t ts) us f =
-      moved (sym (row_behind r x t ts)) (sym (text_behind r x t ts)) (beside_right ts us (rest_at table text f))
+  beside_right {r = r} {p = p} {x = x} (more t ts) us f =
+      moved (sym (row_behind r x t ts)) (sym (text_behind r x t ts)) (beside_right {r = r + size t} ts us (rest_at table text f))

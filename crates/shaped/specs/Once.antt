@@ -13,15 +13,18 @@ mutual
   unfolding unspan
 
   repeats_unspan : (p : ℕ) (t : Tree) → Repeats p t → Repeats 0 (unspan t)
+  repeats_unspan p (leaf _ _ _ _) x6 = elim x6 [ ]
   repeats_unspan p (node k a e c ts) (inside x) = inside (repeated_unspan p ts x)
 
   repeated_unspan : (p : ℕ) (ts : Forest) → Repeated p ts → Repeated 0 (unspans ts)
+  repeated_unspan p none x'' = elim x'' [ ]
   repeated_unspan p (more t ts) (again x) = again (has_unspan x)
   repeated_unspan p (more t ts) (below x) = below (repeats_unspan p t x)
   repeated_unspan p (more t ts) (beside x) = beside (repeated_unspan p ts x)
 
 unspan_has : (ts : Forest) (s : List ℕ) (a : ℕ) → Has s a (unspans ts) → (b : ℕ) × Has s b ts
 unfolding unspan
+unspan_has none s b x' = elim x' [ ]
 unspan_has (more (leaf k a e d) ts) s b has_here = (a, has_here)
 unspan_has (more (leaf k a e d) ts) s b (has_later x) = let y = unspan_has ts s b x in (y.0, has_later y.1)
 unspan_has (more (node k a e c us) ts) s b (has_later x) = let y = unspan_has ts s b x in (y.0, has_later y.1)
@@ -40,6 +43,7 @@ mutual
   unfolding unspan
 
   unspan_repeats : (p : ℕ) (t : Tree) → Repeats p (unspan t) → (q : ℕ) × Repeats q t
+  unspan_repeats p (leaf _ _ _ _) x6 = elim x6 [ ]
   unspan_repeats p (node k a e c ts) (inside x) = let y = unspan_repeated p ts x in (y.0, inside y.1)
 
   unspan_repeated : (p : ℕ) (ts : Forest) → Repeated p (unspans ts) → (q : ℕ) × Repeated q ts

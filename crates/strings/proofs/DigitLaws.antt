@@ -279,13 +279,13 @@ pub ruleset digits = (hex_below, hex_decimal, hex_middle, hex_upper, hex_between
 
 pub ruleset lows = (low_below, low_decimal, low_middle, low_lower, low_above, low_sum, rules)
 
-pub ruleset lows-here = (class_in, low_byte, low_there, low_over, rules)
+pub ruleset lows_here = (class_in, low_byte, low_there, low_over, rules)
 
 -- by a test
 pub low_yes : (b : ℕ) (x : Bool) → x ≡ is lowhex b → x ≡ true → is lowhex b ≡ true
 low_yes b x k e = sym k ∙ e
 
-pub ruleset digit-reads = (low_yes, digit_over, digit_other, digit_read, class_other, class_read, hex_sub, low_sub, hex_over, low_over, rules)
+pub ruleset digit_reads = (low_yes, digit_over, digit_other, digit_read, class_other, class_read, hex_sub, low_sub, hex_over, low_over, rules)
 
 pub ruleset scalars = (scalar_low, scalar_gap, scalar_high, rules)
 

@@ -106,7 +106,7 @@ module _ (doc : List ℕ) (c : Cursor) where
           by (no_letter x y) = rw (choice, ← here, x) k
           by (letter x y) = absurd (let f = letter_low b x in let g : 256 ≡ stands_for b = sym z ∙ (l.is ∙ y) in omega arith)
 
-pub ruleset lettering-on = (letter_over, letter_read, letter_none, escape_fits, escape_adds, rules)
+pub ruleset lettering_on = (letter_over, letter_read, letter_none, escape_fits, escape_adds, rules)
 
 -- ---- `u{..}`
 

@@ -135,6 +135,6 @@ unfolding PairsAt pair_r
 pairs_none doc c T b x look k e =
     pairs_as c.at (drop c.at doc) ∙ rw (byte_peek doc c.at lowhex refl, low_none doc c.at b x look k e) refl
 
-pub ruleset pairing-on = (pairs_first, pairs_not, pairs_turn, pairs_digit, pairs_less, pairs_upto, rules)
+pub ruleset pairing_on = (pairs_first, pairs_not, pairs_turn, pairs_digit, pairs_less, pairs_upto, rules)
 
-pub ruleset pairing-all = (low_is, pairs_none, rules)
+pub ruleset pairing_all = (low_is, pairs_none, rules)

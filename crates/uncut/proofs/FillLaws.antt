@@ -92,7 +92,7 @@ module _ (stored : List ℕ) (a : ℕ) where
   pub among_containers : 8 ≤ get_or stored a 0 → get_or stored a 0 ≤ 9 → Tells (Container stored a) true
   among_containers l m = record { least = l; most = m }
 
-pub ruleset telling-containers = (below_containers, above_containers, among_containers, rules)
+pub ruleset telling_containers = (below_containers, above_containers, among_containers, rules)
 
 -- ---- a leaf
 
@@ -158,7 +158,7 @@ module _ (stored : List ℕ) (w b a e r p x : ℕ) (g : FillLeaf stored w b a e 
         → text' ≡ sets text x (slice (a + 3) e stored) → Fills h.tree (b + a) r p x (r + 1) (x + (e - (a + 3))) table table' text text'
     text_told l text' u v = fill_text stored h (end_is stored h g.ends) refl l no_array no_object u v
 
-pub ruleset leaf-filling = (leaf_inside, leaf_head, leaf_row, leaf_rises, leaf_ends, leaf_end_fits, leaf_room, bare_placing, text_placing, bare_told, text_told, rules)
+pub ruleset leaf_filling = (leaf_inside, leaf_head, leaf_row, leaf_rises, leaf_ends, leaf_end_fits, leaf_room, bare_placing, text_placing, bare_told, text_told, rules)
 
 -- ---- a container
 
@@ -209,7 +209,7 @@ module _ (stored : List ℕ) (w b a e r p x : ℕ) (g : FillNode stored w b a e 
     pub node_told : (h : FillAt stored b a r p x) (table' : List ℕ) → table' ≡ sets table₁ (width * r) (row_list unlined (get_or stored a 0) (b + a) (b + e) 0 c p r') → Fills h.tree (b + a) r p x r' x' table table' text text'
     node_told h table' w = fill_node stored h g.container.least g.container.most (end_is stored h g.ends) q (w ∙ ap (λ (i : ℕ). sets table₁ (width * r) (row_list unlined (get_or stored a 0) (b + a) (b + e) 0 i p r')) d)
 
-pub ruleset node-filling = (node_asked, fill_inside, fill_head, fill_row, node_children, node_fewer, node_placing, node_told, rules)
+pub ruleset node_filling = (node_asked, fill_inside, fill_head, fill_row, node_children, node_fewer, node_placing, node_told, rules)
 
 -- ---- the loop over the children
 

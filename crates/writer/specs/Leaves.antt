@@ -126,7 +126,7 @@ module _ (s : List ℕ) (x : ℕ) where
       let n : drop at s ≡ [] = ap (λ i. drop i s) e ∙ drop-length s in
       puts_as (sym (h.is ∙ (ap (λ u. h.bytes ++ shown_text u) n ∙ append-nil h.bytes))) h.puts
 
-pub ruleset showing-all = (shown_start, shown_left, shown_step, shown_end)
+pub ruleset showing_all = (shown_start, shown_left, shown_step, shown_end)
 
 -- ---- a key: "bare keys wherever a key allows it"
 

@@ -5,7 +5,7 @@ use lib.ListN.{length}
 use Prim.Native.Nat.{ℕ, ◌+◌, ◌-◌, ◌*◌, ◌<◌}
 use Rattle.cutfill.specs.Filling.{FillCut}
 use Rattle.cutfill.specs.Steps.{Left, left_start, left_end}
-use Rattle.cutfill.proofs.FieldLaws.{node_opens, node_fewer, node_children, node_row, node_told, node-filling}
+use Rattle.cutfill.proofs.FieldLaws.{node_opens, node_fewer, node_children, node_row, node_told, node_filling}
 use Rattle.cutfill.proofs.StepLaws.{some_lies, some_passes, some_passed, some_none, some_node, some_leaf, some_fewer, some_one, turn_room, turn_count, turn_less, turn_again}
 use native.Mathlib.Omega.{arith}
 use borrow.Fn.Kinds.{In}
@@ -109,10 +109,10 @@ container_deeper_requires : (t : ℕ) → container-lts.Need-deeper-requires (co
 container_deeper_requires t c κs = node_opens _ _ _ _ _ _ _ _ _ _ _ c.before.before.before.requires.1
 
 container_add_children : (t : ℕ) → container-lts.Need-overflow-add-children (container_claims t) (container_at t) container.Post
-container_add_children t c = search node-filling
+container_add_children t c = search node_filling
 
 container_add_children_2 : (t : ℕ) → container-lts.Need-overflow-add-children-2 (container_claims t) (container_at t) container.Post
-container_add_children_2 t c = search node-filling
+container_add_children_2 t c = search node_filling
 
 container_children_requires : (t : ℕ) → container-lts.Need-children-requires (container_claims t) (container_at t) container.Post
 container_children_requires t c κs =

@@ -2,7 +2,7 @@
 use Rattle.inline.proofs.value_here.Statement.{statement}
 use Rattle.inline.proofs.value_here.Tie as tie
 use Rattle.inline.proofs.Choices.{lining}
-use Rattle.inline.proofs.Noting.{noting-line}
+use Rattle.inline.proofs.Noting.{noting_line}
 
 look-requires : tie.Need-look-requires
 look-requires c κs = search lining
@@ -29,7 +29,7 @@ same-length-3 : tie.Need-same-length-3
 same-length-3 c = search lining
 
 returns : tie.Need-returns
-returns c = (search lining, search noting-line)
+returns c = (search lining, search noting_line)
 
 same-length-4 : tie.Need-same-length-4
 same-length-4 c = search lining
@@ -41,7 +41,7 @@ same-length-6 : tie.Need-same-length-6
 same-length-6 c = search lining
 
 returns-2 : tie.Need-returns-2
-returns-2 c = (search lining, search noting-line)
+returns-2 c = (search lining, search noting_line)
 
 plain-requires : tie.Need-plain-requires
 plain-requires c κs = search lining
@@ -56,7 +56,7 @@ same-length-8 : tie.Need-same-length-8
 same-length-8 c = search lining
 
 returns-3 : tie.Need-returns-3
-returns-3 c = (rw c.anew.ensures (search lining), search noting-line)
+returns-3 c = (rw c.anew.ensures (search lining), search noting_line)
 
 pub value-here-spec : {M : Type 1} → statement M
 value-here-spec =

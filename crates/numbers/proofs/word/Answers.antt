@@ -28,7 +28,7 @@ pub anew-requires-in-105 : goal.anew-requires-in-105
 anew-requires-in-105 c = search word_laws
 
 pub number-requires : goal.number-requires
-number-requires c = let r = c.in_default.rest in (search rules, search (leads_other, r.0.0.0.1, r.0.0.1, r.0.1, r.1, rules))
+number-requires c = let r = c.in_default.in_default-own.rest in record { ready = search rules; leads = search (leads_other, r.0.0.0.1, r.0.0.1, r.0.1, r.1, rules) }
 
 pub anew-requires-in_default : goal.anew-requires-in_default
 anew-requires-in_default c = search word_laws

@@ -36,7 +36,7 @@ shape_of-keys-then-word-object c = search placing
 
 pub returns-then-word-object : goal.returns-then-word-object
 returns-then-word-object c =
-    placed_own _ _ _ _ _ _ c.own.ensures c.word.ensures.0 (eqb-true _ _ c.if-word-object.true) c.requires.4
+    placed_own _ _ _ _ _ _ c.own.ensures c.word.ensures.0 c.if-word-object.true c.requires.4
 
 pub lost-requires : goal.lost-requires
 lost-requires c = search placing

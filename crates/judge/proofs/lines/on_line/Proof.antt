@@ -1,6 +1,6 @@
 -- `on_line` meets its contract: the first byte decides.
 use Rattle.judge.proofs.Lining.{choosing}
-use Rattle.judge.proofs.Noting.{choice-noting}
+use Rattle.judge.proofs.Noting.{choice_noting}
 use borrow.Author.Rules.{rules}
 use Rattle.judge.proofs.lines.on_line.Statement.{statement}
 use Rattle.judge.proofs.lines.on_line.Tie as tie
@@ -24,7 +24,7 @@ same-length-2 : tie.Need-same-length-2
 same-length-2 c = search rules
 
 returns : tie.Need-returns
-returns c = (search choosing, search choice-noting)
+returns c = (search choosing, search choice_noting)
 
 same-length-3 : tie.Need-same-length-3
 same-length-3 c = search rules
@@ -33,7 +33,7 @@ same-length-4 : tie.Need-same-length-4
 same-length-4 c = search rules
 
 returns-2 : tie.Need-returns-2
-returns-2 c = (search choosing, search choice-noting)
+returns-2 c = (search choosing, search choice_noting)
 
 same-length-5 : tie.Need-same-length-5
 same-length-5 c = search rules
@@ -45,7 +45,7 @@ same-length-7 : tie.Need-same-length-7
 same-length-7 c = search rules
 
 returns-3 : tie.Need-returns-3
-returns-3 c = (search choosing, search choice-noting)
+returns-3 c = (search choosing, search choice_noting)
 
 pub on-line-spec : {M : Type 1} → statement M
 on-line-spec =

@@ -1,6 +1,6 @@
 -- `value_line` meets its contract: a value, and the end of its line.
 use Rattle.judge.proofs.Lining.{lining}
-use Rattle.judge.proofs.Noting.{line-noting}
+use Rattle.judge.proofs.Noting.{line_noting}
 use borrow.Author.Rules.{rules}
 use Rattle.judge.proofs.lines.value_line.Statement.{statement}
 use Rattle.judge.proofs.lines.value_line.Tie as tie
@@ -39,7 +39,7 @@ same-length-3 : tie.Need-same-length-3
 same-length-3 c = search rules
 
 returns : tie.Need-returns
-returns c = (search lining, search line-noting)
+returns c = (search lining, search line_noting)
 
 same-length-4 : tie.Need-same-length-4
 same-length-4 c = search rules
@@ -51,7 +51,7 @@ same-length-6 : tie.Need-same-length-6
 same-length-6 c = search rules
 
 returns-2 : tie.Need-returns-2
-returns-2 c = (search lining, search line-noting)
+returns-2 c = (search lining, search line_noting)
 
 same-length-7 : tie.Need-same-length-7
 same-length-7 c = search rules
@@ -63,7 +63,7 @@ same-length-9 : tie.Need-same-length-9
 same-length-9 c = search rules
 
 returns-3 : tie.Need-returns-3
-returns-3 c = (search lining, search line-noting)
+returns-3 c = (search lining, search line_noting)
 
 pub value-line-spec : {M : Type 1} → statement M
 value-line-spec =

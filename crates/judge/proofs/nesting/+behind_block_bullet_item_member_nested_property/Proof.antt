@@ -3,9 +3,9 @@ use mathlib.Core.Path.{◌≡◌, refl}
 use native.Mathlib.Omega.{arith}
 use Prim.Native.Nat.{◌*◌, ◌+◌, ◌-◌}
 use lib.ListN.{length}
-use Rattle.judge.proofs.NotingBlocks.{property_key, Noticed, block_done_notes, behind-noting, property-noting, member-noting, block-noting, item-noting, nested-noting}
-use Rattle.judge.proofs.Colons.{key_inside, property_ready, behind-colon, property-laws}
-use Rattle.judge.proofs.Containers.{block_inside, block_encloses, block_done, bullet_encloses, member-laws, block-laws, bullet-laws, item-laws, nested-laws}
+use Rattle.judge.proofs.NotingBlocks.{property_key, Noticed, block_done_notes, behind_noting, property_noting, member_noting, block_noting, item_noting, nested_noting}
+use Rattle.judge.proofs.Colons.{key_inside, property_ready, behind_colon, property_laws}
+use Rattle.judge.proofs.Containers.{block_inside, block_encloses, block_done, bullet_encloses, member_laws, block_laws, bullet_laws, item_laws, nested_laws}
 use borrow.Author.Rules.{rules}
 use Prim.Native.Nat.{ℕ, ◌<◌}
 use borrow.Fn.Kinds.{In}
@@ -144,10 +144,10 @@ behind_one_space_requires : (t : ℕ) → behind-lts.Need-one-space-requires (be
 behind_one_space_requires t c κs = search rules
 
 behind_enum_known_n : (t : ℕ) → behind-lts.Need-enum-known-n (behind_claims t) (behind_at t) behind.Post
-behind_enum_known_n t c = search behind-colon
+behind_enum_known_n t c = search behind_colon
 
 behind_on_line_requires : (t : ℕ) → behind-lts.Need-on-line-requires (behind_claims t) (behind_at t) behind.Post
-behind_on_line_requires t c κs = search behind-colon
+behind_on_line_requires t c κs = search behind_colon
 
 behind_anew_requires : (t : ℕ) → behind-lts.Need-anew-requires (behind_claims t) (behind_at t) behind.Post
 behind_anew_requires t c κs = search rules
@@ -162,10 +162,10 @@ behind_same_length_3 : (t : ℕ) → behind-lts.Need-same-length-3 (behind_claim
 behind_same_length_3 t c = search rules
 
 behind_returns : (t : ℕ) → behind-lts.Need-returns (behind_claims t) (behind_at t) behind.Post
-behind_returns t c = rw c.anew.ensures (search behind-colon, search behind-noting)
+behind_returns t c = rw c.anew.ensures (search behind_colon, search behind_noting)
 
 behind_enum_told : (t : ℕ) → behind-lts.Need-enum-told (behind_claims t) (behind_at t) behind.Post
-behind_enum_told t c = search behind-colon
+behind_enum_told t c = search behind_colon
 
 behind_line_end_requires : (t : ℕ) → behind-lts.Need-line-end-requires (behind_claims t) (behind_at t) behind.Post
 behind_line_end_requires t c κs = search rules
@@ -183,13 +183,13 @@ behind_add_nested : (t : ℕ) → behind-lts.Need-overflow-add-nested (behind_cl
 behind_add_nested t c = search rules
 
 behind_nested_requires : (t : ℕ) → behind-lts.Need-nested-requires (behind_claims t) (behind_at t) behind.Post
-behind_nested_requires t c κs = (search rules, (search behind-colon, search rules))
+behind_nested_requires t c κs = (search rules, (search behind_colon, search rules))
 
 behind_anew_requires_2 : (t : ℕ) → behind-lts.Need-anew-requires-2 (behind_claims t) (behind_at t) behind.Post
 behind_anew_requires_2 t c κs = search rules
 
 behind_returns_2 : (t : ℕ) → behind-lts.Need-returns-2 (behind_claims t) (behind_at t) behind.Post
-behind_returns_2 t c = (search behind-colon, search behind-noting)
+behind_returns_2 t c = (search behind_colon, search behind_noting)
 
 behind_same_length_4 : (t : ℕ) → behind-lts.Need-same-length-4 (behind_claims t) (behind_at t) behind.Post
 behind_same_length_4 t c = search rules
@@ -201,7 +201,7 @@ behind_same_length_6 : (t : ℕ) → behind-lts.Need-same-length-6 (behind_claim
 behind_same_length_6 t c = search rules
 
 behind_returns_3 : (t : ℕ) → behind-lts.Need-returns-3 (behind_claims t) (behind_at t) behind.Post
-behind_returns_3 t c = rw c.anew2.ensures (search behind-colon, search behind-noting)
+behind_returns_3 t c = rw c.anew2.ensures (search behind_colon, search behind_noting)
 
 abbrev block-Inv-loop : block-lts.invariant-loop
 block-Inv-loop doc rows₀ text₀ keys₀ c parent col allow object row cur₀ far₀ count₀ rows text keys cur far count =
@@ -214,13 +214,13 @@ block_add_t20 : (t : ℕ) → block-lts.Need-overflow-add-t20 (block_claims t) (
 block_add_t20 t c = search rules
 
 block_loop_holds : (t : ℕ) → block-lts.Need-loop-init (block_claims t) (block_at t) block.Post block-Inv-loop block_μ_loop
-block_loop_holds t c = (search block-noting, search rules, search rules, search rules)
+block_loop_holds t c = (search block_noting, search rules, search rules, search rules)
 
 block_cast_member : (t : ℕ) → block-lts.Need-overflow-cast-member (block_claims t) (block_at t) block.Post block-Inv-loop block_μ_loop
 block_cast_member t c = search rules
 
 block_member_requires : (t : ℕ) → block-lts.Need-member-requires (block_claims t) (block_at t) block.Post block-Inv-loop block_μ_loop
-block_member_requires t c κs = search block-laws
+block_member_requires t c κs = search block_laws
 
 block_enum_known_p : (t : ℕ) → block-lts.Need-enum-known-p (block_claims t) (block_at t) block.Post block-Inv-loop block_μ_loop
 block_enum_known_p t c = search rules
@@ -238,7 +238,7 @@ block_same_length_3 : (t : ℕ) → block-lts.Need-same-length-3 (block_claims t
 block_same_length_3 t c = search rules
 
 block_returns : (t : ℕ) → block-lts.Need-returns (block_claims t) (block_at t) block.Post block-Inv-loop block_μ_loop
-block_returns t c = (search block-laws, search block-noting)
+block_returns t c = (search block_laws, search block_noting)
 
 block_enum_known_n : (t : ℕ) → block-lts.Need-enum-known-n (block_claims t) (block_at t) block.Post block-Inv-loop block_μ_loop
 block_enum_known_n t c = search rules
@@ -274,13 +274,13 @@ block_returns_2 : (t : ℕ) → block-lts.Need-returns-2 (block_claims t) (block
 block_returns_2 t c = (block_done _ _ _ _ _ _ _ _ _ _ _ _ c.before.before.before.before.before.before.before.before.before.before.before.before.before.before.before.before.before.before.before.before.before.before.before.loop.invariant.0.loop _ _ _ c.before.before.before.before.before.before.before.before.before.before.before.before.before.before.before.before.before.before.before.member.ensures.0 _ _ _ c.before.before.before.before.before.before.before.before.before.before.before.n.given.1 _ c.before.before.before.before.before.before.before.before.further.ensures _ _ _ _ _ _ c.before.before.before.before.before.before.p2.given.1 c.before.before.before.before.before.before.before.before.before.greater2.ensures c.greater3.ensures refl c.before.before.before.enclose.ensures, block_done_notes _ _ _ _ _ _ _ _ _ _ _ _ _ _ c.before.before.before.before.before.before.before.before.before.before.before.before.before.before.before.before.before.before.before.before.before.before.before.loop.invariant.0 _ _ _ _ c.before.before.before.before.before.before.before.before.before.before.before.before.before.before.before.before.before.before.before.member.ensures.0 c.before.before.before.before.before.before.before.before.before.before.before.before.before.before.before.before.before.before.before.member.ensures.1 _ _ _ c.before.before.before.before.before.before.before.before.before.before.before.n.given.1 _ c.before.before.before.before.before.before.before.before.further.ensures _ _ c.before.before.before.before.before.before.p2.given.1)
 
 block_enum_known_m : (t : ℕ) → block-lts.Need-enum-known-m (block_claims t) (block_at t) block.Post block-Inv-loop block_μ_loop
-block_enum_known_m t c = search block-laws
+block_enum_known_m t c = search block_laws
 
 block_loop_less : (t : ℕ) → block-lts.Need-loop-smaller (block_claims t) (block_at t) block.Post block-Inv-loop block_μ_loop
-block_loop_less t c = search block-laws
+block_loop_less t c = search block_laws
 
 block_loop_again : (t : ℕ) → block-lts.Need-loop-preserved (block_claims t) (block_at t) block.Post block-Inv-loop block_μ_loop
-block_loop_again t c = (search block-noting, search rules, search rules, search rules)
+block_loop_again t c = (search block_noting, search rules, search rules, search rules)
 
 bullet_add_t15 : (t : ℕ) → bullet-lts.Need-overflow-add-t15 (bullet_claims t) (bullet_at t) bullet.Post
 bullet_add_t15 t c = search rules
@@ -289,7 +289,7 @@ bullet_cast_member : (t : ℕ) → bullet-lts.Need-overflow-cast-member (bullet_
 bullet_cast_member t c = search rules
 
 bullet_member_requires : (t : ℕ) → bullet-lts.Need-member-requires (bullet_claims t) (bullet_at t) bullet.Post
-bullet_member_requires t c κs = search bullet-laws
+bullet_member_requires t c κs = search bullet_laws
 
 bullet_enum_known_p : (t : ℕ) → bullet-lts.Need-enum-known-p (bullet_claims t) (bullet_at t) bullet.Post
 bullet_enum_known_p t c = search rules
@@ -310,7 +310,7 @@ bullet_same_length_3 : (t : ℕ) → bullet-lts.Need-same-length-3 (bullet_claim
 bullet_same_length_3 t c = search rules
 
 bullet_returns : (t : ℕ) → bullet-lts.Need-returns (bullet_claims t) (bullet_at t) bullet.Post
-bullet_returns t c = (search bullet-laws, search item-noting)
+bullet_returns t c = (search bullet_laws, search item_noting)
 
 bullet_same_length_4 : (t : ℕ) → bullet-lts.Need-same-length-4 (bullet_claims t) (bullet_at t) bullet.Post
 bullet_same_length_4 t c = search rules
@@ -322,10 +322,10 @@ bullet_same_length_6 : (t : ℕ) → bullet-lts.Need-same-length-6 (bullet_claim
 bullet_same_length_6 t c = search rules
 
 bullet_returns_2 : (t : ℕ) → bullet-lts.Need-returns-2 (bullet_claims t) (bullet_at t) bullet.Post
-bullet_returns_2 t c = (search bullet-laws, search item-noting)
+bullet_returns_2 t c = (search bullet_laws, search item_noting)
 
 item_opener_requires : (t : ℕ) → item-lts.Need-opener-requires (item_claims t) (item_at t) item.Post
-item_opener_requires t c κs = search item-laws
+item_opener_requires t c κs = search item_laws
 
 item_anew_requires : (t : ℕ) → item-lts.Need-anew-requires (item_claims t) (item_at t) item.Post
 item_anew_requires t c κs = search rules
@@ -340,10 +340,10 @@ item_same_length_3 : (t : ℕ) → item-lts.Need-same-length-3 (item_claims t) (
 item_same_length_3 t c = search rules
 
 item_returns : (t : ℕ) → item-lts.Need-returns (item_claims t) (item_at t) item.Post
-item_returns t c = rw c.anew.ensures (search item-laws, search item-noting)
+item_returns t c = rw c.anew.ensures (search item_laws, search item_noting)
 
 item_starts_requires : (t : ℕ) → item-lts.Need-starts-requires (item_claims t) (item_at t) item.Post
-item_starts_requires t c κs = search item-laws
+item_starts_requires t c κs = search item_laws
 
 item_enum_told : (t : ℕ) → item-lts.Need-enum-told (item_claims t) (item_at t) item.Post
 item_enum_told t c = search rules
@@ -352,7 +352,7 @@ item_sub_bullet : (t : ℕ) → item-lts.Need-overflow-sub-bullet (item_claims t
 item_sub_bullet t c = search rules
 
 item_bullet_requires : (t : ℕ) → item-lts.Need-bullet-requires (item_claims t) (item_at t) item.Post
-item_bullet_requires t c κs = search item-laws
+item_bullet_requires t c κs = search item_laws
 
 item_enum_told_2 : (t : ℕ) → item-lts.Need-enum-told-2 (item_claims t) (item_at t) item.Post
 item_enum_told_2 t c = search rules
@@ -361,7 +361,7 @@ item_sub_block : (t : ℕ) → item-lts.Need-overflow-sub-block (item_claims t) 
 item_sub_block t c = search rules
 
 item_block_requires : (t : ℕ) → item-lts.Need-block-requires (item_claims t) (item_at t) item.Post
-item_block_requires t c κs = search item-laws
+item_block_requires t c κs = search item_laws
 
 item_anew_requires_2 : (t : ℕ) → item-lts.Need-anew-requires-2 (item_claims t) (item_at t) item.Post
 item_anew_requires_2 t c κs = search rules
@@ -370,7 +370,7 @@ item_enum_known_p : (t : ℕ) → item-lts.Need-enum-known-p (item_claims t) (it
 item_enum_known_p t c = search rules
 
 item_opener_requires_2 : (t : ℕ) → item-lts.Need-opener-requires-2 (item_claims t) (item_at t) item.Post
-item_opener_requires_2 t c κs = search item-laws
+item_opener_requires_2 t c κs = search item_laws
 
 item_kept_requires : (t : ℕ) → item-lts.Need-kept-requires (item_claims t) (item_at t) item.Post
 item_kept_requires t c κs = search rules
@@ -385,7 +385,7 @@ item_same_length_6 : (t : ℕ) → item-lts.Need-same-length-6 (item_claims t) (
 item_same_length_6 t c = search rules
 
 item_returns_2 : (t : ℕ) → item-lts.Need-returns-2 (item_claims t) (item_at t) item.Post
-item_returns_2 t c = (search item-laws, search item-noting)
+item_returns_2 t c = (search item_laws, search item_noting)
 
 item_same_length_7 : (t : ℕ) → item-lts.Need-same-length-7 (item_claims t) (item_at t) item.Post
 item_same_length_7 t c = search rules
@@ -397,7 +397,7 @@ item_same_length_9 : (t : ℕ) → item-lts.Need-same-length-9 (item_claims t) (
 item_same_length_9 t c = search rules
 
 item_returns_3 : (t : ℕ) → item-lts.Need-returns-3 (item_claims t) (item_at t) item.Post
-item_returns_3 t c = rw c.anew2.ensures (search item-laws, search item-noting)
+item_returns_3 t c = rw c.anew2.ensures (search item_laws, search item_noting)
 
 item_same_length_10 : (t : ℕ) → item-lts.Need-same-length-10 (item_claims t) (item_at t) item.Post
 item_same_length_10 t c = search rules
@@ -409,10 +409,10 @@ item_same_length_12 : (t : ℕ) → item-lts.Need-same-length-12 (item_claims t)
 item_same_length_12 t c = search rules
 
 item_returns_4 : (t : ℕ) → item-lts.Need-returns-4 (item_claims t) (item_at t) item.Post
-item_returns_4 t c = (search item-laws, search item-noting)
+item_returns_4 t c = (search item_laws, search item_noting)
 
 member_property_requires : (t : ℕ) → member-lts.Need-property-requires (member_claims t) (member_at t) member.Post
-member_property_requires t c κs = search member-laws
+member_property_requires t c κs = search member_laws
 
 member_same_length : (t : ℕ) → member-lts.Need-same-length (member_claims t) (member_at t) member.Post
 member_same_length t c = search rules
@@ -424,25 +424,25 @@ member_same_length_3 : (t : ℕ) → member-lts.Need-same-length-3 (member_claim
 member_same_length_3 t c = search rules
 
 member_returns : (t : ℕ) → member-lts.Need-returns (member_claims t) (member_at t) member.Post
-member_returns t c = (search member-laws, search member-noting)
+member_returns t c = (search member_laws, search member_noting)
 
 member_pass_requires : (t : ℕ) → member-lts.Need-pass-requires (member_claims t) (member_at t) member.Post
-member_pass_requires t c κs = search member-laws
+member_pass_requires t c κs = search member_laws
 
 member_enum_known_p : (t : ℕ) → member-lts.Need-enum-known-p (member_claims t) (member_at t) member.Post
-member_enum_known_p t c = search member-laws
+member_enum_known_p t c = search member_laws
 
 member_enum_known_n : (t : ℕ) → member-lts.Need-enum-known-n (member_claims t) (member_at t) member.Post
-member_enum_known_n t c = search member-laws
+member_enum_known_n t c = search member_laws
 
 member_add_item : (t : ℕ) → member-lts.Need-overflow-add-item (member_claims t) (member_at t) member.Post
 member_add_item t c = search rules
 
 member_item_requires : (t : ℕ) → member-lts.Need-item-requires (member_claims t) (member_at t) member.Post
-member_item_requires t c κs = (search rules, (search member-laws, search rules))
+member_item_requires t c κs = (search rules, (search member_laws, search rules))
 
 member_returns_2 : (t : ℕ) → member-lts.Need-returns-2 (member_claims t) (member_at t) member.Post
-member_returns_2 t c = (search member-laws, search member-noting)
+member_returns_2 t c = (search member_laws, search member_noting)
 
 member_same_length_4 : (t : ℕ) → member-lts.Need-same-length-4 (member_claims t) (member_at t) member.Post
 member_same_length_4 t c = search rules
@@ -454,7 +454,7 @@ member_same_length_6 : (t : ℕ) → member-lts.Need-same-length-6 (member_claim
 member_same_length_6 t c = search rules
 
 member_returns_3 : (t : ℕ) → member-lts.Need-returns-3 (member_claims t) (member_at t) member.Post
-member_returns_3 t c = (search member-laws, search member-noting)
+member_returns_3 t c = (search member_laws, search member_noting)
 
 nested_indent_requires : (t : ℕ) → nested-lts.Need-indent-requires (nested_claims t) (nested_at t) nested.Post
 nested_indent_requires t c κs = search rules
@@ -466,10 +466,10 @@ nested_moved_requires : (t : ℕ) → nested-lts.Need-moved-requires (nested_cla
 nested_moved_requires t c κs = search rules
 
 nested_returns : (t : ℕ) → nested-lts.Need-returns (nested_claims t) (nested_at t) nested.Post
-nested_returns t c = (search nested-laws, search nested-noting)
+nested_returns t c = (search nested_laws, search nested_noting)
 
 nested_nested_line_requires : (t : ℕ) → nested-lts.Need-nested-line-requires (nested_claims t) (nested_at t) nested.Post
-nested_nested_line_requires t c κs = search nested-laws
+nested_nested_line_requires t c κs = search nested_laws
 
 nested_same_length : (t : ℕ) → nested-lts.Need-same-length (nested_claims t) (nested_at t) nested.Post
 nested_same_length t c = search rules
@@ -478,10 +478,10 @@ nested_same_length_2 : (t : ℕ) → nested-lts.Need-same-length-2 (nested_claim
 nested_same_length_2 t c = search rules
 
 nested_returns_2 : (t : ℕ) → nested-lts.Need-returns-2 (nested_claims t) (nested_at t) nested.Post
-nested_returns_2 t c = (search nested-laws, search nested-noting)
+nested_returns_2 t c = (search nested_laws, search nested_noting)
 
 nested_starts_requires : (t : ℕ) → nested-lts.Need-starts-requires (nested_claims t) (nested_at t) nested.Post
-nested_starts_requires t c κs = search nested-laws
+nested_starts_requires t c κs = search nested_laws
 
 nested_enum_told : (t : ℕ) → nested-lts.Need-enum-told (nested_claims t) (nested_at t) nested.Post
 nested_enum_told t c = search rules
@@ -490,7 +490,7 @@ nested_sub_block : (t : ℕ) → nested-lts.Need-overflow-sub-block (nested_clai
 nested_sub_block t c = search rules
 
 nested_block_requires : (t : ℕ) → nested-lts.Need-block-requires (nested_claims t) (nested_at t) nested.Post
-nested_block_requires t c κs = (search rules, (search nested-laws, search rules))
+nested_block_requires t c κs = (search rules, (search nested_laws, search rules))
 
 nested_enum_told_2 : (t : ℕ) → nested-lts.Need-enum-told-2 (nested_claims t) (nested_at t) nested.Post
 nested_enum_told_2 t c = search rules
@@ -499,7 +499,7 @@ nested_sub_block_2 : (t : ℕ) → nested-lts.Need-overflow-sub-block-2 (nested_
 nested_sub_block_2 t c = search rules
 
 nested_block_requires_2 : (t : ℕ) → nested-lts.Need-block-requires-2 (nested_claims t) (nested_at t) nested.Post
-nested_block_requires_2 t c κs = (search rules, (search nested-laws, search rules))
+nested_block_requires_2 t c κs = (search rules, (search nested_laws, search rules))
 
 nested_anew_requires : (t : ℕ) → nested-lts.Need-anew-requires (nested_claims t) (nested_at t) nested.Post
 nested_anew_requires t c κs = search rules
@@ -508,7 +508,7 @@ nested_enum_known_p : (t : ℕ) → nested-lts.Need-enum-known-p (nested_claims 
 nested_enum_known_p t c = search rules
 
 nested_nested_line_requires_2 : (t : ℕ) → nested-lts.Need-nested-line-requires-2 (nested_claims t) (nested_at t) nested.Post
-nested_nested_line_requires_2 t c κs = search nested-laws
+nested_nested_line_requires_2 t c κs = search nested_laws
 
 nested_kept_requires : (t : ℕ) → nested-lts.Need-kept-requires (nested_claims t) (nested_at t) nested.Post
 nested_kept_requires t c κs = search rules
@@ -523,7 +523,7 @@ nested_same_length_5 : (t : ℕ) → nested-lts.Need-same-length-5 (nested_claim
 nested_same_length_5 t c = search rules
 
 nested_returns_3 : (t : ℕ) → nested-lts.Need-returns-3 (nested_claims t) (nested_at t) nested.Post
-nested_returns_3 t c = (search nested-laws, search nested-noting)
+nested_returns_3 t c = (search nested_laws, search nested_noting)
 
 nested_same_length_6 : (t : ℕ) → nested-lts.Need-same-length-6 (nested_claims t) (nested_at t) nested.Post
 nested_same_length_6 t c = search rules
@@ -535,7 +535,7 @@ nested_same_length_8 : (t : ℕ) → nested-lts.Need-same-length-8 (nested_claim
 nested_same_length_8 t c = search rules
 
 nested_returns_4 : (t : ℕ) → nested-lts.Need-returns-4 (nested_claims t) (nested_at t) nested.Post
-nested_returns_4 t c = rw c.anew.ensures (search nested-laws, search nested-noting)
+nested_returns_4 t c = rw c.anew.ensures (search nested_laws, search nested_noting)
 
 nested_same_length_9 : (t : ℕ) → nested-lts.Need-same-length-9 (nested_claims t) (nested_at t) nested.Post
 nested_same_length_9 t c = search rules
@@ -544,7 +544,7 @@ nested_same_length_10 : (t : ℕ) → nested-lts.Need-same-length-10 (nested_cla
 nested_same_length_10 t c = search rules
 
 nested_returns_5 : (t : ℕ) → nested-lts.Need-returns-5 (nested_claims t) (nested_at t) nested.Post
-nested_returns_5 t c = (search nested-laws, search nested-noting)
+nested_returns_5 t c = (search nested_laws, search nested_noting)
 
 property_key_row_requires : (t : ℕ) → property-lts.Need-key-row-requires (property_claims t) (property_at t) property.Post
 property_key_row_requires t c κs = search rules
@@ -556,13 +556,13 @@ property_enum_known_n : (t : ℕ) → property-lts.Need-enum-known-n (property_c
 property_enum_known_n t c = search rules
 
 property_take_requires : (t : ℕ) → property-lts.Need-take-requires (property_claims t) (property_at t) property.Post
-property_take_requires t c κs = search property-laws
+property_take_requires t c κs = search property_laws
 
 property_enum_known_p_2 : (t : ℕ) → property-lts.Need-enum-known-p-2 (property_claims t) (property_at t) property.Post
-property_enum_known_p_2 t c = search property-laws
+property_enum_known_p_2 t c = search property_laws
 
 property_enum_known_m : (t : ℕ) → property-lts.Need-enum-known-m (property_claims t) (property_at t) property.Post
-property_enum_known_m t c = search property-laws
+property_enum_known_m t c = search property_laws
 
 property_note_requires : (t : ℕ) → property-lts.Need-note-requires (property_claims t) (property_at t) property.Post
 property_note_requires t c κs = search (property_key, rules)
@@ -577,7 +577,7 @@ property_same_length_2 : (t : ℕ) → property-lts.Need-same-length-2 (property
 property_same_length_2 t c = search rules
 
 property_returns : (t : ℕ) → property-lts.Need-returns (property_claims t) (property_at t) property.Post
-property_returns t c = (search property-laws, search property-noting)
+property_returns t c = (search property_laws, search property_noting)
 
 property_same_length_3 : (t : ℕ) → property-lts.Need-same-length-3 (property_claims t) (property_at t) property.Post
 property_same_length_3 t c = search rules
@@ -586,7 +586,7 @@ property_same_length_4 : (t : ℕ) → property-lts.Need-same-length-4 (property
 property_same_length_4 t c = search rules
 
 property_returns_2 : (t : ℕ) → property-lts.Need-returns-2 (property_claims t) (property_at t) property.Post
-property_returns_2 t c = (search property-laws, search property-noting)
+property_returns_2 t c = (search property_laws, search property_noting)
 
 property_same_length_5 : (t : ℕ) → property-lts.Need-same-length-5 (property_claims t) (property_at t) property.Post
 property_same_length_5 t c = search rules
@@ -598,7 +598,7 @@ property_same_length_7 : (t : ℕ) → property-lts.Need-same-length-7 (property
 property_same_length_7 t c = search rules
 
 property_returns_3 : (t : ℕ) → property-lts.Need-returns-3 (property_claims t) (property_at t) property.Post
-property_returns_3 t c = (search property-laws, search property-noting)
+property_returns_3 t c = (search property_laws, search property_noting)
 
 pub +behind-block-bullet-item-member-nested-property-spec : {M : Type 1} → statement M
 +behind-block-bullet-item-member-nested-property-spec =

@@ -1,6 +1,6 @@
 -- `pass` meets its contract: comments, the root, and blank lines up to the end.
 use Rattle.judge.proofs.Documents.{passing}
-use Rattle.judge.proofs.NotingWhole.{pass-noting}
+use Rattle.judge.proofs.NotingWhole.{pass_noting}
 use borrow.Author.Rules.{rules}
 use Rattle.judge.proofs.whole.pass.Statement.{statement}
 use Rattle.judge.proofs.whole.pass.Tie as tie
@@ -27,7 +27,7 @@ finish-requires : tie.Need-finish-requires
 finish-requires c κs = search rules
 
 returns : tie.Need-returns
-returns c = (search passing, (search passing, search pass-noting))
+returns c = (search passing, (search passing, search pass_noting))
 
 same_length : tie.Need-same-length
 same_length c = search rules
@@ -39,7 +39,7 @@ same-length-3 : tie.Need-same-length-3
 same-length-3 c = search rules
 
 returns-2 : tie.Need-returns-2
-returns-2 c = (search passing, (search passing, search pass-noting))
+returns-2 c = (search passing, (search passing, search pass_noting))
 
 same-length-4 : tie.Need-same-length-4
 same-length-4 c = search rules
@@ -51,7 +51,7 @@ same-length-6 : tie.Need-same-length-6
 same-length-6 c = search rules
 
 returns-3 : tie.Need-returns-3
-returns-3 c = (search passing, (search passing, search pass-noting))
+returns-3 c = (search passing, (search passing, search pass_noting))
 
 pub pass_spec : {M : Type 1} → statement M
 pass_spec =

@@ -1,6 +1,6 @@
 -- `root` meets its contract: how it begins decides.
 use Rattle.judge.proofs.Documents.{rooting}
-use Rattle.judge.proofs.NotingWhole.{root-noting}
+use Rattle.judge.proofs.NotingWhole.{root_noting}
 use borrow.Author.Rules.{rules}
 use Rattle.judge.proofs.whole.root.Statement.{statement}
 use Rattle.judge.proofs.whole.root.Tie as tie
@@ -18,7 +18,7 @@ same-length-3 : tie.Need-same-length-3
 same-length-3 c = search rules
 
 returns : tie.Need-returns
-returns c = (search rooting, search root-noting)
+returns c = (search rooting, search root_noting)
 
 starts-requires : tie.Need-starts-requires
 starts-requires c κs = search rules
@@ -60,7 +60,7 @@ same-length-6 : tie.Need-same-length-6
 same-length-6 c = search rules
 
 returns-2 : tie.Need-returns-2
-returns-2 c = (search rooting, search root-noting)
+returns-2 c = (search rooting, search root_noting)
 
 same-length-7 : tie.Need-same-length-7
 same-length-7 c = search rules
@@ -72,7 +72,7 @@ same-length-9 : tie.Need-same-length-9
 same-length-9 c = search rules
 
 returns-3 : tie.Need-returns-3
-returns-3 c = (search rooting, search root-noting)
+returns-3 c = (search rooting, search root_noting)
 
 same-length-10 : tie.Need-same-length-10
 same-length-10 c = search rules
@@ -84,7 +84,7 @@ same-length-12 : tie.Need-same-length-12
 same-length-12 c = search rules
 
 returns-4 : tie.Need-returns-4
-returns-4 c = (search rooting, search root-noting)
+returns-4 c = (search rooting, search root_noting)
 
 pub root-spec : {M : Type 1} → statement M
 root-spec =

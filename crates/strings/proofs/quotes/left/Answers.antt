@@ -29,7 +29,7 @@ pub special-requires : goal.special-requires
 special-requires c =
     let k = c.clean-e in
     let t = c.take in
-    ((search ready_behind, search rules), special_at _ _ _ _ _ _ k.ensures t.result t.ensures _ c.enum_told-1.given.1)
+    record { ready = (search ready_behind, search rules); special = special_at _ _ _ _ _ _ k.ensures t.result t.ensures _ c.in-No.is }
 
 pub enum_known-p : goal.enum_known-p
 enum_known-p c = search strings

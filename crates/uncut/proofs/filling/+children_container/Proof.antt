@@ -1,5 +1,5 @@
 -- The cycle of containers and their children fills the rooms: the bytes become fewer from a container to what is inside it, and in the loop those that are left.
-use Rattle.uncut.proofs.FillLaws.{fill_begins, fill_inside, fill_few, node_children, node_fewer, node_placing, node_told, node-filling, left_count, left_row, left_asked, left_falls, left_node, left_leaf, left_again}
+use Rattle.uncut.proofs.FillLaws.{fill_begins, fill_inside, fill_few, node_children, node_fewer, node_placing, node_told, node_filling, left_count, left_row, left_asked, left_falls, left_node, left_leaf, left_again}
 use borrow.Author.Rules.{rules}
 use mathlib.Core.Path.{◌≡◌, refl, ap, ◌∙◌}
 use mathlib.Core.Logic.{⊎_elim}
@@ -106,25 +106,25 @@ children_returns : (t : ℕ) → children-lts.Need-returns (children_claims t) (
 children_returns t c = λ h. left_end _ (c.before.loop.invariant.0 h) c.loop-test.false
 
 container_add_children : (t : ℕ) → container-lts.Need-overflow-add-children (container_claims t) (container_at t) container.Post
-container_add_children t c = search node-filling
+container_add_children t c = search node_filling
 
 container_add_children_2 : (t : ℕ) → container-lts.Need-overflow-add-children-2 (container_claims t) (container_at t) container.Post
-container_add_children_2 t c = search node-filling
+container_add_children_2 t c = search node_filling
 
 container_children_requires : (t : ℕ) → container-lts.Need-children-requires (container_claims t) (container_at t) container.Post
 container_children_requires t c κs = (node_fewer _ _ _ _ _ _ _ _ c.before.before.before.before.before.requires.1 _ c.before.before.before.before.before.requires.0, node_children _ _ _ _ _ _ _ _ c.before.before.before.before.before.requires.1)
 
 container_members_requires : (t : ℕ) → container-lts.Need-members-requires (container_claims t) (container_at t) container.Post
-container_members_requires t c κs = search node-filling
+container_members_requires t c κs = search node_filling
 
 container_place_requires : (t : ℕ) → container-lts.Need-place-requires (container_claims t) (container_at t) container.Post
 container_place_requires t c κs = node_placing _ _ _ _ _ _ _ _ c.before.before.before.before.before.before.before.before.before.before.before.before.requires.1 _ _ _ _ _ _ _ c.before.before.before.before.before.before.children.ensures _ c.before.members.ensures
 
 container_same_length : (t : ℕ) → container-lts.Need-same-length (container_claims t) (container_at t) container.Post
-container_same_length t c = search node-filling
+container_same_length t c = search node_filling
 
 container_same_length_2 : (t : ℕ) → container-lts.Need-same-length-2 (container_claims t) (container_at t) container.Post
-container_same_length_2 t c = search node-filling
+container_same_length_2 t c = search node_filling
 
 container_returns : (t : ℕ) → container-lts.Need-returns (container_claims t) (container_at t) container.Post
 container_returns t c = λ h. node_told _ _ _ _ _ _ _ _ c.before.before.before.before.before.before.before.before.before.before.before.before.before.before.before.requires.1 _ _ _ _ _ _ _ c.before.before.before.before.before.before.before.before.before.children.ensures _ c.before.before.before.before.members.ensures h _ c.before.before.place.ensures

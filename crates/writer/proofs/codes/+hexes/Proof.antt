@@ -7,7 +7,7 @@ use borrow.Fn.PlainCycle.{Measures, is, falls, and}
 use Rattle.writer.proofs.codes.hexes.Reads as hexes
 use Rattle.writer.proofs.codes.hexes.Kinds as hexes-kinds
 use Rattle.writer.proofs.codes.+hexes.Lts-hexes as hexes-lts
-use Rattle.writer.proofs.codes.digit.Reads as digit-reads
+use Rattle.writer.proofs.codes.digit.Reads as digit_reads
 use Rattle.writer.proofs.marks.put.Reads as put_reads
 use Rattle.writer.proofs.codes.+hexes.{statement}
 use Rattle.writer.proofs.codes.+hexes.Tie.{close}
@@ -22,8 +22,8 @@ abbrev hexes_below : ℕ → In 1 hexes-kinds.ps
 hexes_below t = and 1 hexes-kinds.ps (falls 1 hexes-kinds.ps ◌<◌ μ_hexes t) hexes.Pre
 
 hexes_returns : (t : ℕ) → hexes-lts.Need-returns (
-  digit-reads.Asked,
-  digit-reads.Learnt,
+  digit_reads.Asked,
+  digit_reads.Learnt,
   put_reads.Asked,
   put_reads.Learnt,
   hexes_below t,
@@ -32,8 +32,8 @@ hexes_returns : (t : ℕ) → hexes-lts.Need-returns (
 hexes_returns t c = search (hexing, rules)
 
 hexes_cast_digit : (t : ℕ) → hexes-lts.Need-overflow-cast-digit (
-  digit-reads.Asked,
-  digit-reads.Learnt,
+  digit_reads.Asked,
+  digit_reads.Learnt,
   put_reads.Asked,
   put_reads.Learnt,
   hexes_below t,
@@ -42,8 +42,8 @@ hexes_cast_digit : (t : ℕ) → hexes-lts.Need-overflow-cast-digit (
 hexes_cast_digit t c = search (hexing, rules)
 
 hexes_digit_requires : (t : ℕ) → hexes-lts.Need-digit-requires (
-  digit-reads.Asked,
-  digit-reads.Learnt,
+  digit_reads.Asked,
+  digit_reads.Learnt,
   put_reads.Asked,
   put_reads.Learnt,
   hexes_below t,
@@ -52,8 +52,8 @@ hexes_digit_requires : (t : ℕ) → hexes-lts.Need-digit-requires (
 hexes_digit_requires t c κs = search (hexing, rules)
 
 hexes_put_requires : (t : ℕ) → hexes-lts.Need-put-requires (
-  digit-reads.Asked,
-  digit-reads.Learnt,
+  digit_reads.Asked,
+  digit_reads.Learnt,
   put_reads.Asked,
   put_reads.Learnt,
   hexes_below t,
@@ -62,8 +62,8 @@ hexes_put_requires : (t : ℕ) → hexes-lts.Need-put-requires (
 hexes_put_requires t c κs = search (hexing, rules)
 
 hexes_same_length : (t : ℕ) → hexes-lts.Need-same-length (
-  digit-reads.Asked,
-  digit-reads.Learnt,
+  digit_reads.Asked,
+  digit_reads.Learnt,
   put_reads.Asked,
   put_reads.Learnt,
   hexes_below t,
@@ -72,8 +72,8 @@ hexes_same_length : (t : ℕ) → hexes-lts.Need-same-length (
 hexes_same_length t c = search (hexing, rules)
 
 hexes_returns_2 : (t : ℕ) → hexes-lts.Need-returns-2 (
-  digit-reads.Asked,
-  digit-reads.Learnt,
+  digit_reads.Asked,
+  digit_reads.Learnt,
   put_reads.Asked,
   put_reads.Learnt,
   hexes_below t,
@@ -82,8 +82,8 @@ hexes_returns_2 : (t : ℕ) → hexes-lts.Need-returns-2 (
 hexes_returns_2 t c = search (hexing, rules)
 
 hexes_sub_hexes : (t : ℕ) → hexes-lts.Need-overflow-sub-hexes (
-  digit-reads.Asked,
-  digit-reads.Learnt,
+  digit_reads.Asked,
+  digit_reads.Learnt,
   put_reads.Asked,
   put_reads.Learnt,
   hexes_below t,
@@ -92,8 +92,8 @@ hexes_sub_hexes : (t : ℕ) → hexes-lts.Need-overflow-sub-hexes (
 hexes_sub_hexes t c = search (hexing, rules)
 
 hexes_hexes_requires : (t : ℕ) → hexes-lts.Need-hexes-requires (
-  digit-reads.Asked,
-  digit-reads.Learnt,
+  digit_reads.Asked,
+  digit_reads.Learnt,
   put_reads.Asked,
   put_reads.Learnt,
   hexes_below t,
@@ -102,8 +102,8 @@ hexes_hexes_requires : (t : ℕ) → hexes-lts.Need-hexes-requires (
 hexes_hexes_requires t c κs = search (hexing, rules)
 
 hexes_cast_digit_2 : (t : ℕ) → hexes-lts.Need-overflow-cast-digit-2 (
-  digit-reads.Asked,
-  digit-reads.Learnt,
+  digit_reads.Asked,
+  digit_reads.Learnt,
   put_reads.Asked,
   put_reads.Learnt,
   hexes_below t,
@@ -112,8 +112,8 @@ hexes_cast_digit_2 : (t : ℕ) → hexes-lts.Need-overflow-cast-digit-2 (
 hexes_cast_digit_2 t c = search (hexing, rules)
 
 hexes_digit_requires_2 : (t : ℕ) → hexes-lts.Need-digit-requires-2 (
-  digit-reads.Asked,
-  digit-reads.Learnt,
+  digit_reads.Asked,
+  digit_reads.Learnt,
   put_reads.Asked,
   put_reads.Learnt,
   hexes_below t,
@@ -122,8 +122,8 @@ hexes_digit_requires_2 : (t : ℕ) → hexes-lts.Need-digit-requires-2 (
 hexes_digit_requires_2 t c κs = search (hexing, rules)
 
 hexes_put_requires_2 : (t : ℕ) → hexes-lts.Need-put-requires-2 (
-  digit-reads.Asked,
-  digit-reads.Learnt,
+  digit_reads.Asked,
+  digit_reads.Learnt,
   put_reads.Asked,
   put_reads.Learnt,
   hexes_below t,
@@ -132,8 +132,8 @@ hexes_put_requires_2 : (t : ℕ) → hexes-lts.Need-put-requires-2 (
 hexes_put_requires_2 t c κs = search (hexing, rules)
 
 hexes_same_length_2 : (t : ℕ) → hexes-lts.Need-same-length-2 (
-  digit-reads.Asked,
-  digit-reads.Learnt,
+  digit_reads.Asked,
+  digit_reads.Learnt,
   put_reads.Asked,
   put_reads.Learnt,
   hexes_below t,
@@ -142,8 +142,8 @@ hexes_same_length_2 : (t : ℕ) → hexes-lts.Need-same-length-2 (
 hexes_same_length_2 t c = search (hexing, rules)
 
 hexes_returns_3 : (t : ℕ) → hexes-lts.Need-returns-3 (
-  digit-reads.Asked,
-  digit-reads.Learnt,
+  digit_reads.Asked,
+  digit_reads.Learnt,
   put_reads.Asked,
   put_reads.Learnt,
   hexes_below t,
@@ -153,8 +153,8 @@ hexes_returns_3 t c = search (hexing, rules)
 
 pub +hexes-spec : {M : Type 1} → statement M
 +hexes-spec = close μ_hexes λ t. hexes-lts.spec (
-  digit-reads.Asked,
-  digit-reads.Learnt,
+  digit_reads.Asked,
+  digit_reads.Learnt,
   put_reads.Asked,
   put_reads.Learnt,
   hexes_below t,
