@@ -26,6 +26,7 @@ pub record Keyed (s : List ℕ) (ts : Forest) : Type 0 where
   pub has : Has s start ts
 
 pub has_key : {r i : ℕ} {s : List ℕ} {v : Tree} {ts : Forest} {fs : List Pair} → Pairs r ts fs → Holds s i v fs → Keyed s ts
+has_key {i = i} {s = s} {v = v} (no_pair {r = r}) x5 = elim x5 [ ]
 has_key (one_pair {a = a} x) held = record { start = a; has = has_here }
 has_key (one_pair x) (held_later h) = let z = has_key x h in record { start = z.start; has = has_later (has_later z.has) }
 

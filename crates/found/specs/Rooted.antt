@@ -86,6 +86,7 @@ mutual
 -- the row that a pair names is that of its value
 pub value_among : {r i : ℕ} {s : List ℕ} {v : Tree} {ts : Forest} {fs : List Pair} → Pairs r ts fs → Holds s i v fs → RowAmong i v r ts
 unfolding size
+value_among {i = i} {s = s} {v = v} (no_pair {r = r}) x5 = elim x5 [ ]
 value_among (one_pair x) held = in_further (in_first own)
 value_among (one_pair x) (held_later h) = in_further (in_further (value_among x h))
 

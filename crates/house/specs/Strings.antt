@@ -76,7 +76,7 @@ pair_reads {b = b} h =
 pairs_star : {at : ℕ} {s : List ℕ} → Octets s → Reads (Star (Alt Pair (Space >> Pair))) at (hex_pairs s) s
 unfolding hex_pairs
 pairs_star octets_none = star_none
-pairs_star (octets_more h x) = star_more (one_reads (pair_reads h)) (pairs_star x)
+pairs_star {at = at} (octets_more {b = b} h x) = star_more (one_reads (pair_reads h)) (pairs_star {at = at + 2} x)
 
 pairs_reads : {at : ℕ} {s : List ℕ} → Octets s → Reads (Option Pairs) at (hex_pairs s) s
 unfolding hex_pairs

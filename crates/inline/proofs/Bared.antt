@@ -63,7 +63,7 @@ module _ (spaced : Bool) where
   unfolding after_r
   after m ds at s =
       every_alt (is (only 46)) _ _ at s (dotted m ds) (λ at s.
-      every_alt (is (only 101)) _ _ at s (λ at s. every_bind (exponent_r spaced at s) _ (λ x a t. every_ok (floats (m ++ (ds ++ x))))) (λ at s. every_ok (integers (signed m ds))))
+      every_alt (is (only 101)) _ _ at s (λ at s. every_bind (exponent_r spaced at s) _ (λ x a t. every_ok {a = a} {s = t} (floats (m ++ (ds ++ x))))) (λ at s. every_ok {a = at} {s = s} (integers (signed m ds))))
 
   unsigned : (m : List ℕ) (at : ℕ) (s : List ℕ) → Always Plainly (unsigned_r spaced m at s)
   unfolding unsigned_r

@@ -96,7 +96,7 @@ module _ (P : Out Tree → Type 0) (doc : List ℕ) (at b : ℕ) (h : b ≡ peek
   string_reads : is plain_first (peek doc at) ≡ false → is string_s.first (peek doc at) ≡ true → Via string_r → Via (scalar_r false)
   unfolding scalar_r quotes_r
   string_reads e f x =
-      via (second_reads doc at plain_first (plain_r false) _ refl e ∙ (alt_peek doc at string_s.first refl string_r inline_bytes_r ∙ rw f refl)) x
+      via (second_reads doc at plain_first (plain_r false) quotes_r refl e ∙ (alt_peek doc at string_s.first refl string_r inline_bytes_r ∙ rw f refl)) x
 
   pub chosen_string : (b ≡ 34) ⊎ (b ≡ 39) → Via string_r → Via (scalar_r false)
   chosen_string (inl e) x = string_reads (seen 34 plain_first e) (seen 34 string_s.first e) x
@@ -105,7 +105,7 @@ module _ (P : Out Tree → Type 0) (doc : List ℕ) (at b : ℕ) (h : b ≡ peek
   pub chosen_bytes : b ≡ 60 → Via inline_bytes_r → Via (scalar_r false)
   unfolding scalar_r quotes_r
   chosen_bytes e x =
-      via (second_reads doc at plain_first (plain_r false) _ refl (seen 60 plain_first e) ∙ second_reads doc at string_s.first string_r inline_bytes_r refl (seen 60 string_s.first e)) x
+      via (second_reads doc at plain_first (plain_r false) quotes_r refl (seen 60 plain_first e) ∙ second_reads doc at string_s.first string_r inline_bytes_r refl (seen 60 string_s.first e)) x
 
   pub chosen_plain : ((b ≡ 34) ⊎ (b ≡ 39) → ⊥) → (b ≡ 60 → ⊥) → Via (plain_r false) → Via (scalar_r false)
   unfolding scalar_r

@@ -8,9 +8,9 @@ use lib.ListN.{length, drop}
 use lib.Seq.{sets}
 use borrow.Author.Rules.{rules}
 use Rattle.language.specs.Tree.{unlined, Tree, count, width, row_list}
-use Rattle.exact.specs.Class.{is}
+use Rattle.exact.specs.Class.{is, only}
 use Rattle.exact.specs.Out.{Out, Reader, bind, ok, bad}
-use Rattle.exact.specs.Lang.{ret_r}
+use Rattle.exact.specs.Lang.{ret_r, byte_r}
 use Rattle.exact.specs.Comb.{seq_r}
 use Rattle.exact.specs.Ll.{here_r}
 use Rattle.exact.specs.Place.{peek, peek_in, byte_is, byte_not, alt_is, alt_not, list_r}
@@ -46,13 +46,13 @@ module _ (o : Bool) (r : Reader Tree) (doc : List ℕ) (at y : ℕ) (h : peek do
 
   pub bracket_list : (y ≡ closes o → ⊥) → bracket_r o r at (drop at doc) ≡ bind (list_r (closes o) (member_r o r) (at + 1) (drop (at + 1) doc)) made
   unfolding listed_r
-  bracket_list n = opened ∙ ap (λ (u : Out (List (Member o))). bind u made) (alt_not doc (at + 1) (closes o) y (closes_small o) g _ _ n)
+  bracket_list n = opened ∙ ap (λ (u : Out (List (Member o))). bind u made) (alt_not doc (at + 1) (closes o) y (closes_small o) g (seq_r (byte_r (is (only (closes o)))) λ _. ret_r []) (list_r (closes o) (member_r o r)) n)
 
   pub bracket_empty : y ≡ closes o → bracket_r o r at (drop at doc) ≡ ok (enclosed o at (at + 1 + 1) []) (at + 1 + 1) (drop (at + 1 + 1) doc)
   unfolding listed_r
   bracket_empty n =
       opened
-      ∙ (ap (λ (u : Out (List (Member o))). bind u made) (alt_is doc (at + 1) (closes o) y (closes_small o) g _ _ n)
+      ∙ (ap (λ (u : Out (List (Member o))). bind u made) (alt_is doc (at + 1) (closes o) y (closes_small o) g (seq_r (byte_r (is (only (closes o)))) λ _. ret_r []) (list_r (closes o) (member_r o r)) n)
       ∙ ap (λ (u : Out ℕ). bind (bind u (λ _. ret_r [])) made) (byte_is doc (at + 1) (closes o) y (closes_small o) g n))
 
 -- ---- behind the bracket

@@ -37,6 +37,7 @@ in_split {q} {a} {s} (n ∷ xs) ys (in_later x) = go (in_split xs ys x)
     go (inr y) = inr y
 
 pub twice_left : {p : ℕ} (xs ys : List Named) → Twice p xs → Twice p (xs ++ ys)
+twice_left {p = p} [] ys x' = elim x' [ ]
 twice_left (n ∷ xs) ys (twice_here x) = twice_here (in_left xs ys x)
 twice_left (n ∷ xs) ys (twice_later x) = twice_later (twice_left xs ys x)
 

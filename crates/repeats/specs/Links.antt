@@ -32,7 +32,7 @@ pub data Chained (links : List ℕ) (k : ℕ) : ℕ → Type 0 where
   chained_later : {h : ℕ} → Chained links k (get_or links h 0) → Chained links k (suc h)
 
 -- .. so it is a key, before what h is before
-chained_key : {N : Numbering} {links : List ℕ} {n k h : ℕ} → Linked N links → Chained links k h → Points N n h → Before N n k
+chained_key : {N : Numbering} {links : List ℕ} {k n h : ℕ} → Linked N links → Chained links k h → Points N n h → Before N n k
 chained_key l chained_here (to_key x) = x
 chained_key {n = n} l (chained_later {h} c) (to_key x) = before_more n (omega (arith, x.before)) (chained_key l c (l h))
 

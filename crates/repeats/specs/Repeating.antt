@@ -10,6 +10,7 @@ use Rattle.repeats.specs.Flat.{named, flat, flats, In, in_here, Twice, twice_her
 
 has_in : (r p : ℕ) {s : List ℕ} {a : ℕ} (ts : Forest) → Has s a ts → In p a s (flats r p ts)
 unfolding flat
+has_in r p {s = s} {a = a} none x' = elim x' [ ]
 has_in r p (more _ ts) has_here = in_here
 has_in r p (more t ts) (has_later x) = in_right (flat r p t) (flats (r + size t) p ts) (has_in (r + size t) p ts x)
 
@@ -17,9 +18,11 @@ mutual
   unfolding flat
 
   pub repeats_twice : (r p : ℕ) {i : ℕ} (t : Tree) → Repeats i t → Twice i (flat r p t)
+  repeats_twice r p {i = i} (leaf _ _ _ _) x6 = elim x6 [ ]
   repeats_twice r p (node k a e c ts) (inside x) = repeated_twice (r + 1) r ts x
 
   pub repeated_twice : (r p : ℕ) {i : ℕ} (ts : Forest) → Repeated i ts → Twice i (flats r p ts)
+  repeated_twice r p {i = i} none x6 = elim x6 [ ]
   repeated_twice r p (more _ ts) (again x) = twice_here (has_in _ p ts x)
   repeated_twice r p (more t ts) (below x) = twice_left (flat r p t) (flats (r + size t) p ts) (repeats_twice r p t x)
   repeated_twice r p (more t ts) (beside x) = twice_right (flat r p t) (flats (r + size t) p ts) (repeated_twice (r + size t) p ts x)

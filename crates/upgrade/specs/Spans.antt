@@ -31,14 +31,17 @@ under_unspan (under_later x) = under_later (under_unspan x)
 unspan_numbers : (ts : Forest) {ns : List ℕ} → Numbers (unspans ts) ns → Numbers ts ns
 unfolding unspan
 unspan_numbers none no_number = no_number
+unspan_numbers (more (node _ _ _ _ _) ts) {ns = ns} x8 = elim x8 [ ]
 unspan_numbers (more (leaf k a e s) ts) (one_number h x) = one_number h (unspan_numbers ts x)
 
 unspan_version : (t : Tree) {ns : List ℕ} → Version (unspan t) ns → Version t ns
 unfolding unspan
+unspan_version (leaf _ _ _ _) {ns = ns} x5 = elim x5 [ ]
 unspan_version (node k a e c ts) (version x l m) = version (unspan_numbers ts x) l m
 
 unspan_image : (t : Tree) → Image (unspan t) → Image t
 unfolding unspan
+unspan_image (node _ _ _ _ _) x6 = elim x6 [ ]
 unspan_image (leaf k a e s) (image h) = image h
 
 pub record Spanned (s : List ℕ) (w : Tree) (ts : Forest) : Type 0 where
@@ -49,9 +52,13 @@ pub record Spanned (s : List ℕ) (w : Tree) (ts : Forest) : Type 0 where
 later : {s : List ℕ} {w t : Tree} {ts : Forest} → Spanned s w ts → Spanned s w (more t ts)
 later y = record { value = y.value; bare = y.bare; under = under_later y.under }
 
+-- what stands below one child alone stands behind it
+lone : {s : List ℕ} {w t : Tree} → Under s w (more t none) → Under s w none
+lone (under_later y) = y
+
 first_under : (t : Tree) (ts : Forest) {s : List ℕ} {w : Tree} → Under s w (unspans (more t ts)) → (Under s w (unspans ts) → Spanned s w ts) → Spanned s w (more t ts)
 unfolding unspan
-first_under (leaf k a e d) none x f = elim x [ under_later y ↦ later (f y) ]
+first_under (leaf k a e d) none x f = later (f (lone x))
 first_under (leaf k a e d) (more v ts) under_here f = record { value = v; bare = mathlib.Core.Path.refl; under = under_here }
 first_under (leaf k a e d) (more v ts) (under_later x) f = later (f x)
 first_under (node k a e c us) ts (under_later x) f = later (f x)
@@ -80,6 +87,7 @@ sheet_unspan (sheet {ts = ts} p x q y r z only) =
 
 unspan_sheet : (t : Tree) {v f : List ℕ} → Sheet (unspan t) v f → Sheet t v f
 unfolding unspan
+unspan_sheet (leaf _ _ _ _) {v = v} {f = f} x5 = elim x5 [ ]
 unspan_sheet (node k a e c ts) (sheet p x q y r z only) =
     let p' = unspan_under ts p in
     let q' = unspan_under ts q in

@@ -45,11 +45,23 @@ pub under_has : {s : List ℕ} {v : Tree} {ts : Forest} → Under s v ts → Sta
 under_has (under_here {a = a}) = record { start = a; has = has_here }
 under_has (under_later x) = let y = under_has x in record { start = y.start; has = has_later y.has }
 
+-- the same of two lists of children that are equal
+under_two : {s : List ℕ} {v w : Tree} {ts us : Forest} → Onces ts → ts ≡ us → Under s v ts → Under s w us → v ≡ w
+under_two o e under_here under_here = cc
+under_two {s = s} {v = v} o e (under_here {ts = ts}) (under_later {ts = us} y) =
+    let q : us ≡ more v ts = cc in
+    let z = mathlib.Core.Path.subst (Stands s) q (under_has y) in
+    absurd (o z.start (again z.has))
+under_two {s = s} {w = w} o e (under_later {ts = ts} x) (under_here {ts = us}) =
+    let q : ts ≡ more w us = cc in
+    let z = mathlib.Core.Path.subst (Stands s) q (under_has x) in
+    absurd (mathlib.Core.Path.subst Onces e o z.start (again z.has))
+under_two o e (under_later {ts = ts} x) (under_later {ts = us} y) =
+    let q : ts ≡ us = cc in
+    under_two (λ p h. o p (beside h)) q x y
+
 pub under_one : {s : List ℕ} {v w : Tree} {ts : Forest} → Onces ts → Under s v ts → Under s w ts → v ≡ w
-under_one o under_here under_here = refl
-under_one o under_here (under_later y) = let z = under_has y in absurd (o z.start (again z.has))
-under_one o (under_later x) under_here = let z = under_has x in absurd (o z.start (again z.has))
-under_one o (under_later x) (under_later y) = under_one (λ p h. o p (beside h)) x y
+under_one o x y = under_two o refl x y
 
 pub record Same (v f w g : List ℕ) : Type 0 where
   pub version : v ≡ w

@@ -34,6 +34,7 @@ plain_number (d ∷ e ∷ ds) = go (eqb d 48) refl (plain_number (e ∷ ds))
 -- .. and leave digits
 plain_digits : (ds : List ℕ) → Number ds → Number (plain ds)
 unfolding plain
+plain_digits [] n = elim n [ ]
 plain_digits (d ∷ []) n = n
 plain_digits (d ∷ e ∷ ds) (number h (digits_more g r)) = go (eqb d 48) (plain_digits (e ∷ ds) (number g r))
   where
@@ -56,6 +57,7 @@ data Shape : List ℕ → Type 0 where
 
 plain_shape : (ds : List ℕ) → Number ds → Shape (plain ds)
 unfolding plain
+plain_shape [] n = elim n [ ]
 plain_shape (d ∷ []) n = go (eqb d 48) refl
   where
     go : (b : Bool) → eqb d 48 ≡ b → Shape (d ∷ [])

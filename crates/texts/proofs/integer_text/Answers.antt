@@ -11,4 +11,4 @@ use Rattle.texts.proofs.integer_text.Goals as goal
 pub returns : goal.returns
 returns c =
     let s = c.args in
-    part_told (λ (x : List ℕ). is_integer x ≡ true) s.a s.e s.text.now (omega arith) c.is_an_integer.result (tells_test _ _ c.is_an_integer.ensures)
+    part_told (λ (x : List ℕ). is_integer x ≡ true) s.a s.e s.text.now (omega arith) c.is_integer.result (tells_test _ _ c.is_integer.ensures)

@@ -8,18 +8,15 @@ returns-then-byte-ne101 c = let s = c.args in power_not s.s.now s.at _ c.byte.en
 
 pub returns-in-43 : goal.returns-in-43
 returns-in-43 c =
-    let o = c.before.before.before in
-    let s = o.before.before.before.args in
-    power_after_sign s.s.now s.at _ o.before.byte.ensures.0 o.if1.false _ c.byte-2.ensures.0 c.number.result (inl c.in-43.is) c.number.ensures
+    let s = c.args in
+    power_after_sign s.s.now s.at _ c.byte.ensures.0 c.if-byte-ne101.false _ c.byte-2.ensures.0 c.number.result (inl c.in-43.is) c.number.ensures
 
 pub returns-in-45 : goal.returns-in-45
 returns-in-45 c =
-    let o = c.before.before.before in
-    let s = o.before.before.before.args in
-    power_after_sign s.s.now s.at _ o.before.byte.ensures.0 o.if1.false _ c.byte-2.ensures.0 c.number-in-45.result (inr c.in-45.is) c.number-in-45.ensures
+    let s = c.args in
+    power_after_sign s.s.now s.at _ c.byte.ensures.0 c.if-byte-ne101.false _ c.byte-2.ensures.0 c.number-in-45.result (inr c.in-45.is) c.number-in-45.ensures
 
 pub returns-in_default : goal.returns-in_default
 returns-in_default c =
-    let o = c.before.before.before in
-    let s = o.before.before.before.args in
-    power_after s.s.now s.at _ o.before.byte.ensures.0 o.if1.false _ c.byte-2.ensures.0 c.number-in_default.result (⊎_elim c.in_default.in_default-own.rest.0.1 c.in_default.in_default-own.rest.1) c.number-in_default.ensures
+    let s = c.args in
+    power_after s.s.now s.at _ c.byte.ensures.0 c.if-byte-ne101.false _ c.byte-2.ensures.0 c.number-in_default.result (⊎_elim c.in_default.in_default-own.rest.0.1 c.in_default.in_default-own.rest.1) c.number-in_default.ensures

@@ -18,13 +18,11 @@ returns-then-n-eq0 c = search scripts
 
 pub overflow_add-at : goal.overflow_add-at
 overflow_add-at c =
-    let l = c.before.before.before in
-    omega (arith, (behind_step l.before.before.before.args.s.now 0 l.loop.at l.loop.invariant (omega arith) c.character-n.result c.character-n.ensures c.if-n-eq0.false).inside)
+    omega (arith, (behind_step c.args.s.now 0 c.loop-at.at c.loop-at.invariant (omega arith) c.character-n.result c.character-n.ensures c.if-n-eq0.false).inside)
 
 pub ascii-at-requires-in-loop-at : goal.ascii-at-requires-in-loop-at
 ascii-at-requires-in-loop-at c =
-    let l = c.before.before.before in
-    (behind_step l.before.before.before.args.s.now 0 l.loop.at l.loop.invariant (omega arith) c.character-n.result c.character-n.ensures c.if-n-eq0.false).inside
+    (behind_step c.args.s.now 0 c.loop-at.at c.loop-at.invariant (omega arith) c.character-n.result c.character-n.ensures c.if-n-eq0.false).inside
 
 pub loop-at-smaller : goal.loop-at-smaller
 loop-at-smaller c = search scripts
