@@ -44,11 +44,13 @@ chosen_some h g zero c (k ∷ ks) = by (nat_le (suc c) (h + h)) (chosen_some h g
     by false x = some_empty (k ∷ ks)
 
 pub some_in : {q a : ℕ} {s : List ℕ} {xs ys : List Named} → Some xs ys → In q a s xs → In q a s ys
+some_in {q = q} {a = a} {s = s} some_none i = elim i [ ]
 some_in (some_take x) in_here = in_here
 some_in (some_take x) (in_later i) = in_later (some_in x i)
 some_in (some_pass x) i = in_later (some_in x i)
 
 pub some_twice : {p : ℕ} {xs ys : List Named} → Some xs ys → Twice p xs → Twice p ys
+some_twice {p = p} some_none t = elim t [ ]
 some_twice (some_take x) (twice_here i) = twice_here (some_in x i)
 some_twice (some_take x) (twice_later t) = twice_later (some_twice x t)
 some_twice (some_pass x) t = twice_later (some_twice x t)

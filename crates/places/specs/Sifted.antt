@@ -148,16 +148,19 @@ module _ (S : List ℕ) (q : ℕ) (s : List ℕ) (p : passing S q s ≡ true) wh
 
   in_double : (zs : List Mark) (ks : List Named) {a : ℕ} → Has q h zs → In q a s ks → Double q h (sown S zs ks)
   unfolding sown
+  in_double zs [] {a = a} x x3 = elim x3 [ ]
   in_double zs (_ ∷ ks) x in_here = sown_double _ ks (rw p (double_here x))
   in_double zs (named r a t ∷ ks) x (in_later i) = in_double _ ks (has_kept (passing S r t) _ zs x) i
 
   pub both_double : (zs : List Mark) (ks : List Named) → Both q s ks → Double q h (sown S zs ks)
   unfolding sown
+  both_double zs [] x' = elim x' [ ]
   both_double zs (_ ∷ ks) (both_here i) = in_double _ ks (rw p has_here) i
   both_double zs (named r a t ∷ ks) (both_later x) = both_double _ ks x
 
   in_sift : (ks : List Named) {a : ℕ} → In q a s ks → In q a s (sift S ks)
   unfolding sift
+  in_sift [] {a = a} x' = elim x' [ ]
   in_sift (_ ∷ ks) in_here = rw p in_here
   in_sift (named r b t ∷ ks) {a} (in_later i) = by (passing S r t) (in_sift ks i)
     where
@@ -171,6 +174,7 @@ pub record Claims (S : List ℕ) (ks : List Named) : Type 0 where
 
 pub twice_sifted : (S : List ℕ) (ks : List Named) {p : ℕ} → Claims S ks → Twice p ks → Twice p (sift S ks)
 unfolding sift
+twice_sifted S [] {p = p} c x'' = elim x'' [ ]
 twice_sifted S (_ ∷ ks) c (twice_here {q = q} {s = s} i) =
     let v = c.claim q s (both_here i) in
     rw v (twice_here (in_sift S q s v ks i))

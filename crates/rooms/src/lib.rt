@@ -1,5 +1,7 @@
 // The reading cursor, and the stores into the rooms lent. A store past a room's end changes nothing, so that the same readers check a document, with empty
 // rooms, and fill the rooms.
+#![tactic(auto)]
+
 ghost use Rattle.std.specs.Prelude.{◌≡◌, ℕ, ◌+◌, ◌*◌, ◌≤◌, ◌<◌, max, min, length, set, take, drop};
 ghost use Rattle.std.proofs.lemmas.List.Edits.{sets};
 ghost use Rattle.std.proofs.Math.Seq.{slice};

@@ -1,5 +1,4 @@
 -- SOME BYTES STAND at a place of others (`At`), one run behind another. Assumes nothing.
-use denote.Slice.{shr_slice_at}
 use Rattle.std.specs.Prelude.{◌≡◌, List, ◌++◌, ℕ, ◌+◌, ◌≤◌, ◌<◌, length, get_or, take, drop}
 use Rattle.std.proofs.Common.{sym, ap, subst, ◌∙◌, append_assoc, arith, take-append-drop, length-append, length-drop, drop_at, drop-drop, get_or-drop, length-take-le}
 use Rattle.std.proofs.Math.ListN.{get_or-append}
@@ -49,8 +48,8 @@ module _ {stored : List ℕ} where
         is = ap (drop a) (sym (take-append-drop e stored)) ∙ drop-append-le a (take e stored) (drop e stored) z;
       }
 
-  pub shr_slice_at : {a e : ℕ} (s : List ℕ) → At stored a s → e ≡ a + length s → e ≤ length stored → slice a e stored ≡ s
-  shr_slice_at {a} {e} s x h l =
+  pub at_slice : {a e : ℕ} (s : List ℕ) → At stored a s → e ≡ a + length s → e ≤ length stored → slice a e stored ≡ s
+  at_slice {a} {e} s x h l =
       let y = slice_at a e (omega arith) l in
       let n : length (slice a e stored) ≡ length s = omega (arith, length-slice a e stored l) in
       let z : slice a e stored ++ y.behind ≡ s ++ x.behind = sym y.is ∙ x.is in

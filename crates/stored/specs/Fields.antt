@@ -76,7 +76,7 @@ module _ (stored : List ℕ) where
   unfolding content placed
   children none x m = elim m [ ]
   children {at} (more t ts) x among_first = record { tree = t; at = at; around = around_left (form t) (forms ts) x; is = refl }
-  children {at} (more t ts) x (among_later m) = children ts (around_right (form t) (forms ts) x) m
+  children {at} (more t ts) x (among_later m) = children {at = λ i. at (length (form t) + i)} ts (around_right (form t) (forms ts) x) m
 
   of_child : {at : ℕ → ℕ} {u : Tree} (t : Tree) → Around at (form t) → Child u (placed at t) → FieldAt u
   unfolding content placed

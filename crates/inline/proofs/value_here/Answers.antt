@@ -28,7 +28,7 @@ pub shape_of-keys-in-Ok : goal.shape_of-keys-in-Ok
 shape_of-keys-in-Ok c = search lining
 
 pub returns-in-Ok : goal.returns-in-Ok
-returns-in-Ok c = (search lining, search noting_line)
+returns-in-Ok c = record { reaches = search lining; notes = search noting_line }
 
 pub shape_of-rows-in-No : goal.shape_of-rows-in-No
 shape_of-rows-in-No c = search lining
@@ -40,7 +40,7 @@ pub shape_of-keys-in-No : goal.shape_of-keys-in-No
 shape_of-keys-in-No c = search lining
 
 pub returns-in-No : goal.returns-in-No
-returns-in-No c = (search lining, search noting_line)
+returns-in-No c = record { reaches = search lining; notes = search noting_line }
 
 pub plain-requires : goal.plain-requires
 plain-requires c = search lining
@@ -55,4 +55,4 @@ pub shape_of-text : goal.shape_of-text
 shape_of-text c = search lining
 
 pub returns : goal.returns
-returns c = (rw c.anew.ensures (search lining), search noting_line)
+returns c = record { reaches = rw c.anew.ensures (search lining); notes = search noting_line }
