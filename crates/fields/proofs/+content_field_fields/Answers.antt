@@ -11,7 +11,7 @@ use Rattle.fields.proofs.fields.Reads as fields
 use Rattle.fields.proofs.+content_field_fields.Goals as goal
 
 pub content-word-kind-requires : goal.content-word-kind-requires
-content-word-kind-requires t c = content_kind _ _ c.requires.1
+content-word-kind-requires t c = content_kind _ _ c.requires
 
 pub content-overflow_add-r : goal.content-overflow_add-r
 content-overflow_add-r t c = search (contents, rules)
@@ -21,9 +21,9 @@ content-word-requires t c = search (contents, rules)
 
 pub content-fields-requires : goal.content-fields-requires
 content-fields-requires t c =
-    let h = c.requires.1 in
+    let h = c.requires in
     let n = next_word _ _ h.here c.word.ensures in
-    (omega (arith, c.requires.0, size_some h.tree), array_fields _ _ h c.word-kind.ensures c.word.ensures c.if-kind-eq8.true)
+    (omega (arith, c.decreases, size_some h.tree), array_fields _ _ h c.word-kind.ensures c.word.ensures c.if-kind-eq8.true)
 
 pub content-shape_of-out-then-kind-eq8 : goal.content-shape_of-out-then-kind-eq8
 content-shape_of-out-then-kind-eq8 t c = search (contents, rules)
@@ -39,9 +39,9 @@ content-word-requires-then-kind-eq9 t c = search (contents, rules)
 
 pub content-fields-requires-then-kind-eq9 : goal.content-fields-requires-then-kind-eq9
 content-fields-requires-then-kind-eq9 t c =
-    let h = c.requires.1 in
+    let h = c.requires in
     let n = next_word _ _ h.here c.word-then-kind-eq9.ensures in
-    (omega (arith, c.requires.0, size_some h.tree), object_fields _ _ h c.word-kind.ensures c.word-then-kind-eq9.ensures c.if-kind-eq9.true)
+    (omega (arith, c.decreases, size_some h.tree), object_fields _ _ h c.word-kind.ensures c.word-then-kind-eq9.ensures c.if-kind-eq9.true)
 
 pub content-shape_of-out-then-kind-eq9 : goal.content-shape_of-out-then-kind-eq9
 content-shape_of-out-then-kind-eq9 t c = search (contents, rules)
@@ -68,7 +68,7 @@ pub field-word-requires : goal.field-word-requires
 field-word-requires t c = search (fielding, rules)
 
 pub field-closed-requires : goal.field-closed-requires
-field-closed-requires t c = field_closes _ _ c.requires.1 c.content-y.ensures c.word.ensures refl
+field-closed-requires t c = field_closes _ _ c.requires c.content-y.ensures c.word.ensures refl
 
 pub field-shape_of-out : goal.field-shape_of-out
 field-shape_of-out t c = search (fielding, rules)
@@ -80,21 +80,21 @@ pub fields-loop-at-init : goal.fields-loop-at-init
 fields-loop-at-init t c = (λ h. left_start _ _ h, refl, omega arith)
 
 pub fields-field-y-requires : goal.fields-field-y-requires
-fields-field-y-requires t c = let h = c.requires.1 in let l = c.loop-at.invariant in let a = turn_ahead _ _ h.fits (l.0 h) c.loop-at-test.true refl in (omega (arith, c.requires.0, a.0, a.1, l.2), turn_field _ _ h.fits (l.0 h) c.loop-at-test.true l.1)
+fields-field-y-requires t c = let h = c.requires in let l = c.loop-at.invariant in let a = turn_ahead _ _ h.fits (l.0 h) c.loop-at-test.true refl in (omega (arith, c.decreases, a.0, a.1, l.2), turn_field _ _ h.fits (l.0 h) c.loop-at-test.true l.1)
 
 pub fields-word-at-requires : goal.fields-word-at-requires
-fields-word-at-requires t c = let h = c.requires.1 in turn_word _ _ h.fits (c.loop-at.invariant.0 h) c.loop-at-test.true 6 (omega arith)
+fields-word-at-requires t c = let h = c.requires in turn_word _ _ h.fits (c.loop-at.invariant.0 h) c.loop-at-test.true 6 (omega arith)
 
 pub fields-loop-at-smaller : goal.fields-loop-at-smaller
 fields-loop-at-smaller t c =
-    let h = c.requires.1 in
+    let h = c.requires in
     let a = turn_ahead _ _ h.fits (c.loop-at.invariant.0 h) c.loop-at-test.true c.word-at.ensures in
     omega (arith, a.0, a.1)
 
 pub fields-loop-at-preserved : goal.fields-loop-at-preserved
 fields-loop-at-preserved t c =
     let l = c.loop-at.invariant in
-    let h = c.requires.1 in
+    let h = c.requires in
     let a = turn_ahead _ _ h.fits (l.0 h) c.loop-at-test.true c.word-at.ensures in
     (λ h. turn_again _ _ h.fits (l.0 h) c.loop-at-test.true l.1 c.field-y.ensures c.word-at.ensures, search rules, omega (arith, a.0, l.2))
 

@@ -21,10 +21,9 @@ content_length-word-requires t c = search (measuring, rules)
 
 pub content_length-fields_length-requires : goal.content_length-fields_length-requires
 content_length-fields_length-requires t c =
-    let start = c.before.before.before.before in
-    let h = start.requires.1 in
+    let h = c.requires in
     let n = next_word _ _ h.here c.word.ensures in
-    (omega (arith, start.requires.0, size_some h.tree), measured_array _ h c.word-kind.ensures c.word.ensures c.if-kind-eq8.true)
+    (omega (arith, c.decreases, size_some h.tree), measured_array _ h c.word-kind.ensures c.word.ensures c.if-kind-eq8.true)
 
 pub content_length-returns-then-kind-eq8 : goal.content_length-returns-then-kind-eq8
 content_length-returns-then-kind-eq8 t c = λ h. search (measuring, rules)
@@ -37,10 +36,9 @@ content_length-word-requires-then-kind-eq9 t c = search (measuring, rules)
 
 pub content_length-fields_length-requires-then-kind-eq9 : goal.content_length-fields_length-requires-then-kind-eq9
 content_length-fields_length-requires-then-kind-eq9 t c =
-    let start = c.before.before.before.before.before in
-    let h = start.requires.1 in
+    let h = c.requires in
     let n = next_word _ _ h.here c.word-then-kind-eq9.ensures in
-    (omega (arith, start.requires.0, size_some h.tree), measured_object _ h c.word-kind.ensures c.word-then-kind-eq9.ensures c.if-kind-eq9.true)
+    (omega (arith, c.decreases, size_some h.tree), measured_object _ h c.word-kind.ensures c.word-then-kind-eq9.ensures c.if-kind-eq9.true)
 
 pub content_length-returns-then-kind-eq9 : goal.content_length-returns-then-kind-eq9
 content_length-returns-then-kind-eq9 t c = λ h. search (measuring, rules)
@@ -65,7 +63,7 @@ field_length-heads-requires t c = search (measuring, rules)
 
 pub field_length-overflow_add-result : goal.field_length-overflow_add-result
 field_length-overflow_add-result t c =
-    let few = measured_few _ c.requires.1 c.content_length-n.ensures in
+    let few = measured_few _ c.requires c.content_length-n.ensures in
     search rules
 
 pub field_length-returns : goal.field_length-returns
@@ -76,32 +74,31 @@ fields_length-loop-row-init t c = (λ h. counted_start _ h, omega arith)
 
 pub fields_length-field_length-n-requires : goal.fields_length-field_length-n-requires
 fields_length-field_length-n-requires t c =
-    let start = c.before.before.before in
-    let h = start.requires.1 in
+    let h = c.requires in
     let l = c.loop-row.invariant in
     let a = counted_ahead _ h.most (l.0 h) c.loop-row-test.true refl in
-    (omega (arith, start.requires.0, a.0, a.1, l.1), counted_field _ h.most (l.0 h) c.loop-row-test.true)
+    (omega (arith, c.decreases, a.0, a.1, l.1), counted_field _ h.most (l.0 h) c.loop-row-test.true)
 
 pub fields_length-overflow_add-n : goal.fields_length-overflow_add-n
 fields_length-overflow_add-n t c =
-    let h = c.requires.1 in
+    let h = c.requires in
     let few = counted_more _ h.most (c.loop-row.invariant.0 h) c.loop-row-test.true c.field_length-n.ensures in
     search rules
 
 pub fields_length-word-row-requires : goal.fields_length-word-row-requires
 fields_length-word-row-requires t c =
-    let h = c.requires.1 in
+    let h = c.requires in
     counted_word _ h.most (c.loop-row.invariant.0 h) c.loop-row-test.true 6 (omega arith)
 
 pub fields_length-loop-row-smaller : goal.fields_length-loop-row-smaller
 fields_length-loop-row-smaller t c =
-    let h = c.requires.1 in
+    let h = c.requires in
     let a = counted_ahead _ h.most (c.loop-row.invariant.0 h) c.loop-row-test.true c.word-row.ensures in
     omega (arith, a.0, a.1)
 
 pub fields_length-loop-row-preserved : goal.fields_length-loop-row-preserved
 fields_length-loop-row-preserved t c =
-    let h = c.requires.1 in
+    let h = c.requires in
     let l = c.loop-row.invariant in
     let a = counted_ahead _ h.most (l.0 h) c.loop-row-test.true c.word-row.ensures in
     (λ h. counted_again _ h.most (l.0 h) c.loop-row-test.true c.field_length-n.ensures c.word-row.ensures, omega (arith, a.0, l.1))
