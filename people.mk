@@ -1,5 +1,5 @@
 # What people use: the command, the C example, their installation, and the tests of all. Included by Makefile.
-LIBRARY := target/staticlib/libyay.a
+LIBRARY := build/lib/libyay.a
 MANIFEST := --manifest-path rust/Cargo.toml
 C_FLAGS := -std=c11 -Wall -Wextra -Wpedantic -Werror -Iinclude
 PROFILES := $(wildcard examples/*.yay)
@@ -7,7 +7,7 @@ PREFIX ?= /usr/local
 
 .PHONY: yay install c-example sanitize stack people-test
 
-$(LIBRARY): crates.txt tools/library.sh $(shell find crates -name '*.rt' -o -name '*.antt')
+$(LIBRARY): crates.txt tools/library.sh $(shell find crates -name out -prune -o -name '*.rt' -print -o -name '*.antt' -print)
 	@tools/proving.sh build/library.log tools/library.sh
 
 yay: $(LIBRARY)

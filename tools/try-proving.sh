@@ -5,20 +5,19 @@ set -uo pipefail
 folder=$1
 source tools/expect.sh
 
-talk='echo "fn strings::x: proved"; echo "rt: exact proved (7 s)"; echo "rt: strings proved (unchanged since it was last proved)"'
-made='echo "rt: target/staticlib/libyay.a has the functions of yay that are marked #[no_mangle]"'
-all=$(($(sed -n 's/^yay://p' crates.txt | wc -w) + 1))
-good=$(tools/proving.sh "$folder/talk.log" bash -c "$talk; $made")
+crate() { echo "echo 'fn $1::x: proved'; echo 'crate $1: modules loaded=0 checked=9'; echo 'logic=$2 functions=1'"; }
+all=$(($(sed -n 's/^yay staticlib://p' crates.txt | wc -w) + 1))
+expect 'the crates of the library' 1 "$((all > 1))"
+good=$(tools/proving.sh "$folder/talk.log" bash -c "echo 'only=0 proved=0'; $(crate exact proved); $(crate yay proved)")
 expect 'its status' 0 $?
 expect 'what is said at once' 1 "$(head -n 1 <<< "$good" | grep -c "its $all crates are proved first")"
-expect 'a line for each crate' "  1 of $all: exact proved (7 s)
-  2 of $all: strings proved (unchanged since it was last proved)
-  3 of $all: yay proved, and made into target/staticlib/libyay.a" "$(tail -n +3 <<< "$good")"
-expect 'the whole log' 4 "$(wc -l < "$folder/talk.log")"
-bad=$(tools/proving.sh "$folder/talk.log" bash -c "$talk; echo 'rt: yay NOT PROVED (exit 1, 2 s)'; echo why; exit 3")
+expect 'a line for each crate' '  1: exact proved
+  2: yay proved' "$(tail -n +3 <<< "$good")"
+expect 'the whole log' 7 "$(wc -l < "$folder/talk.log")"
+bad=$(tools/proving.sh "$folder/talk.log" bash -c "$(crate exact proved); $(crate strings not-proved); echo why; exit 3")
 expect 'the status of a failure' 3 $?
-expect 'what is said of it' "  3 of $all: yay NOT PROVED (exit 1, 2 s)
-It failed (exit status 3). The log ends:" "$(sed -n '5,6p' <<< "$bad")"
+expect 'what is said of it' '  2: strings NOT PROVED
+It failed (exit status 3). The log ends:' "$(sed -n '4,5p' <<< "$bad")"
 expect 'the end of the log' why "$(tail -n 1 <<< "$bad")"
 
 # The crate is not built without the library, and says how to make it.

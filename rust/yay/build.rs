@@ -5,7 +5,7 @@ use std::path::Path;
 fn main() {
     println!("cargo:rerun-if-env-changed=YAY_LIB_DIR");
     let here = std::env::var("CARGO_MANIFEST_DIR").expect("cargo sets it");
-    let folder = std::env::var("YAY_LIB_DIR").unwrap_or(format!("{here}/../../target/staticlib"));
+    let folder = std::env::var("YAY_LIB_DIR").unwrap_or(format!("{here}/../../build/lib"));
     println!("cargo:rerun-if-changed={folder}/libyay.a");
     if !Path::new(&folder).join("libyay.a").is_file() {
         eprintln!("the proved library is missing: there is no {folder}/libyay.a.");

@@ -1,50 +1,56 @@
 // Finding with every cut of the table, with other counts of rows, and with every cut of the room.
 use super::show::{find, number, say};
 use super::table::{MOST, ROWS};
+use std::io;
 
-pub fn all(t: &[u32; 99]) {
-    tables(t);
-    counts(t);
-    count(t, MOST, 0);
-    count(t, MOST, 12);
-    count(t, MOST, 18446744073709551614);
-    rooms(t, b"a1bc22-3aba");
+pub fn all(rt: &impl Print, t: &[u32; 99]) -> io::Result<()> {
+    tables(rt, t)?;
+    counts(rt, t)?;
+    count(rt, t, MOST, 0)?;
+    count(rt, t, MOST, 12)?;
+    count(rt, t, MOST, 18446744073709551614)?;
+    rooms(rt, t, b"a1bc22-3aba")
 }
 
-fn tables(t: &[u32]) {
+fn tables(rt: &impl Print, t: &[u32]) -> io::Result<()> {
     for n in 0..100 {
-        words(t, n);
+        words(rt, t, n)?;
     }
+    Ok(())
 }
 
-fn words(t: &[u32], n: usize) {
-    say(b"words ");
-    number(n);
+fn words(rt: &impl Print, t: &[u32], n: usize) -> io::Result<()> {
+    say(rt, b"words ")?;
+    number(rt, n)?;
     if n <= t.len() {
-        find(&t[0..n], ROWS, b"a1bc22-3aba", 0, b"ab");
+        find(rt, &t[0..n], ROWS, b"a1bc22-3aba", 0, b"ab")?;
     }
+    Ok(())
 }
 
-fn counts(t: &[u32]) {
+fn counts(rt: &impl Print, t: &[u32]) -> io::Result<()> {
     for rows in 0..13 {
-        count(t, rows, 0);
+        count(rt, t, rows, 0)?;
     }
+    Ok(())
 }
 
-fn count(t: &[u32], rows: usize, object: usize) {
-    find(t, rows, b"a1bc22-3aba", object, b"ab");
+fn count(rt: &impl Print, t: &[u32], rows: usize, object: usize) -> io::Result<()> {
+    find(rt, t, rows, b"a1bc22-3aba", object, b"ab")
 }
 
-fn rooms(t: &[u32], room: &[u8]) {
+fn rooms(rt: &impl Print, t: &[u32], room: &[u8]) -> io::Result<()> {
     for n in 0..12 {
-        part(t, room, n);
+        part(rt, t, room, n)?;
     }
+    Ok(())
 }
 
-fn part(t: &[u32], room: &[u8], n: usize) {
-    say(b"room ");
-    number(n);
+fn part(rt: &impl Print, t: &[u32], room: &[u8], n: usize) -> io::Result<()> {
+    say(rt, b"room ")?;
+    number(rt, n)?;
     if n <= room.len() {
-        find(t, ROWS, &room[0..n], 0, b"ab");
+        find(rt, t, ROWS, &room[0..n], 0, b"ab")?;
     }
+    Ok(())
 }

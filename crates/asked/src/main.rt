@@ -9,11 +9,13 @@ mod reading;
 mod show;
 mod table;
 
-fn main() {
+use std::io;
+
+fn main(rt: HostRuntime) -> io::Result<()> {
     let t = table::good();
-    reading::all(&t);
-    finding::all(&t);
-    cutting::all(&t);
-    damaging::all(&t);
-    comparing::all();
+    reading::all(&rt, &t)?;
+    finding::all(&rt, &t)?;
+    cutting::all(&rt, &t)?;
+    damaging::all(&rt, &t)?;
+    comparing::all(&rt)
 }

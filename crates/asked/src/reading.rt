@@ -1,84 +1,88 @@
 // A row's text, of rows in and out of range, of parts of the room and the table, and of damaged rows.
 use super::show;
 use super::table::{MOST, ROWS, text, text_with};
+use std::io;
 
-pub fn all(t: &[u32; 99]) {
-    every_row(t);
-    text(t, MOST);
-    counts(t);
-    rooms(t, b"a1bc22-3aba");
-    tables(t);
-    kinds(t);
-    spans(t);
-    ends(t);
+pub fn all(rt: &impl Print, t: &[u32; 99]) -> io::Result<()> {
+    every_row(rt, t)?;
+    text(rt, t, MOST)?;
+    counts(rt, t)?;
+    rooms(rt, t, b"a1bc22-3aba")?;
+    tables(rt, t)?;
+    kinds(rt, t)?;
+    spans(rt, t)?;
+    ends(rt, t)
 }
 
-fn every_row(t: &[u32; 99]) {
+fn every_row(rt: &impl Print, t: &[u32; 99]) -> io::Result<()> {
     for row in 0..12 {
-        text(t, row);
+        text(rt, t, row)?;
     }
+    Ok(())
 }
 
-fn count(t: &[u32; 99], rows: usize, row: usize) {
-    show::text(t, rows, b"a1bc22-3aba", row);
+fn count(rt: &impl Print, t: &[u32; 99], rows: usize, row: usize) -> io::Result<()> {
+    show::text(rt, t, rows, b"a1bc22-3aba", row)
 }
 
-fn counts(t: &[u32; 99]) {
-    count(t, 0, 0);
-    count(t, 5, 4);
-    count(t, 5, 5);
-    count(t, 6, 5);
-    count(t, 100, 9);
-    count(t, 100, 11);
+fn counts(rt: &impl Print, t: &[u32; 99]) -> io::Result<()> {
+    count(rt, t, 0, 0)?;
+    count(rt, t, 5, 4)?;
+    count(rt, t, 5, 5)?;
+    count(rt, t, 6, 5)?;
+    count(rt, t, 100, 9)?;
+    count(rt, t, 100, 11)?;
     // nine times the row after this one wraps
-    count(t, MOST, 2049638230412172401);
-    count(t, MOST, 18446744073709551614);
+    count(rt, t, MOST, 2049638230412172401)?;
+    count(rt, t, MOST, 18446744073709551614)
 }
 
-fn rooms(t: &[u32; 99], room: &[u8]) {
+fn rooms(rt: &impl Print, t: &[u32; 99], room: &[u8]) -> io::Result<()> {
     if 7 <= room.len() {
-        show::text(t, ROWS, &room[0..7], 5);
-        show::text(t, ROWS, &room[0..7], 6);
-        show::text(t, ROWS, &room[0..0], 1);
+        show::text(rt, t, ROWS, &room[0..7], 5)?;
+        show::text(rt, t, ROWS, &room[0..7], 6)?;
+        show::text(rt, t, ROWS, &room[0..0], 1)?;
     }
+    Ok(())
 }
 
-fn tables(t: &[u32]) {
+fn tables(rt: &impl Print, t: &[u32]) -> io::Result<()> {
     if 90 <= t.len() {
-        show::text(&t[0..90], ROWS, b"a1bc22-3aba", 9);
-        show::text(&t[0..89], ROWS, b"a1bc22-3aba", 9);
-        show::text(&t[0..0], ROWS, b"a1bc22-3aba", 0);
+        show::text(rt, &t[0..90], ROWS, b"a1bc22-3aba", 9)?;
+        show::text(rt, &t[0..89], ROWS, b"a1bc22-3aba", 9)?;
+        show::text(rt, &t[0..0], ROWS, b"a1bc22-3aba", 0)?;
     }
+    Ok(())
 }
 
 // Row 3 is the key `bc`.
-fn kinds(t: &[u32; 99]) {
-    text_with(t, 27, 0, 3);
-    text_with(t, 27, 3, 3);
-    text_with(t, 27, 4, 3);
-    text_with(t, 27, 7, 3);
-    text_with(t, 27, 8, 3);
-    text_with(t, 27, 11, 3);
-    text_with(t, 27, 4294967295, 3);
+fn kinds(rt: &impl Print, t: &[u32; 99]) -> io::Result<()> {
+    text_with(rt, t, 27, 0, 3)?;
+    text_with(rt, t, 27, 3, 3)?;
+    text_with(rt, t, 27, 4, 3)?;
+    text_with(rt, t, 27, 7, 3)?;
+    text_with(rt, t, 27, 8, 3)?;
+    text_with(rt, t, 27, 11, 3)?;
+    text_with(rt, t, 27, 4294967295, 3)
 }
 
-fn spans(t: &[u32; 99]) {
-    text_with(t, 28, 4294967295, 3);
-    text_with(t, 29, 0, 3);
-    text_with(t, 30, 0, 3);
-    text_with(t, 30, 4, 3);
-    text_with(t, 30, 5, 3);
-    text_with(t, 30, 4294967295, 3);
+fn spans(rt: &impl Print, t: &[u32; 99]) -> io::Result<()> {
+    text_with(rt, t, 28, 4294967295, 3)?;
+    text_with(rt, t, 29, 0, 3)?;
+    text_with(rt, t, 30, 0, 3)?;
+    text_with(rt, t, 30, 4, 3)?;
+    text_with(rt, t, 30, 5, 3)?;
+    text_with(rt, t, 30, 4294967295, 3)
 }
 
-fn ends(t: &[u32; 99]) {
-    text_with(t, 31, 2, 3);
-    text_with(t, 31, 1, 3);
-    text_with(t, 31, 11, 3);
-    text_with(t, 31, 12, 3);
-    text_with(t, 31, 4294967295, 3);
-    text_with(t, 32, 4294967295, 3);
-    text_with(t, 33, 4294967295, 3);
-    text_with(t, 34, 4294967295, 3);
-    text_with(t, 35, 4294967295, 3);
+fn ends(rt: &impl Print, t: &[u32; 99]) -> io::Result<()> {
+    text_with(rt, t, 31, 2, 3)?;
+    text_with(rt, t, 31, 1, 3)?;
+    text_with(rt, t, 31, 11, 3)?;
+    text_with(rt, t, 31, 12, 3)?;
+    text_with(rt, t, 31, 4294967295, 3)?;
+    text_with(rt, t, 32, 4294967295, 3)?;
+    text_with(rt, t, 33, 4294967295, 3)?;
+    text_with(rt, t, 34, 4294967295, 3)?;
+    text_with(rt, t, 35, 4294967295, 3)
 }

@@ -2,67 +2,79 @@
 use integers::Compared;
 use language::Row;
 use questions::Found;
+use std::io;
 
-pub fn say(word: &[u8]) {
-    io::write_all(1, word);
+pub fn say(rt: &impl Print, word: &[u8]) -> io::Result<()> {
+    rt.write_all(word)
 }
 
-pub fn number(n: usize) {
-    io::print_decimal(1, n as u64);
-    say(b" ");
+pub fn number(rt: &impl Print, n: usize) -> io::Result<()> {
+    print!(rt; "{n} ")
 }
 
 // A number of document 01 and the row or the place beside it.
-fn reply(n: usize, value: usize) {
-    say(b"-> ");
-    number(n);
-    io::print_decimal(1, value as u64);
-    say(b"\n");
+fn reply(rt: &impl Print, n: usize, value: usize) -> io::Result<()> {
+    say(rt, b"-> ")?;
+    number(rt, n)?;
+    println!(rt; "{value}")
 }
 
-pub fn text(table: &[u32], rows: usize, room: &[u8], row: usize) {
-    say(b"text ");
-    number(rows);
-    number(row);
-    say(b"-> ");
+pub fn text(
+    rt: &impl Print,
+    table: &[u32],
+    rows: usize,
+    room: &[u8],
+    row: usize,
+) -> io::Result<()> {
+    say(rt, b"text ")?;
+    number(rt, rows)?;
+    number(rt, row)?;
+    say(rt, b"-> ")?;
     let n = questions::text_number(table, rows, room, Row(row));
-    io::print_decimal(1, n as u64);
-    say(b" '");
-    say(questions::text(table, rows, room, Row(row)));
-    say(b"'\n");
+    print!(rt; "{n}")?;
+    say(rt, b" '")?;
+    say(rt, questions::text(table, rows, room, Row(row)))?;
+    say(rt, b"'\n")
 }
 
-pub fn find(table: &[u32], rows: usize, room: &[u8], object: usize, key: &[u8]) {
-    say(b"find ");
-    number(rows);
-    number(object);
-    say(b"'");
-    say(key);
-    say(b"' ");
+pub fn find(
+    rt: &impl Print,
+    table: &[u32],
+    rows: usize,
+    room: &[u8],
+    object: usize,
+    key: &[u8],
+) -> io::Result<()> {
+    say(rt, b"find ")?;
+    number(rt, rows)?;
+    number(rt, object)?;
+    say(rt, b"'")?;
+    say(rt, key)?;
+    say(rt, b"' ")?;
     match questions::find(table, rows, room, Row(object), key) {
         Found::At(row) => {
             let r = row.0;
-            reply(0, r);
+            reply(rt, 0, r)
         }
-        Found::Missing => reply(10, 0),
-        Found::BadRow => reply(9, 0),
+        Found::Missing => reply(rt, 10, 0),
+        Found::BadRow => reply(rt, 9, 0),
     }
 }
 
-pub fn verdict(c: Compared) {
+pub fn verdict(rt: &impl Print, c: Compared) -> io::Result<()> {
     match c {
-        Compared::Less => say(b"-> 0 -1\n"),
-        Compared::Equal => say(b"-> 0 0\n"),
-        Compared::Greater => say(b"-> 0 1\n"),
-        Compared::NotInt => say(b"-> 11 0\n"),
+        Compared::Less => say(rt, b"-> 0 -1\n"),
+        Compared::Equal => say(rt, b"-> 0 0\n"),
+        Compared::Greater => say(rt, b"-> 0 1\n"),
+        Compared::NotInt => say(rt, b"-> 11 0\n"),
     }
 }
 
-pub fn compare(left: &[u8], right: &[u8]) {
-    say(b"compare '");
-    say(left);
-    say(b"' '");
-    say(right);
-    say(b"' ");
-    verdict(integers::compare(left, right));
+pub fn compare(rt: &impl Print, left: &[u8], right: &[u8]) -> io::Result<()> {
+    say(rt, b"compare '")?;
+    say(rt, left)?;
+    say(rt, b"' '")?;
+    say(rt, right)?;
+    say(rt, b"' ")?;
+    verdict(rt, integers::compare(left, right))
 }

@@ -2,6 +2,7 @@
 use super::show;
 use super::show::{number, say};
 use language::WIDTH;
+use std::io;
 
 pub const ROWS: usize = 11;
 
@@ -39,40 +40,52 @@ pub fn good() -> [u32; 99] {
 }
 
 // With its own rows and room.
-pub fn text(t: &[u32; 99], row: usize) {
-    show::text(t, ROWS, b"a1bc22-3aba", row);
+pub fn text(rt: &impl Print, t: &[u32; 99], row: usize) -> io::Result<()> {
+    show::text(rt, t, ROWS, b"a1bc22-3aba", row)
 }
 
-pub fn find(t: &[u32; 99], object: usize, key: &[u8]) {
-    show::find(t, ROWS, b"a1bc22-3aba", object, key);
+pub fn find(rt: &impl Print, t: &[u32; 99], object: usize, key: &[u8]) -> io::Result<()> {
+    show::find(rt, t, ROWS, b"a1bc22-3aba", object, key)
 }
 
 // With the word at `at` changed.
-pub fn text_with(t: &[u32; 99], at: usize, value: u32, row: usize) {
+pub fn text_with(
+    rt: &impl Print,
+    t: &[u32; 99],
+    at: usize,
+    value: u32,
+    row: usize,
+) -> io::Result<()> {
     let mut d = *t;
     if at < 99 {
         d[at] = value;
     }
-    word(at, value);
-    text(&d, row);
+    word(rt, at, value)?;
+    text(rt, &d, row)
 }
 
-pub fn find_with(t: &[u32; 99], at: usize, value: u32, key: &[u8]) {
+pub fn find_with(
+    rt: &impl Print,
+    t: &[u32; 99],
+    at: usize,
+    value: u32,
+    key: &[u8],
+) -> io::Result<()> {
     let mut d = *t;
     if at < 99 {
         d[at] = value;
     }
-    word(at, value);
-    find(&d, 0, key);
+    word(rt, at, value)?;
+    find(rt, &d, 0, key)
 }
 
 fn wide(x: u32) -> usize {
     x as usize
 }
 
-fn word(at: usize, value: u32) {
-    say(b"word ");
-    number(at);
-    say(b"is ");
-    number(wide(value));
+fn word(rt: &impl Print, at: usize, value: u32) -> io::Result<()> {
+    say(rt, b"word ")?;
+    number(rt, at)?;
+    say(rt, b"is ")?;
+    number(rt, wide(value))
 }

@@ -1,14 +1,14 @@
 -- THE END OF THE LAST TEXT below a row (`end_below`) tells how many bytes of text a table's rows have (`holds_end`). Assumes nothing.
 use Rattle.std.specs.Prelude.{◌≡◌, List, [], Bool, true, false, length, get_or, leb}
 use Rattle.std.proofs.Math.Path.{refl, ap}
-use Rattle.std.proofs.Common.{sym, subst, ◌∙◌}
+use Rattle.std.proofs.Common.{sym, ◌∙◌}
 use Prim.Native.Nat.{ℕ, zero, suc, ◌+◌, ◌-◌, ◌*◌, ◌≤◌, ◌<◌}
 use native.Mathlib.Omega.{arith}
 use Rattle.std.proofs.Math.ListN.{length-append}
 use Rattle.notation.specs.Class.{pick}
 use Rattle.exact.specs.Class.{clash}
 use Rattle.language.specs.Kind.{TRUE, has_text}
-use Rattle.language.specs.Tree.{Decoded, Tree, leaf, node, Forest, none, more, width, size, sizes, text_of, texts_of}
+use Rattle.language.specs.Tree.{Decoded, Tree, leaf, node, Forest, more, width, size, sizes, text_of, texts_of}
 use Rattle.language.specs.Sound.{Holds}
 use Rattle.shaped.specs.RowsAt.{RowsAt, ForestAt, leaf_row, node_row, node_forest, first_at, rest_at}
 use Rattle.shaped.specs.Leaves.{part_row}

@@ -1,5 +1,5 @@
 -- FIELDS OF ROWS: what the code of a row's field, of its content and of its children's fields asks, and how it keeps its promise. Assumes nothing.
-use Rattle.std.specs.Prelude.{◌≡◌, true, false, ℕ, suc, ◌+◌, ◌-◌, ◌*◌, ◌/◌, ◌%◌, ◌≤◌, ◌<◌, get_or, set, leb}
+use Rattle.std.specs.Prelude.{◌≡◌, false, ℕ, suc, ◌+◌, ◌-◌, ◌*◌, ◌/◌, ◌≤◌, ◌<◌, get_or, set, leb}
 use Rattle.std.proofs.Math.Path.{refl, sym, ap, subst}
 use Rattle.std.proofs.Common.{ap₂, ◌∙◌, arith, length-append, le-leb}
 use mathlib.Core.List.{List, [], ◌∷◌, ◌++◌, append_assoc, append-nil}
@@ -9,15 +9,14 @@ use Rattle.std.proofs.lemmas.List.Edits.{sets}
 use Rattle.std.proofs.Math.Seq.{slice, length-slice, length-sets}
 use Rattle.std.proofs.lemmas.Bool.{lt-leb}
 use Rattle.language.specs.Kind.{TRUE, KEY}
-use Rattle.language.specs.Tree.{Decoded, Tree, leaf, node, Forest, none, more, width, size, sizes, text_of}
+use Rattle.language.specs.Tree.{Decoded, Tree, leaf, node, Forest, none, more, width, sizes, text_of}
 use Rattle.spans.specs.Formed.{kind_of}
-use Rattle.rooms.specs.Stores.{row_behind}
 use Rattle.shaped.specs.RowsAt.{ForestAt, first_at, rest_at, next_at}
 use Rattle.shaped.specs.Leaves.{word_row, part_row, part_is, part_fits}
 use Rattle.shaped.specs.Shaped.{Scalar, is_null, is_false, is_true, is_an_integer, is_float, is_string, is_bytes, shaped_leaf, shaped_array, shaped_object}
 use Rattle.fields.specs.Puts.{Puts, puts_none, puts_as, puts_then}
-use Rattle.fields.specs.Rows.{Kept, kept_key, kept_value, Kepts, kepts_none, kepts_more, elements_kept, pairs_kept, scalar_low, size_some, sizes_some, At, Along, word_in, kind_word, next_word, node_along}
-use Rattle.stored.specs.Form.{head, widest, tag, cut, content, forms, form}
+use Rattle.fields.specs.Rows.{Kept, kept_key, kept_value, Kepts, kepts_none, kepts_more, elements_kept, pairs_kept, scalar_low, size_some, sizes_some, At, Along, word_in, kind_word, node_along}
+use Rattle.stored.specs.Form.{widest, tag, cut, content, forms, form}
 use Rattle.stored.specs.Parts.{cut_length}
 use Rattle.stored.specs.Lengths.{scalar_content}
 use Rattle.fields.specs.Spread.{Closes, sets_over, slice_sets}

@@ -1,7 +1,7 @@
 -- A CONTENT SPREAD INTO ITS PARTS where it stands: the last part is moved first, behind the heads of those before it (`Spread`), until the first is left (`spread_end`). Assumes nothing.
 use Rattle.std.specs.Prelude.{◌≡◌, refl, ℕ, suc, ◌+◌, ◌-◌, ◌*◌, ◌/◌, ◌%◌, ◌≤◌, ◌<◌, get_or, set, take, drop}
 use Rattle.std.proofs.Math.Path.{sym, ap}
-use Rattle.std.proofs.Common.{ap₂, subst, ◌∙◌, length-append, take-append-drop, get_or-set_other, drop-set-lt, take_all, take-take, take_at, drop_at, drop-drop}
+use Rattle.std.proofs.Common.{ap₂, subst, ◌∙◌, take-append-drop, get_or-set_other, drop-set-lt, take_all, take-take, take_at, drop_at, drop-drop}
 use mathlib.Core.List.{List, [], ◌∷◌, ◌++◌, append_assoc, append-nil}
 use native.Mathlib.Omega.{arith}
 use Rattle.std.proofs.Math.ListN.{length, length-drop}

@@ -1,12 +1,12 @@
 -- WHAT THE WRITER'S PROMISE GIVES: one answer only, a document that is read back as the same tree, spans aside, and the same bytes when it is written again. Assumes what Unique of `promise` does.
-use Rattle.std.specs.Prelude.{◌≡◌, refl, List, ◌++◌, ℕ, ◌*◌, ◌≤◌, ◌<◌, length, take, drop}
+use Rattle.std.specs.Prelude.{◌≡◌, refl, List, ◌++◌, ℕ, ◌*◌, ◌≤◌, length, take, drop}
 use Rattle.std.proofs.Common.{sym, ap, subst, ◌∙◌, arith}
 use Rattle.std.proofs.Math.Seq.{take-append_seam}
-use Rattle.language.specs.Tree.{Tree, width, size, text_of}
-use Rattle.language.specs.Answered.{limit, deepest, BADROW, Reads, Answered, accepted}
+use Rattle.language.specs.Tree.{Tree, width, text_of}
+use Rattle.language.specs.Answered.{limit, deepest, Reads, Answered, accepted}
 use Rattle.language.specs.Lent.{words_in, bytes_in}
 use Rattle.language.specs.Alike.{unspan, Alike}
-use Rattle.language.specs.Sound.{Holds, Sound}
+use Rattle.language.specs.Sound.{Holds}
 use Rattle.language.specs.House.{house}
 use Rattle.language.specs.Written.{Sounded, is_sound, unsound, Written, fits, bad, long, needs}
 use Rattle.promise.specs.Unique.{Known, one_answer}

@@ -42,14 +42,14 @@ module _ (v n : Reader Tree) (doc : List ℕ) (at : ℕ) where
   pub rest_on : 32 ≡ peek doc at → (peek doc (at + 1) ≡ 32 → ⊥) → rest_r v n at (drop at doc) ≡ v (at + 1) (drop (at + 1) doc)
   unfolding rest_r
   rest_on e f =
-      alt_is doc at 32 32 (omega arith) e _ _ refl
+      alt_is doc at 32 32 (omega arith) e (seq_r (byte_r (is (only 32))) λ _. alt_r (is (only 32)) (seq_r (byte_r (is (only 32))) λ _. seq_r comment_r λ _. below_r n) v) (below_r n) refl
       ∙ (ap (λ (o : Out ℕ). bind o (λ _. alt_r (is (only 32)) (seq_r (byte_r (is (only 32))) λ _. seq_r comment_r λ _. below_r n) v)) (byte_is doc at 32 32 (omega arith) e refl)
-      ∙ alt_not doc (at + 1) 32 (peek doc (at + 1)) (omega arith) refl _ _ f)
+      ∙ alt_not doc (at + 1) 32 (peek doc (at + 1)) (omega arith) refl (seq_r (byte_r (is (only 32))) λ _. seq_r comment_r λ _. below_r n) v f)
 
   rest_none : (peek doc at ≡ 32 → ⊥) → rest_r v n at (drop at doc) ≡ bind (ends_r false at (drop at doc)) (λ _. n)
   unfolding rest_r ends_r feed_r
   rest_none f =
-      alt_not doc at 32 (peek doc at) (omega arith) refl _ _ f
+      alt_not doc at 32 (peek doc at) (omega arith) refl (seq_r (byte_r (is (only 32))) λ _. alt_r (is (only 32)) (seq_r (byte_r (is (only 32))) λ _. seq_r comment_r λ _. below_r n) v) (below_r n) f
       ∙ sym (ap (λ (o : Out (List ℕ)). bind (bind o (λ _. byte_r (is (only 10)))) (λ _. n)) (alt_not doc at 32 (peek doc at) (omega arith) refl line_comment_r (ret_r []) f))
 
   behind_comment : {o : Out (List ℕ)} → Firm o → bind o (λ _. below_r n) ≡ bind (bind o (λ _. byte_r (is (only 10)))) (λ _. n)

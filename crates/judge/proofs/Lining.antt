@@ -138,35 +138,35 @@ module _ (doc : List ℕ) (c : Cursor) (p : ℕ) (a : Block) (R R' T T' : List �
 
   pub on_string : (k n : ℕ) → b ≡ 96 → Via (property_string_r n) → Via (on_r k n)
   unfolding on_r
-  on_string k n e x = via_first 96 _ _ (omega arith) e x
+  on_string k n e x = via_first 96 (property_string_r n) (alt_r (is (only 62)) (property_bytes_r n) (line_r (end_r false) k)) (omega arith) e x
 
   pub on_bytes : (k n : ℕ) → b ≡ 62 → Via (property_bytes_r n) → Via (on_r k n)
   unfolding on_r
-  on_bytes k n f x = via_other 96 _ _ (omega arith) (λ e. omega arith) (via_first 62 _ _ (omega arith) f x)
+  on_bytes k n f x = via_other 96 (property_string_r n) (alt_r (is (only 62)) (property_bytes_r n) (line_r (end_r false) k)) (omega arith) (λ e. omega arith) (via_first 62 (property_bytes_r n) (line_r (end_r false) k) (omega arith) f x)
 
   pub on_value : (k n : ℕ) → (b ≡ 96 → ⊥) → (b ≡ 62 → ⊥) → Via (line_r (end_r false) k) → Via (on_r k n)
   unfolding on_r
-  on_value k n e f x = via_other 96 _ _ (omega arith) e (via_other 62 _ _ (omega arith) f x)
+  on_value k n e f x = via_other 96 (property_string_r n) (alt_r (is (only 62)) (property_bytes_r n) (line_r (end_r false) k)) (omega arith) e (via_other 62 (property_bytes_r n) (line_r (end_r false) k) (omega arith) f x)
 
   pub opens_string : (root : Bool) (k n : ℕ) → b ≡ 96 → Via (open_string_r n) → Via (opener_r (end_r root) k n)
   unfolding opener_r
-  opens_string root k n e x = via_first 96 _ _ (omega arith) e x
+  opens_string root k n e x = via_first 96 (open_string_r n) (alt_r (is (only 62)) (open_bytes_r n) (line_r (end_r root) k)) (omega arith) e x
 
   pub opens_bytes : (root : Bool) (k n : ℕ) → b ≡ 62 → Via (open_bytes_r n) → Via (opener_r (end_r root) k n)
   unfolding opener_r
-  opens_bytes root k n f x = via_other 96 _ _ (omega arith) (λ e. omega arith) (via_first 62 _ _ (omega arith) f x)
+  opens_bytes root k n f x = via_other 96 (open_string_r n) (alt_r (is (only 62)) (open_bytes_r n) (line_r (end_r root) k)) (omega arith) (λ e. omega arith) (via_first 62 (open_bytes_r n) (line_r (end_r root) k) (omega arith) f x)
 
   pub opens_value : (root : Bool) (k n : ℕ) → (b ≡ 96 → ⊥) → (b ≡ 62 → ⊥) → Via (line_r (end_r root) k) → Via (opener_r (end_r root) k n)
   unfolding opener_r
-  opens_value root k n e f x = via_other 96 _ _ (omega arith) e (via_other 62 _ _ (omega arith) f x)
+  opens_value root k n e f x = via_other 96 (open_string_r n) (alt_r (is (only 62)) (open_bytes_r n) (line_r (end_r root) k)) (omega arith) e (via_other 62 (open_bytes_r n) (line_r (end_r root) k) (omega arith) f x)
 
   pub nested_string : (n : ℕ) → b ≡ 96 → Via (open_string_r n) → Via (nested_line_r n)
   unfolding nested_line_r
-  nested_string n e x = via_first 96 _ _ (omega arith) e x
+  nested_string n e x = via_first 96 (open_string_r n) (joined_r n) (omega arith) e x
 
   pub nested_joined : (n : ℕ) → (b ≡ 96 → ⊥) → Via (joined_r n) → Via (nested_line_r n)
   unfolding nested_line_r
-  nested_joined n e x = via_other 96 _ _ (omega arith) e x
+  nested_joined n e x = via_other 96 (open_string_r n) (joined_r n) (omega arith) e x
 
 -- ---- no earlier than p
 

@@ -60,6 +60,8 @@ module _ {k : ℕ} (s : List ℕ) (t : Tree) (x : Sane (suc k) t) where
   found_value {v} h = by x.shaped (sane_props x (finds_object h)) h
     where
       by : {t : Tree} → Shaped (suc k) t → Props k (pairs t) → Finds s v t → value_of s (pairs t) ≡ value v
+      by (shaped_leaf y) ps f = elim f [ ]
+      by (shaped_array y) ps f = elim f [ ]
       by (shaped_object y) ps (finds p) = to_value s ps (subst (Property s v) (sym (pairs_forest y)) p)
 
   value_found : {v : Tree} → is_object t ≡ true → value_of s (pairs t) ≡ value v → Finds s v t

@@ -44,10 +44,12 @@ listed b (shaped.pairs_more {s = s} {v = v} x y z) =
     record { list = pair s.bytes (b + 1) v ∷ l.list; pairs = one_pair l.pairs }
 
 holds_property : {b i : ℕ} {s : List ℕ} {v : Tree} {ts : Forest} {fs : List Pair} → Pairs b ts fs → Holds s i v fs → Property s v ts
+holds_property {i = i} {s = s} {v = v} (no_pair {r = r}) x5 = elim x5 [ ]
 holds_property (one_pair x) held = here
 holds_property (one_pair x) (held_later h) = later (holds_property x h)
 
 property_holds : {b : ℕ} {s : List ℕ} {v : Tree} {ts : Forest} {fs : List Pair} → Pairs b ts fs → Property s v ts → (i : ℕ) × Holds s i v fs
+property_holds {s = s} {v = v} (no_pair {r = r}) x5 = elim x5 [ ]
 property_holds (one_pair {r = r} x) here = (r + 1, held)
 property_holds (one_pair x) (later h) = let g = property_holds x h in (g.0, held_later g.1)
 

@@ -1,5 +1,5 @@
 -- THE WALK GIVES a clash exactly if two trees clash, else the one over the other (`overlay_either`). Assumes nothing.
-use Rattle.std.specs.Prelude.{◌≡◌, refl, List, [], ◌∷◌, ◌++◌, Bool, true, false, ℕ, eqb}
+use Rattle.std.specs.Prelude.{◌≡◌, refl, List, ◌∷◌, ◌++◌, Bool, true, false, ℕ, eqb}
 use Rattle.std.proofs.Common.{sym, ap, ap₂, ◌∙◌}
 use Rattle.notation.specs.Class.{pick, and, or}
 use Rattle.language.specs.Kind.{OBJECT}

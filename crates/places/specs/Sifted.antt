@@ -144,19 +144,19 @@ module _ (S : List ℕ) (q : ℕ) (s : List ℕ) (p : passing S q s ≡ true) wh
   sown_double : (zs : List Mark) (ks : List Named) → Double q h zs → Double q h (sown S zs ks)
   unfolding sown
   sown_double zs [] x = x
-  sown_double zs (named r a t ∷ ks) x = sown_double _ ks (double_kept (passing S r t) _ zs x)
+  sown_double zs (named r a t ∷ ks) x = sown_double (pick (passing S r t) (mark r (hash_of (factor_of (slice_index S round + 1)) r t) ∷ zs) zs) ks (double_kept (passing S r t) _ zs x)
 
   in_double : (zs : List Mark) (ks : List Named) {a : ℕ} → Has q h zs → In q a s ks → Double q h (sown S zs ks)
   unfolding sown
   in_double zs [] {a = a} x x3 = elim x3 [ ]
   in_double zs (_ ∷ ks) x in_here = sown_double _ ks (rw p (double_here x))
-  in_double zs (named r a t ∷ ks) x (in_later i) = in_double _ ks (has_kept (passing S r t) _ zs x) i
+  in_double zs (named r a t ∷ ks) x (in_later i) = in_double (pick (passing S r t) (mark r (hash_of (factor_of (slice_index S round + 1)) r t) ∷ zs) zs) ks (has_kept (passing S r t) _ zs x) i
 
   pub both_double : (zs : List Mark) (ks : List Named) → Both q s ks → Double q h (sown S zs ks)
   unfolding sown
   both_double zs [] x' = elim x' [ ]
   both_double zs (_ ∷ ks) (both_here i) = in_double _ ks (rw p has_here) i
-  both_double zs (named r a t ∷ ks) (both_later x) = both_double _ ks x
+  both_double zs (named r a t ∷ ks) (both_later x) = both_double (pick (passing S r t) (mark r (hash_of (factor_of (slice_index S round + 1)) r t) ∷ zs) zs) ks x
 
   in_sift : (ks : List Named) {a : ℕ} → In q a s ks → In q a s (sift S ks)
   unfolding sift

@@ -11,8 +11,7 @@ use Rattle.shaped.specs.Holds.{profile_shaped}
 use Rattle.stored.specs.Form.{head, widest, form, loaded}
 use Rattle.stored.specs.Lengths.{form_plain, form_most}
 use Rattle.stored.specs.Unspanned.{placed_alike}
-use Rattle.stored.specs.Stored.{Stores, stores, needs}
-use Rattle.stored.specs.Loaded.{BADFORM, Kept, Loads, loads, bad_form, rows, bytes}
+use Rattle.stored.specs.Loaded.{BADFORM, Loads, loads, bad_form, rows, bytes}
 use Rattle.stored.specs.Keeps.{kept_shaped, KeptLike, shaped_kept}
 
 -- ---- storing: however many parts there are, the bytes are few enough to be counted

@@ -1,6 +1,6 @@
 -- THE STORED FORM TELLS THE TREE but for spans (`form_tells`): fields one behind another can be taken apart in one way only (`form_apart`). Assumes nothing.
-use Rattle.std.specs.Prelude.{◌≡◌, refl, Bool, true, false, List, [], ◌∷◌, ◌++◌, ℕ, suc, length}
-use Rattle.std.proofs.Common.{sym, ap, subst, ◌∙◌, append-nil, arith}
+use Rattle.std.specs.Prelude.{◌≡◌, refl, true, false, List, [], ◌∷◌, ◌++◌, ℕ, suc, length}
+use Rattle.std.proofs.Common.{sym, ap, ◌∙◌, arith}
 use Rattle.notation.specs.Class.{◌to◌, Class, is}
 use Rattle.language.specs.Kind.{ARRAY, OBJECT, KEY}
 use Rattle.language.specs.Tree.{Decoded, Tree, leaf, node, Forest, none, more}

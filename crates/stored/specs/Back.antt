@@ -1,10 +1,9 @@
 -- WHAT IS LOADED is a sound table (`load_sound`); what was stored is loaded as the same tree, spans aside (`stored_loads`), and what was loaded is stored as the same bytes (`loaded_stores`). Assumes nothing.
-use Rattle.std.specs.Prelude.{◌≡◌, refl, List, ◌++◌, ℕ, ◌*◌, ◌≤◌, ◌<◌, length, take, drop}
+use Rattle.std.specs.Prelude.{◌≡◌, refl, List, ◌++◌, ℕ, ◌*◌, ◌≤◌, length, take, drop}
 use Rattle.std.proofs.Common.{sym, ap, subst, ◌∙◌, arith, length-append}
 use Rattle.std.proofs.Math.Seq.{take-append_seam}
 use Rattle.language.specs.Tree.{Tree, width, unlined, size, text_of, rows_of}
 use Rattle.language.specs.Lent.{lent, words_in, bytes_in}
-use Rattle.language.specs.Answered.{TEXT}
 use Rattle.language.specs.Alike.{Alike}
 use Rattle.language.specs.Sound.{Holds, Sound}
 use Rattle.rooms.specs.Forest.{length_rows}

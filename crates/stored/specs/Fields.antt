@@ -1,13 +1,13 @@
 -- THE BYTES OF A SPAN ARE THE ROW'S FIELD (`span_field`): of a tree that stored bytes hold, each span runs "from a field's first tag to the end of its last byte", and between them stand the field's bytes, one
 -- behind another but for the heads of cuts that fall inside. Assumes nothing.
-use Rattle.std.specs.Prelude.{◌≡◌, List, ◌++◌, ℕ, ◌+◌, ◌-◌, ◌*◌, ◌/◌, ◌<◌, ◌≤◌, length, get_or}
+use Rattle.std.specs.Prelude.{◌≡◌, List, ◌++◌, ℕ, ◌+◌, ◌-◌, ◌*◌, ◌/◌, ◌<◌, length, get_or}
 use Rattle.std.proofs.Math.Path.{refl}
 use Rattle.std.proofs.Common.{sym, ap, subst, ◌∙◌, length-append, get_or-append-add}
 use native.Mathlib.Omega.{arith}
 use Rattle.std.proofs.Math.ListN.{get_or-append}
 use Rattle.language.specs.Tree.{Tree, leaf, node, Forest, none, more, first, after}
 use Rattle.spans.specs.Placed.{Among, among_first, among_later, Child, child, Within, itself, below}
-use Rattle.stored.specs.Form.{head, widest, cut, tag, content, forms, form, inside, placed, placeds, loaded}
+use Rattle.stored.specs.Form.{head, widest, cut, content, forms, form, inside, placed, placeds, loaded}
 use Rattle.stored.specs.Parts.{cut_byte, inside_in, inside_rises}
 use Rattle.stored.specs.Unspanned.{placed_like, form_alike}
 

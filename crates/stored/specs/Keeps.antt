@@ -1,6 +1,6 @@
 -- WHAT STORED BYTES HOLD: one tree, spans aside (`kept_alike`); and any tree as documents have them, without repeated keys, whose form the bytes are, is one that a sound table holds (`shaped_kept`). Assumes nothing.
 use Rattle.std.specs.Prelude.{◌≡◌, refl, List, [], ◌++◌, ℕ, ◌≤◌, length}
-use Rattle.std.proofs.Common.{sym, ap, subst, ◌∙◌}
+use Rattle.std.proofs.Common.{sym, subst, ◌∙◌}
 use Rattle.language.specs.Tree.{Tree, unlined, size, text_of, rows_of, Once}
 use Rattle.language.specs.Answered.{deepest}
 use Rattle.language.specs.Lent.{lent}
@@ -8,7 +8,6 @@ use Rattle.language.specs.Alike.{Alike}
 use Rattle.language.specs.Sound.{Profile}
 use Rattle.language.specs.House.{house}
 use Rattle.shaped.specs.Shaped.{Shaped}
-use Rattle.shaped.specs.Bare.{alike_size, alike_text}
 use Rattle.shaped.specs.Once.{alike_once}
 use Rattle.shaped.specs.Holds.{profile_shaped, stored_holds}
 use Rattle.house.specs.Document.{house_document}

@@ -1,13 +1,13 @@
 -- HOW LONG A STORED FORM IS: at least three bytes for each row, and the text (`form_least`), just so many where one field holds them (`form_plain`), and with all heads of parts no more than twice that (`form_most`). So one of few bytes has few rows and little
 -- text. Assumes nothing.
-use Rattle.std.specs.Prelude.{◌≡◌, refl, List, [], ◌++◌, Bool, true, false, ℕ, suc, ◌+◌, ◌*◌, ◌≤◌, ◌<◌, length}
+use Rattle.std.specs.Prelude.{◌≡◌, refl, List, [], ℕ, suc, ◌+◌, ◌*◌, ◌≤◌, length}
 use Rattle.std.proofs.Common.{sym, ap, ◌∙◌, arith, mul-add, suc-mul, mul-le-mul_right, length-append}
 use Rattle.language.specs.Kind.{KEY, has_text, pick}
-use Rattle.language.specs.Tree.{Decoded, Tree, leaf, node, Forest, none, more, size, sizes, text_of, texts_of}
+use Rattle.language.specs.Tree.{Decoded, Tree, leaf, node, Forest, more, size, sizes, text_of, texts_of}
 use Rattle.language.specs.Answered.{deepest}
 use Rattle.language.specs.Lent.{lent}
 use Rattle.shaped.specs.Shaped.{Scalar, is_null, is_false, is_true, is_an_integer, is_float, is_string, is_bytes, Shaped, shaped_leaf, shaped_array, shaped_object, Elements, elements_none, elements_more, Pairs, pairs_none, pairs_more}
-use Rattle.stored.specs.Form.{head, tag, cut, content, forms, form, widest}
+use Rattle.stored.specs.Form.{head, tag, content, forms, form, widest}
 use Rattle.stored.specs.Parts.{heads, heads_short, cut_length}
 
 -- a scalar's content is its text

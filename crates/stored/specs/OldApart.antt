@@ -1,13 +1,13 @@
 -- FIELDS OF TICKET 4 one behind another can be taken apart in one way only (`form_apart`). Assumes nothing.
-use Rattle.std.specs.Prelude.{◌≡◌, refl, Bool, true, false, List, [], ◌∷◌, ◌++◌, ℕ, suc, ◌+◌, ◌/◌, ◌%◌, length, get_or, take, drop}
-use Rattle.std.proofs.Common.{sym, ap, subst, ◌∙◌, append-nil, arith, length-append, take_at, drop_at}
+use Rattle.std.specs.Prelude.{◌≡◌, refl, true, false, List, [], ◌∷◌, ◌++◌, ℕ, suc, length}
+use Rattle.std.proofs.Common.{sym, ap, ◌∙◌, arith}
 use Rattle.notation.specs.Class.{◌to◌, Class, is}
 use Rattle.language.specs.Kind.{ARRAY, OBJECT, KEY}
 use Rattle.language.specs.Tree.{Decoded, Tree, leaf, node, Forest, none, more}
 use Rattle.language.specs.Alike.{unspan, unspans, Alike}
 use Rattle.exact.specs.Class.{clash}
 use Rattle.shaped.specs.Shaped.{Scalar, is_null, is_false, is_true, is_an_integer, is_float, is_string, is_bytes, Shaped, shaped_leaf, shaped_array, shaped_object, Elements, elements_none, elements_more, Pairs, pairs_none, pairs_more}
-use Rattle.stored.specs.Form.{tagged, head, tag}
+use Rattle.stored.specs.Form.{tag}
 use Rattle.stored.specs.Old.{content, forms, form}
 use Rattle.stored.specs.Parts.{Fields, field_apart}
 use Rattle.stored.specs.OldLengths.{scalar_content}

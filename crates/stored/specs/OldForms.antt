@@ -1,6 +1,6 @@
 -- WHERE NO CONTENT IS OVER 65,535 BYTES the form is that of Ticket 4 (`old_form`), and so are the spans (`old_placed`). Assumes nothing.
-use Rattle.std.specs.Prelude.{◌≡◌, refl, List, [], ◌∷◌, ◌++◌, ℕ, ◌+◌, ◌-◌, ◌*◌, ◌≤◌, ◌<◌, length}
-use Rattle.std.proofs.Common.{sym, ap, ap₂, ◌∙◌, arith, length-append}
+use Rattle.std.specs.Prelude.{◌≡◌, refl, List, ◌++◌, ℕ, ◌+◌, ◌-◌, ◌≤◌, ◌<◌, length}
+use Rattle.std.proofs.Common.{ap, ap₂, ◌∙◌, arith, length-append}
 use Rattle.std.proofs.Math.Decide.{dec_le}
 use Rattle.language.specs.Tree.{Tree, leaf, node, Forest, none, more}
 use Rattle.stored.specs.Form as now

@@ -1,6 +1,6 @@
 -- HOW LONG A FORM OF TICKET 4 IS: three bytes for each row, and the text. Where one field holds it, no content is wide, and it is the form of today (`short_old`, `short_now`). Assumes nothing.
-use Rattle.std.specs.Prelude.{◌≡◌, refl, List, [], ◌++◌, Bool, true, false, ℕ, ◌+◌, ◌*◌, ◌≤◌, ◌<◌, length}
-use Rattle.std.proofs.Common.{sym, ap, ◌∙◌, arith, length-append}
+use Rattle.std.specs.Prelude.{◌≡◌, refl, List, [], ◌++◌, ℕ, ◌+◌, ◌*◌, ◌≤◌, ◌<◌, length}
+use Rattle.std.proofs.Common.{ap, arith, length-append}
 use Rattle.language.specs.Kind.{KEY, has_text, pick}
 use Rattle.language.specs.Tree.{Decoded, Tree, leaf, node, Forest, none, more, size, sizes, text_of, texts_of}
 use Rattle.language.specs.Alike.{unspan, unspans, Alike}

@@ -1,13 +1,12 @@
 -- A CONTENT IN ITS PARTS: one field while it is at most 65,535 bytes (`cut_short`), else a part and the rest (`cut_long`); how long they are (`cut_length`), where each byte stands (`cut_byte`), and that
 -- parts one behind another can be taken apart in one way only (`cut_apart`). Assumes nothing.
-use Rattle.std.specs.Prelude.{◌≡◌, Bool, true, false, List, [], ◌∷◌, ◌++◌, leb, length, get_or, take, drop}
+use Rattle.std.specs.Prelude.{◌≡◌, List, [], ◌∷◌, ◌++◌, length, get_or, take, drop}
 use Rattle.std.proofs.Math.Path.{refl}
-use Rattle.std.proofs.Common.{sym, ap, ap₂, subst, ◌∙◌, append_assoc, arith, length-append, length-take, length-drop, take-append-drop, take_at, drop_at, get_or-append-add, get_or-drop, get_or-take, length-take-le, le-leb}
+use Rattle.std.proofs.Common.{sym, ap, ap₂, ◌∙◌, append_assoc, arith, length-append, length-drop, take-append-drop, take_at, drop_at, get_or-append-add, get_or-drop, get_or-take, length-take-le, le-leb}
 use Prim.Native.Nat.{ℕ, zero, suc, ◌+◌, ◌-◌, ◌*◌, ◌/◌, ◌%◌, ◌≤◌, ◌<◌}
 use Rattle.std.proofs.Math.Decide.{dec_le}
 use Rattle.std.proofs.Math.ListN.{get_or-append}
 use Rattle.std.proofs.lemmas.Bool.{lt-leb}
-use Rattle.language.specs.Kind.{pick}
 use Rattle.stored.specs.Form.{tagged, head, widest, PART, parted, cut, inside}
 
 -- as a number

@@ -2,7 +2,6 @@
 use Rattle.std.specs.Prelude.{◌≡◌, refl, List, ◌++◌, ℕ, ◌*◌, length, drop}
 use Rattle.std.proofs.Common.{ap, ap₂, arith}
 use Rattle.language.specs.Tree.{Tree, width, unlined, size, text_of, rows_of}
-use Rattle.language.specs.Alike.{Alike}
 use Rattle.language.specs.Sound.{Holds}
 use Rattle.shaped.specs.Bare.{alike_size, alike_text}
 use Rattle.shaped.specs.Holds.{sound_tree}

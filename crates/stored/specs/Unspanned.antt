@@ -1,6 +1,6 @@
 -- THE STORED FORM DOES NOT DEPEND ON SPANS (`form_alike`), nor does the tree that it holds (`placed_alike`), which is like the one stored (`placed_like`). Assumes nothing.
 use Rattle.std.specs.Prelude.{◌≡◌, refl, List, ℕ, ◌+◌, length}
-use Rattle.std.proofs.Common.{sym, ap, ap₂, subst, ◌∙◌}
+use Rattle.std.proofs.Common.{sym, ap, ap₂, ◌∙◌}
 use Rattle.language.specs.Tree.{Tree, leaf, node, Forest, none, more}
 use Rattle.language.specs.Alike.{unspan, unspans, Alike}
 use Rattle.stored.specs.Form.{cut, tag, content, forms, form, inside, placed, placeds}

@@ -1,12 +1,11 @@
 -- A FIELD IN A CONTENT BY THE HEADS OF ITS PARTS: parts are passed one behind another (`Passed`), until an end stands there (`extent_of`) or what no field has (`Nothing`). Assumes nothing.
-use Rattle.std.specs.Prelude.{◌≡◌, refl, List, [], ◌∷◌, ◌++◌, ℕ, suc, ◌+◌, ◌-◌, ◌*◌, ◌/◌, ◌%◌, ◌≤◌, ◌<◌, length, get_or, take, drop}
+use Rattle.std.specs.Prelude.{◌≡◌, refl, List, [], ◌++◌, ℕ, suc, ◌+◌, ◌-◌, ◌*◌, ◌/◌, ◌%◌, ◌≤◌, ◌<◌, length, get_or, take, drop}
 use Rattle.std.proofs.Common.{sym, ap, ap₂, subst, ◌∙◌, append_assoc, arith, length-append, length-drop, take-append-drop, drop-cons, take_at, drop_at, length-take-le}
 use Rattle.std.proofs.Math.Decide.{dec_le}
 use Rattle.std.proofs.Math.Seq.{slice, length-slice}
-use Rattle.language.specs.Lent.{lent}
 use Rattle.stored.specs.Form.{tagged, head, widest, PART, cut}
 use Rattle.stored.specs.Parts.{widest_is, Fields, field_apart, cut_short, cut_long, cut_length}
-use Rattle.stored.specs.Bytes.{At, at_left, at_right, at_byte, at_join, at_as, at_place, slice_at}
+use Rattle.stored.specs.Bytes.{At, at_left, at_right, at_byte, at_join, at_as, slice_at}
 use Rattle.views.specs.declared.parts.Span.{Span}
 use Rattle.views.specs.declared.parts.Span.TheVariants.{Of, Nothing}
 

@@ -1,12 +1,11 @@
 -- BYTES THAT ARE CUT, WITH THE HEADS TAKEN OUT (`within`): each byte stands where `inside` says (`within_byte`), and the content of a field is what they begin with (`within_content`). Assumes nothing.
-use Rattle.std.specs.Prelude.{◌≡◌, refl, List, [], ◌∷◌, ◌++◌, ℕ, zero, suc, ◌+◌, ◌-◌, ◌*◌, ◌/◌, ◌%◌, ◌≤◌, ◌<◌, take, drop}
-use Rattle.std.proofs.Common.{sym, ap₂, subst, ◌∙◌, append_assoc, length-append, take-append-drop, take_at, drop_at, drop-drop, get_or-append-add, take_all}
+use Rattle.std.specs.Prelude.{◌≡◌, List, [], ◌++◌, ℕ, zero, suc, ◌+◌, ◌-◌, ◌≤◌, ◌<◌, take, drop}
+use Rattle.std.proofs.Common.{sym, ap₂, subst, ◌∙◌, append_assoc, length-append, take-append-drop, take_at, drop_at, get_or-append-add}
 use Rattle.std.proofs.Math.Path.{ap}
 use native.Mathlib.Omega.{arith}
 use Rattle.std.proofs.Math.Decide.{dec_le}
 use Rattle.std.proofs.Math.ListN.{length, get_or, length-take, length-drop, get_or-append}
 use Rattle.std.proofs.Math.Seq.{get_or-drop, get_or-take, length-take-le, take-append-add}
-use Rattle.std.proofs.lemmas.List.{take-append-le}
 use Rattle.stored.specs.Form.{tagged, head, widest, PART, cut, inside}
 use Rattle.stored.specs.Parts.{widest_some, cut_short, cut_long, cut_length, Parts, end, part, parts, inside_first, inside_later}
 use Rattle.stored.specs.Bytes.{At}

@@ -1,9 +1,9 @@
 -- EXTENTS as code finds them in a view. Assumes nothing.
-use Rattle.std.specs.Prelude.{◌≡◌, List, ℕ, ◌+◌, ◌-◌, ◌*◌, ◌≤◌, ◌<◌, length, get_or}
+use Rattle.std.specs.Prelude.{◌≡◌, List, ℕ, ◌+◌, ◌-◌, ◌≤◌, ◌<◌, length, get_or}
 use Rattle.std.proofs.Common.{sym, subst, ◌∙◌, arith}
 use Rattle.language.specs.Lent.{lent}
 use Rattle.views.specs.declared.parts.Span.{Span}
-use Rattle.views.specs.declared.parts.Span.TheVariants.{Of, Nothing}
+use Rattle.views.specs.declared.parts.Span.TheVariants.{Nothing}
 use Rattle.views.specs.Views.{viewed, view_less, ByteAsked}
 use Rattle.views.specs.Extents.{Headed, Passed, passed_none, passed_more, Told, Ended, ended_told, none_over, none_long, none_part}
 

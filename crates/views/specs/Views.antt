@@ -1,5 +1,5 @@
 -- A VIEW of stored bytes (`viewed`): the content of the field at one place of the content of another, and so on in; where its bytes stand (`view_byte`), and how far one behind another (`run_slice`). Assumes nothing.
-use Rattle.std.specs.Prelude.{◌≡◌, refl, List, [], ◌∷◌, ◌++◌, take, drop, set}
+use Rattle.std.specs.Prelude.{◌≡◌, refl, List, take, set}
 use Rattle.std.proofs.Common.{sym, ap₂, ◌∙◌, length-set, length-take, ext_get_or, get_or-drop, get_or-take, get_or-set_same, get_or-set_other}
 use Rattle.std.proofs.Math.Path.{ap, subst}
 use Prim.Native.Nat.{ℕ, zero, suc, ◌+◌, ◌-◌, ◌*◌, ◌/◌, ◌%◌, ◌≤◌, ◌<◌}
@@ -9,7 +9,7 @@ use Rattle.std.proofs.Math.ListN.{length, get_or, get_or-eq_default}
 use Rattle.std.proofs.Math.Seq.{slice, length-slice}
 use Rattle.language.specs.Lent.{lent}
 use Rattle.stored.specs.Form.{widest, inside}
-use Rattle.views.specs.Joined.{within, within_in, within_out, within_byte, within_less}
+use Rattle.views.specs.Joined.{within, within_out, within_byte, within_less}
 
 -- the content of the field that stands at `starts` in each content around
 pub viewed : List ℕ → List ℕ → ℕ → List ℕ

@@ -2,12 +2,8 @@
 use mathlib.Core.Path.{refl}
 use native.Mathlib.Omega.{arith}
 use borrow.Author.Rules.{rules}
-use Rattle.fields.specs.Fields.{Fields, Left, left_start, left_end, turn_ahead, turn_field, turn_word, turn_again, content_kind, array_fields, object_fields, field_closes, contents, fielding}
+use Rattle.fields.specs.Fields.{left_start, left_end, turn_ahead, turn_field, turn_word, turn_again, content_kind, array_fields, object_fields, field_closes, contents, fielding}
 use Rattle.fields.specs.Rows.{next_word, size_some}
-use Prim.Native.Nat.{ℕ, ◌-◌}
-use Rattle.fields.proofs.content.Reads as content
-use Rattle.fields.proofs.field.Reads as field
-use Rattle.fields.proofs.fields.Reads as fields
 use Rattle.fields.proofs.+content_field_fields.Goals as goal
 
 pub content-word-kind-requires : goal.content-word-kind-requires

@@ -3,7 +3,7 @@ use mathlib.Core.Path.{◌≡◌}
 use lib.ListN.{length, get_or}
 use Rattle.language.specs.Tree.{width}
 use Rattle.fields.specs.Fields.{Fields, Left}
-use Prim.Native.Nat.{ℕ, ◌+◌, ◌-◌, ◌*◌, ◌≤◌}
+use Prim.Native.Nat.{◌+◌, ◌-◌, ◌*◌, ◌≤◌}
 use Rattle.fields.proofs.+content_field_fields.Given as goal
 
 abbrev pub invariant-fields-loop-at : goal.invariant-fields-loop-at

@@ -3,11 +3,7 @@ use mathlib.Core.Path.{refl}
 use native.Mathlib.Omega.{arith}
 use borrow.Author.Rules.{rules}
 use Rattle.fields.specs.Rows.{next_word, size_some}
-use Rattle.fields.specs.Measured.{MeasuredAll, Counted, counted_start, counted_end, counted_field, counted_word, counted_ahead, counted_more, counted_again, measured_few, measured_array, measured_object, measuring}
-use Prim.Native.Nat.{ℕ, ◌-◌}
-use Rattle.fields.proofs.content_length.Reads as content_length
-use Rattle.fields.proofs.field_length.Reads as field-length
-use Rattle.fields.proofs.fields_length.Reads as fields-length
+use Rattle.fields.specs.Measured.{counted_start, counted_end, counted_field, counted_word, counted_ahead, counted_more, counted_again, measured_few, measured_array, measured_object, measuring}
 use Rattle.fields.proofs.+content_length_field_length_fields_length.Goals as goal
 
 pub content_length-word-kind-requires : goal.content_length-word-kind-requires

@@ -2,7 +2,7 @@
 use lib.ListN.{get_or}
 use Rattle.language.specs.Tree.{width}
 use Rattle.fields.specs.Measured.{MeasuredAll, Counted}
-use Prim.Native.Nat.{ℕ, ◌+◌, ◌-◌, ◌*◌, ◌≤◌}
+use Prim.Native.Nat.{◌+◌, ◌-◌, ◌*◌, ◌≤◌}
 use Rattle.fields.proofs.+content_length_field_length_fields_length.Given as goal
 
 abbrev pub invariant-fields_length-loop-row : goal.invariant-fields_length-loop-row

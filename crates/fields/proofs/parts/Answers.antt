@@ -1,6 +1,6 @@
 -- `parts` spreads a content into its parts, the last first.
 use borrow.Author.Rules.{rules}
-use Rattle.fields.specs.Spread.{Spread, spreading}
+use Rattle.fields.specs.Spread.{spreading}
 use Rattle.fields.proofs.parts.Goals as goal
 
 pub overflow_sub-k : goal.overflow_sub-k

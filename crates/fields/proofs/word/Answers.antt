@@ -4,4 +4,4 @@ use native.Mathlib.Omega.{arith}
 use Rattle.fields.proofs.word.Goals as goal
 
 pub overflow_cast-result : goal.overflow_cast-result
-overflow_cast-result c = let s = c.args in omega (arith, c.shared_slice_known-1.given (9 * s.r + s.i))
+overflow_cast-result c = let s = c.args in omega (arith, c.type_inv.table (9 * s.r + s.i))

@@ -4,7 +4,7 @@ use borrow.Author.Rules.{rules}
 use Rattle.views.proofs.byte.Goals as goal
 
 pub overflow_cast-result : goal.overflow_cast-result
-overflow_cast-result c = omega (arith, c.shared_slice_known-1.given c.args.p)
+overflow_cast-result c = omega (arith, c.type_inv.stored c.args.p)
 
 pub returns : goal.returns
-returns c = (search rules, omega (arith, c.shared_slice_known-1.given c.args.p))
+returns c = (search rules, omega (arith, c.type_inv.stored c.args.p))

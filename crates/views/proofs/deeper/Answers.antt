@@ -1,8 +1,7 @@
 -- `deeper` keeps the places around, and adds one.
 use borrow.Author.Rules.{rules}
-use Prim.Native.Nat.{◌-◌}
 use native.Mathlib.Omega.{arith}
-use Rattle.views.specs.Views.{Copied, copied_turn, copying}
+use Rattle.views.specs.Views.{copied_turn, copying}
 use Rattle.views.proofs.deeper.Goals as goal
 
 pub loop-i-init : goal.loop-i-init

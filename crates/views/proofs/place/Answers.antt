@@ -1,6 +1,6 @@
 -- `place` goes from a view out to the stored bytes.
 use borrow.Author.Rules.{rules}
-use Rattle.views.specs.Views.{Came, placing}
+use Rattle.views.specs.Views.{placing}
 use Rattle.views.proofs.place.Goals as goal
 
 pub loop-k-init : goal.loop-k-init

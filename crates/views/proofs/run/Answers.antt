@@ -1,6 +1,6 @@
 -- `run` goes from a view out to the stored bytes, and keeps to the nearest cut.
 use borrow.Author.Rules.{rules}
-use Rattle.views.specs.Views.{Along, reaching}
+use Rattle.views.specs.Views.{reaching}
 use Rattle.views.proofs.run.Goals as goal
 
 pub loop-k-init : goal.loop-k-init

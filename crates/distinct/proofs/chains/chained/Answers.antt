@@ -17,9 +17,7 @@ word-head-requires c = search chaining
 
 pub in_chain-r-requires : goal.in_chain-r-requires
 in_chain-r-requires c =
-    let s = c.before.before.before.before.before.before.before.before.before.before.before in
-    let k = c.before.before.before in
-    chained_walk s.args.text.now s.args.froms.now s.args.tos.now s.args.heads.now s.args.links.now s.args.n s.args.i s.requires k.before.before.place_at.result k.before.place-at2.result k.before.before.place_at.ensures k.before.place-at2.ensures k.chain-at.result k.chain-at.ensures c.word-head.result c.word-head.ensures.0
+    chained_walk c.args.text.now c.args.froms.now c.args.tos.now c.args.heads.now c.args.links.now c.args.n c.args.i c.requires c.place_at-a.result c.place_at-e.result c.place_at-a.ensures c.place_at-e.ensures c.chain_at-c.result c.chain_at-c.ensures c.word-head.result c.word-head.ensures.0
 
 pub offset_bounds-heads-c : goal.offset_bounds-heads-c
 offset_bounds-heads-c c = search chaining
@@ -35,6 +33,5 @@ bounds-heads-c-2 c = search chaining
 
 pub returns : goal.returns
 returns c =
-    let s = c.before.before.before.before.before.before.before.before.before.before.before.before.before in
-    let f = chained_tells s.args.text.now s.args.froms.now s.args.tos.now s.args.heads.now s.args.links.now s.args.n s.args.i s.requires in
+    let f = chained_tells c.args.text.now c.args.froms.now c.args.tos.now c.args.heads.now c.args.links.now c.args.n c.args.i c.requires in
     search (f, rules)

@@ -1,7 +1,6 @@
 -- `extent` passes parts, until an end stands there.
 use borrow.Author.Rules.{rules}
-use Prim.Native.Nat.{◌-◌}
-use Rattle.views.specs.Spans.{Going, going}
+use Rattle.views.specs.Spans.{going}
 use Rattle.views.proofs.parts.extent.Goals as goal
 
 pub loop-p-init : goal.loop-p-init

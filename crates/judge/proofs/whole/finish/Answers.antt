@@ -1,0 +1,9 @@
+-- `finish` meets its contract.
+use Rattle.judge.proofs.Documents.{finishing}
+use Rattle.judge.proofs.whole.finish.Goals as goal
+
+pub returns-then-e-doc : goal.returns-then-e-doc
+returns-then-e-doc c = search finishing
+
+pub returns : goal.returns
+returns c = search finishing
