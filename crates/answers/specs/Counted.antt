@@ -8,7 +8,7 @@ use Rattle.language.specs.Document.{Document}
 use Rattle.language.specs.Answered.{limit, deepest, REPEAT, ROWS, TEXT, Reads, Answered, accepted, repeated, rows, bytes, Totals, total}
 use Rattle.language.specs.Lines.{lines_of}
 use Rattle.language.specs.Lent.{lent}
-use Rattle.spans.specs.Document.{few_rows, few_text}
+use Rattle.spans.proofs.DocumentLaws.{few_rows, few_text}
 use Rattle.lined.specs.Lined.{Ranked, lined}
 use Rattle.lined.specs.Rows.{lined_rows}
 use Rattle.lined.specs.Ranking.{ranked_rows}

@@ -6,7 +6,8 @@ use Rattle.language.specs.Characters.{Allowed}
 use Rattle.language.specs.Blocks.{Lines, ValueLine, Property, Object, Dashed, Array, Open, Nested, Item}
 use Rattle.language.specs.Document.{RootLine, Root, Whole, Document}
 use Rattle.exact.specs.Class.{only}
-use Rattle.utf8.specs.Clean.{Clean, ret_clean, here_clean, byte_clean, seq_clean, alt_clean, star_clean, map_clean, indented_clean, word_clean, clean_begins, end_clean}
+use Rattle.utf8.specs.Clean.{Clean, ret_clean, here_clean, byte_clean, seq_clean, alt_clean, star_clean, map_clean, indented_clean, word_clean, end_clean}
+use Rattle.utf8.proofs.CleanLaws.{clean_begins}
 use Rattle.characters.specs.Comments.{comment_clean, optional_comment_clean}
 use Rattle.strings.specs.Clean.{key_clean}
 use Rattle.inline.specs.Clean.{value_clean}

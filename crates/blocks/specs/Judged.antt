@@ -4,7 +4,8 @@ use Rattle.language.specs.Tree.{Tree}
 use Rattle.language.specs.Document.{Document}
 use Rattle.language.specs.Answered.{deepest, CHAR, SYNTAX, DEEP, END, Stops, char, syntax, deep, end}
 use Rattle.exact.specs.Decide.{settle, settled}
-use Rattle.utf8.specs.Told.{Answer, Right, tell, told, given, refused_char, refused_syntax, refused_deep, refused_end, r_given, r_char, r_syntax, r_deep, r_end}
+use Rattle.utf8.specs.Told.{Answer, Right, tell, given, refused_char, refused_syntax, refused_deep, refused_end, r_given, r_char, r_syntax, r_deep, r_end}
+use Rattle.utf8.proofs.ToldLaws.{told}
 use Rattle.blocks.specs.Document.{verdict, family}
 use Rattle.blocks.specs.Clean.{document_allowed}
 

@@ -14,7 +14,8 @@ use Rattle.exact.specs.Comb.{seq_r, many_r}
 use Rattle.exact.specs.Ll.{star_ll}
 use Rattle.exact.specs.Block.{lead, ind_none}
 use Rattle.exact.specs.Place.{peek, peek_cons, There, there, byte_there, none_there, byte_is, byte_not, alt_is, alt_not}
-use Rattle.utf8.specs.Char.{char_r, char_ll}
+use Rattle.utf8.specs.Char.{char_r}
+use Rattle.utf8.proofs.CharLaws.{char_ll}
 use Rattle.characters.specs.Comments.{piece_r, piece_s, piece_ll}
 use Rattle.blocktext.specs.Pieces.{solid_r}
 use Rattle.blocktext.specs.LineEnd.{line_end_r}

@@ -14,7 +14,8 @@ use Rattle.exact.specs.Lang.{None, Exact, within_bar, weaken, ret_r, byte_r, byt
 use Rattle.exact.specs.Comb.{seq_r, map_r, map_exact, alt_r, alt_exact, many_r}
 use Rattle.exact.specs.Ll.{Shape, Ll, seq_ll, star_ll, relax}
 use Rattle.exact.specs.Block.{many_g, Clear, Looks, body_exact, ind, lead, lead_near, ind_of}
-use Rattle.utf8.specs.Char.{char_r, char_s, char_ll}
+use Rattle.utf8.specs.Char.{char_r, char_s}
+use Rattle.utf8.proofs.CharLaws.{char_ll}
 use Rattle.characters.specs.Comments.{piece_r, piece_s, piece_ll}
 use Rattle.blocktext.specs.Follow.{beyond}
 use Rattle.blocktext.specs.Opens.{Opens, byte_opens, seq_opens, ll_opens}

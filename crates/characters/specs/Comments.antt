@@ -6,7 +6,8 @@ use Rattle.exact.specs.Lang.{Lang, ret_r, byte_r}
 use Rattle.exact.specs.Comb.{seq_r, map_r, many_r, cat, option_r}
 use Rattle.exact.specs.Ll.{Shape, Ll, ret_ll, ret_s, byte₁, seq_ll, alt_ll, alt_s, star_ll, relax, word_r, word_ll}
 use Rattle.language.specs.Characters.{dark, Piece, Comment, Option, LineComment}
-use Rattle.utf8.specs.Char.{char_r, char_s, char_ll}
+use Rattle.utf8.specs.Char.{char_r, char_s}
+use Rattle.utf8.proofs.CharLaws.{char_ll}
 use Rattle.utf8.specs.Clean.{Clean, ret_clean, byte_clean, char_clean, seq_clean, alt_clean, star_clean, map_clean, word_clean}
 
 -- PIECES: spaces, and a character that is none

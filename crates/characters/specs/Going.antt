@@ -14,7 +14,8 @@ use Rattle.language.specs.Characters.{ascii, character, utf8, wide}
 use Rattle.utf8.specs.Utf8.{At, leads, follow, kind, lively, finished, live, full, next, start, done, dead, one_more, two_more, after_c2, after_e0, after_ed, after_ef, after_ef_b7, after_f0, after_f1, after_f4, plane_end, last, char_inside, char_r}
 use Rattle.utf8.specs.Tails.{left_of, begun, followed, full_done, tail_step}
 use Rattle.utf8.specs.States.{low_byte, lead_byte}
-use Rattle.utf8.specs.Spelling.{Spelling, spell, utf8_one}
+use Rattle.utf8.specs.Spelling.{Spelling, utf8_one}
+use Rattle.utf8.proofs.SpellingLaws.{spell}
 use Rattle.utf8.specs.Whole.{step, restart, whole_of, inside_step, outside_step}
 use Rattle.utf8.specs.Scan.{rows, find, code, step_code, whole_code, live_code}
 use Rattle.characters.specs.Reads.{Stands, Wide}

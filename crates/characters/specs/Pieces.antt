@@ -14,7 +14,7 @@ use Rattle.exact.specs.Run.{run_l, run_exact}
 use Rattle.exact.specs.Place.{run, run_end, run_end_lem, many_run}
 use Rattle.language.specs.Characters.{dark, character, utf8, wide}
 use Rattle.utf8.specs.Utf8.{Arrow, ◌to-be◌, table, follow, live, full, Classes, found, next, laws, start, char_r}
-use Rattle.utf8.specs.Char.{char_ll}
+use Rattle.utf8.proofs.CharLaws.{char_ll}
 use Rattle.utf8.specs.Tails.{every}
 use Rattle.characters.specs.Reads.{Stands, Ends}
 use Rattle.characters.specs.Comments.{piece_r, piece_s, piece_ll, pieces_r}

@@ -13,8 +13,8 @@ use Rattle.rooms.specs.Contract.{ample}
 use Rattle.rooms.specs.Stores.{row_behind}
 use Rattle.stored.specs.Form.{inside, tag, cut, content, forms, form, placed, placeds}
 use Rattle.stored.specs.Parts as parts
-use Rattle.stored.specs.Parts.{cut_length, cut_apart}
-use Rattle.stored.specs.Lengths.{form_longer}
+use Rattle.stored.proofs.PartsLaws.{cut_length, cut_apart}
+use Rattle.stored.proofs.LengthsLaws.{form_longer}
 use Rattle.stored.specs.Bytes.{At, at_left, at_as, at_inside}
 use Rattle.fields.specs.Puts.{Puts, puts_none, puts_as}
 use Rattle.fields.specs.Rows.{size_some}

@@ -6,13 +6,13 @@ use Rattle.language.specs.Tree.{unlined, Tree, node, Forest, none, more, size, s
 use Rattle.shaped.specs.Bare.{alike_size, alike_text}
 use Rattle.shaped.specs.Beside.{beside}
 use Rattle.stored.specs.Form.{head, widest, inside, content, forms, form, placed, placeds}
-use Rattle.stored.specs.Parts.{cut_short}
-use Rattle.stored.specs.Lengths.{forms_length}
+use Rattle.stored.proofs.PartsLaws.{cut_short}
+use Rattle.stored.proofs.LengthsLaws.{forms_length}
 use Rattle.stored.specs.Unspanned.{placed_like}
 use Rattle.stored.specs.Old as old
 use Rattle.stored.specs.Old.{wide_below}
-use Rattle.stored.specs.OldForms.{same_placeds}
-use Rattle.stored.specs.OldLengths.{short_now, content_narrow}
+use Rattle.stored.proofs.OldFormsLaws.{same_placeds}
+use Rattle.stored.proofs.OldLengthsLaws.{short_now, content_narrow}
 use Rattle.views.specs.Views.{place_of, place_file, Deeper}
 
 -- where the bytes of a view from `at` on stand

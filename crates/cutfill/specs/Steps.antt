@@ -13,7 +13,7 @@ use Rattle.language.specs.Lent.{lent}
 use Rattle.shaped.specs.Beside.{beside, beside_size, beside_text}
 use Rattle.stored.specs.Form.{widest, tag, content, forms, form, placed, placeds}
 use Rattle.stored.specs.Parts.{widest_is}
-use Rattle.stored.specs.Lengths.{forms_length, form_longer, few_rows, few_text}
+use Rattle.stored.proofs.LengthsLaws.{forms_length, form_longer, few_rows, few_text}
 use Rattle.stored.specs.Old as old
 use Rattle.stored.specs.Bytes.{At, at_left, at_right, at_as, at_place, at-slice}
 use Rattle.fields.specs.Puts.{puts_as}

@@ -11,7 +11,8 @@ use Rattle.exact.specs.Tells.{Tells, tells_yes}
 use Rattle.language.specs.Tree.{Tree, Forest, none, more}
 use Rattle.shaped.specs.Beside.{beside}
 use Rattle.stored.specs.Form.{tagged, head, widest, PART, tag, cut, content, forms, form}
-use Rattle.stored.specs.Parts.{widest_is, cut_short, cut_long}
+use Rattle.stored.specs.Parts.{widest_is}
+use Rattle.stored.proofs.PartsLaws.{cut_short, cut_long}
 use Rattle.stored.specs.Bytes.{At, at_left, at_right, at_byte, at_as}
 use Rattle.uncut.specs.Short.{longest}
 use Rattle.uncut.specs.Heads.{end_at, end_after, Behind, Lies, Whole}

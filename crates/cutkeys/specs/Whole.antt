@@ -11,7 +11,8 @@ use Rattle.exact.specs.Class.{clash}
 use Rattle.language.specs.Lent.{lent}
 use Rattle.language.specs.Kind.{pick}
 use Rattle.stored.specs.Form.{tagged, head, widest, inside, cut}
-use Rattle.stored.specs.Parts.{widest_is, cut_short, cut_length}
+use Rattle.stored.specs.Parts.{widest_is}
+use Rattle.stored.proofs.PartsLaws.{cut_short, cut_length}
 use Rattle.stored.specs.Bytes.{At, at_as, at_right, at-slice}
 use Rattle.distinct.specs.Names.{Part}
 use Rattle.distinct.specs.Roads.{Road}

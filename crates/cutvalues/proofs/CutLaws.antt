@@ -15,9 +15,10 @@ use Rattle.language.specs.Tree.{Tree, none, more, size, text_of}
 use Rattle.shaped.specs.Shaped.{Scripted, Scalar}
 use Rattle.stored.specs.Form as Form
 use Rattle.stored.specs.Form.{head, PART, cut, content, form}
-use Rattle.stored.specs.Parts.{Fields, cut_apart}
+use Rattle.stored.specs.Parts.{Fields}
+use Rattle.stored.proofs.PartsLaws.{cut_apart}
 use Rattle.stored.specs.Old as old
-use Rattle.stored.specs.OldLengths.{form_length}
+use Rattle.stored.proofs.OldLengthsLaws.{form_length}
 use Rattle.stored.specs.Bytes.{At, at_as, at_inside}
 use Rattle.sound.specs.Members.{Sane, One, one, IsKey, is_a_key, Member, container_kind, Many, many_pairs, array_distinct}
 use Rattle.uncut.specs.declared.tested.Tested.{Tested}

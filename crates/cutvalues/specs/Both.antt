@@ -4,7 +4,7 @@ use Rattle.std.proofs.Common.{sym, ap, subst, ◌∙◌, arith, length-append}
 use Rattle.language.specs.Tree.{Forest, none, more, size, sizes, text_of, texts_of}
 use Rattle.shaped.specs.Beside.{beside, beside_size}
 use Rattle.stored.specs.Form.{head, content, forms}
-use Rattle.stored.specs.Lengths.{form_least, forms_length, form_longer}
+use Rattle.stored.proofs.LengthsLaws.{form_least, forms_length, form_longer}
 use Rattle.stored.specs.Bytes.{at_as, at_join}
 use Rattle.sound.specs.Members.{is_a_key, Member, pair, element, Many, many_none, many_more, some_member}
 use Rattle.wide.specs.declared.Walked.TheVariants.{Bad}

@@ -10,9 +10,10 @@ use Rattle.std.proofs.lemmas.List.{drop-append-le, take-append-le}
 use Rattle.language.specs.Tree.{Tree, node, Forest, none, more, size, sizes, text_of, texts_of}
 use Rattle.shaped.specs.Shaped.{Shaped, shaped_object}
 use Rattle.stored.specs.Form.{tagged, head, widest, PART, tag, cut, content, forms, form}
-use Rattle.stored.specs.Parts.{widest_is, cut_short, cut_long}
+use Rattle.stored.specs.Parts.{widest_is}
+use Rattle.stored.proofs.PartsLaws.{cut_short, cut_long}
 use Rattle.stored.specs.Old as old
-use Rattle.stored.specs.OldLengths.{content_length, short_old, short_now}
+use Rattle.stored.proofs.OldLengthsLaws.{content_length, short_old, short_now}
 use Rattle.stored.specs.Bytes.{At, at_left, at_right, at_as, at_byte, at_join, at_place, slice_at}
 use Rattle.sound.specs.Members.{One, one, Member, pair, element, container_kind, Many, many_pairs, contained, array_distinct}
 use Rattle.uncut.specs.declared.tested.Tested.TheVariants as short

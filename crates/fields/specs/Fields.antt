@@ -17,7 +17,7 @@ use Rattle.shaped.specs.Shaped.{Scalar, is_null, is_false, is_true, is_an_intege
 use Rattle.fields.specs.Puts.{Puts, puts_none, puts_as, puts_then}
 use Rattle.fields.specs.Rows.{Kept, kept_key, kept_value, Kepts, kepts_none, kepts_more, elements_kept, pairs_kept, scalar_low, size_some, sizes_some, At, Along, word_in, kind_word, node_along}
 use Rattle.stored.specs.Form.{widest, tag, cut, content, forms, form}
-use Rattle.stored.specs.Parts.{cut_length}
+use Rattle.stored.proofs.PartsLaws.{cut_length}
 use Rattle.stored.specs.Lengths.{scalar_content}
 use Rattle.fields.specs.Spread.{Closes, sets_over, slice_sets}
 

@@ -8,8 +8,8 @@ use Rattle.language.specs.Tree.{Tree, Forest, none, more, width}
 use Rattle.language.specs.Lent.{lent}
 use Rattle.shaped.specs.RowsAt.{next_at}
 use Rattle.stored.specs.Form.{widest, tag, content, forms, form}
-use Rattle.stored.specs.Parts.{cut_length}
-use Rattle.stored.specs.Lengths.{forms_length}
+use Rattle.stored.proofs.PartsLaws.{cut_length}
+use Rattle.stored.proofs.LengthsLaws.{forms_length}
 use Rattle.fields.specs.Rows.{Kept, Kepts, size_some, sizes_some, At, Along, word_in, kind_word}
 use Rattle.fields.specs.Fields.{Opened, opened, Texted, texted, Turn, turn}
 

@@ -11,7 +11,8 @@ use Rattle.std.proofs.lemmas.List.{take-set-le}
 use Rattle.exact.specs.Place.{slice_at}
 use Rattle.rooms.specs.Stores.{sets_append, set_sets, row_behind}
 use Rattle.stored.specs.Form.{tagged, widest, PART, cut}
-use Rattle.stored.specs.Parts.{widest_is, cut_short, cut_long, cut_length}
+use Rattle.stored.specs.Parts.{widest_is}
+use Rattle.stored.proofs.PartsLaws.{cut_short, cut_long, cut_length}
 use Rattle.fields.specs.Puts.{Puts}
 
 -- ---- a run of stores, and what is before it and behind it

@@ -11,7 +11,7 @@ use Rattle.questions.specs.Walk.{Reply, answer, refusal, found_reply, Finds}
 use Rattle.questions.specs.Unique.{one_find, one_found}
 use Rattle.found.specs.Objects.{Pair, ValueAt, NoKey, ObjectAt, object_at}
 use Rattle.found.specs.Stands.{Stands, stands_fits}
-use Rattle.found.specs.Rows.{Placed, row_placed}
+use Rattle.found.specs.Rows.{Placed}
 use Rattle.found.specs.Looks.{Looks, Comes, comes_at, comes_none, looked}
 use Rattle.found.specs.Once.{Once, once}
 use Rattle.found.specs.Walks.{finds}
@@ -31,10 +31,6 @@ module _ {t : Tree} {n : ℕ} {table room : List ℕ} (h : Filled t n table room
 
   pub placed : Placed table room n 0 t
   placed = record { parent = 0; from = 0; lines = h.lines; rows = h.rows; text = h.text; counts = omega (arith, h.few_text); last = omega (arith, h.count) }
-
-  -- FINDING is looking for the key in the pairs
-  pub find_looks : {r : ℕ} {s : List ℕ} {fs : List Pair} {reply : Reply} → ObjectAt t r fs → Looks s fs reply → Finds table n room s r reply
-  find_looks (object_at x y) q = finds table room n enough y (row_placed table room n x placed) q
 
 -- WHAT FINDING ANSWERS in row r, of an object with the pairs fs, for each key s: its value exactly if the object has the key, NONE exactly if not, never BADROW
 pub record Exact (table : List ℕ) (R : ℕ) (room : List ℕ) (r : ℕ) (fs : List Pair) (s : List ℕ) : Type 0 where
@@ -65,11 +61,6 @@ module _ {table room s : List ℕ} {R r : ℕ} {fs : List Pair} (unique : Once f
             missing = (λ y. f _ l, λ g. z);
             sure = λ g. number_apart (one_find (f _ l) g) (λ e. omega arith);
           }
-
--- THE THEOREM, of any table and room that hold a tree without repeated keys
-pub find_value : {t : Tree} {n r : ℕ} {table room : List ℕ} {fs : List Pair} → Filled t n table room → ((p : ℕ) → Repeats p t → ⊥) → ObjectAt t r fs
-    → (s : List ℕ) → Exact table n room r fs s
-find_value h o x s = exact (once o x) (λ reply l. find_looks h x l)
 
 -- .. of the code's answer
 pub record Answers (f : Found) (fs : List Pair) (s : List ℕ) : Type 0 where

@@ -15,8 +15,8 @@ use Rattle.spans.specs.Formed.{Formed, formed_word, formed_text, formed_array, f
 use Rattle.spans.specs.Placed.{Among, among_first, among_later, child, Within, itself, below}
 use Rattle.spans.specs.Kinds.{Either, within_either}
 use Rattle.found.specs.Objects.{RowOf, own, within, RowAmong, in_first, in_further, Pair, pair, Pairs, no_pair, one_pair, ObjectAt, object_at}
-use Rattle.found.specs.Rows.{Placed, row_placed, leaf_word, node_word}
-use Rattle.found.specs.Rooted.{part_of}
+use Rattle.found.specs.Rows.{Placed, leaf_word, node_word}
+
 use Rattle.found.specs.Walks.{object_row}
 use Rattle.found.specs.Find.{Filled, placed, enough}
 
@@ -32,7 +32,7 @@ record Under (u : Tree) (ts : Forest) : Type 0 where
   inner : Within u tree
 
 mutual
-  row_within : {r b : ℕ} {u t : Tree} → RowOf r u b t → Within u t
+  pub row_within : {r b : ℕ} {u t : Tree} → RowOf r u b t → Within u t
   row_within own = itself
   row_within (within x) = let z = among_within x in below (child z.among) z.inner
 
@@ -50,7 +50,7 @@ pairs_listed F.no_pair r = record { pairs = []; are = no_pair }
 pairs_listed (F.pair {v = v} is_a_key y z) r = let l = pairs_listed z (r + 1 + size v) in record { pairs = _; are = one_pair l.are }
 
 -- a value or key of kind 9 is an object
-of_kind : {t : Tree} {r : ℕ} (u : Tree) → RowOf r u 0 t → Either u → kind_of u ≡ OBJECT → Object t r
+pub of_kind : {t : Tree} {r : ℕ} (u : Tree) → RowOf r u 0 t → Either u → kind_of u ≡ OBJECT → Object t r
 of_kind _ x (inl (formed_word h k l)) e = absurd (omega arith)
 of_kind _ x (inl (formed_text h k)) e = absurd (omega arith)
 of_kind _ x (inl (formed_array y)) e = absurd (omega arith)
@@ -58,27 +58,10 @@ of_kind {r = r} _ x (inl (formed_object y)) e = let l = pairs_listed y (r + 1) i
 of_kind _ x (inr is_a_key) e = absurd (omega arith)
 
 module _ {t : Tree} {n : ℕ} {table room : List ℕ} (h : Filled t n table room) where
-  kind_word : (r : ℕ) (u : Tree) → Placed table room n r u → word table r 0 ≡ kind_of u
+  pub kind_word : (r : ℕ) (u : Tree) → Placed table room n r u → word table r 0 ≡ kind_of u
   kind_word r (leaf k a e s) p = leaf_word table room n r k a e s p 0 (omega arith) ∙ by (leb k TRUE)
     where
       by : (y : Bool) → get_or (pick y (row_list p.lines k a e 0 0 p.parent (r + 1)) (row_list p.lines k a e p.from (p.from + length s.bytes) p.parent (r + 1))) 0 0 ≡ k
       by true = refl
       by false = refl
   kind_word r (node k a e c ts) p = node_word table room n r k a e c ts p 0 (omega arith)
-
-  kind_object : Formed t → (r : ℕ) → object table n r ≡ true → Object t r
-  unfolding object good
-  kind_object f r e =
-      let g : good table n r ≡ true = both_left (good table n r) (eqb (kind table r) OBJECT) e in
-      let l : r < n = ltb-true r n (both_left (ltb r n) (leb (width * (r + 1)) (words_in table)) g) in
-      let k : kind table r ≡ OBJECT = eqb-true (kind table r) OBJECT (both_right (good table n r) (eqb (kind table r) OBJECT) e) in
-      let z = part_of r 0 t (record { least = omega arith; most = omega (arith, h.count) }) in
-      let p = row_placed table room n z.row (placed h) in
-      of_kind z.tree z.row (within_either (inl f) (row_within z.row)) (sym (kind_word r z.tree p) ∙ k)
-
-  object_kind : {r : ℕ} {fs : List Pair} → ObjectAt t r fs → object table n r ≡ true
-  object_kind {r} (object_at {a = a} {e = e} {c = c} {ts = ts} x y) = object_row table room n (enough h) r a e c ts (row_placed table room n x (placed h))
-
-  -- THE OBJECTS by the table are those of the tree
-  pub objects : Formed t → (r : ℕ) → (object table n r ≡ true) ↔ Object t r
-  objects f r = (kind_object f r, λ o. object_kind o.is)

@@ -12,18 +12,19 @@ use Rattle.questions.specs.declared.Found.{Found}
 use Rattle.questions.specs.declared.Found.TheVariants.{BadRow}
 use Rattle.questions.specs.Walk.{found_reply, object, Finds, refused}
 use Rattle.questions.specs.Unique.{one_found}
-use Rattle.spans.specs.Document.{placed, document_formed, in_document, few_rows, few_text}
+use Rattle.spans.proofs.DocumentLaws.{placed, document_formed, in_document, few_rows, few_text}
 use Rattle.rooms.specs.Forest.{length_rows}
 use Rattle.spans.specs.Placed.{itself}
-use Rattle.spans.specs.Rising.{firsts, firsts_within, document_rises}
-use Rattle.spans.specs.Begins.{begins_ascii}
+use Rattle.spans.specs.Rising.{firsts, firsts_within}
+use Rattle.spans.proofs.RisingLaws.{document_rises}
+use Rattle.spans.proofs.BeginsLaws.{begins_ascii}
 use Rattle.lined.specs.Back.{lines_back}
 use Rattle.found.specs.Objects.{RowOf, Pair, Holds, ObjectAt}
 use Rattle.found.specs.Stands.{stands_first}
-use Rattle.found.specs.Rooted.{value_row, one_object}
+
 use Rattle.found.specs.Once.{Once, once}
-use Rattle.found.specs.Find.{Filled, Answers, answers, find_value}
-use Rattle.found.specs.Kinds.{Object, objects}
+use Rattle.found.specs.Find.{Filled, Answers, answers}
+use Rattle.found.specs.Kinds.{Object}
 use Rattle.found.specs.Spans.{RowSpans, row_spans}
 use Rattle.lined.specs.Lined.{first_byte}
 use Rattle.found.specs.Firsts.{row_line, row_column, From, row_from, rows_rise}
@@ -36,7 +37,7 @@ pub record Filling (doc : List ℕ) (n : ℕ) (table room : List ℕ) : Type 0 w
   pub lines_are : filled.lines ≡ lines_of doc
 
 -- a document that stops has a number
-refused_so : {doc : List ℕ} {n p : ℕ} → Stops doc n p → 0 < n
+pub refused_so : {doc : List ℕ} {n p : ℕ} → Stops doc n p → 0 < n
 refused_so (char p l b d) = omega arith
 refused_so (syntax p l b d a) = omega arith
 refused_so (deep p k l b d x) = omega arith
@@ -72,37 +73,15 @@ pub record FindsExactly (t : Tree) (n : ℕ) (table room : List ℕ) : Type 0 wh
   -- in every other row: BADROW
   pub others : {r : ℕ} → (Object t r → ⊥) → (s : List ℕ) (f : Found) → Finds table n room s r (found_reply f) → f ≡ BadRow
 
-no_object : {table room s : List ℕ} {n r : ℕ} (f : Found) (y : Bool) → object table n r ≡ y → (y ≡ true → ⊥) → Finds table n room s r (found_reply f) → f ≡ BadRow
+pub no_object : {table room s : List ℕ} {n r : ℕ} (f : Found) (y : Bool) → object table n r ≡ y → (y ≡ true → ⊥) → Finds table n room s r (found_reply f) → f ≡ BadRow
 no_object f true e n g = absurd (n refl)
 no_object {table} {room} {s} {n} {r} f false e m g = one_found table n room s r f BadRow g (refused e)
-
-finds_exactly : {doc : List ℕ} {n : ℕ} {table room : List ℕ} {t : Tree} → Reads doc t → Filled t n table room → FindsExactly t n table room
-finds_exactly {doc} {n} {table} {t = t} d h =
-    let o = objects h (document_formed deepest doc t d.word) in
-    record {
-      objects_are = o;
-      one_list = λ y w. one_object y w;
-      keys_once = λ y. once d.once y;
-      values_are = λ y w. value_row y w;
-      finding = λ y s f g. answers f g (find_value h d.once y s);
-      others = λ {r} m s f g. no_object f (object table n r) refl (λ e. m ((o r).0 e)) g;
-    }
 
 -- A DOCUMENT THAT WAS ACCEPTED: its tree, and finding in it
 pub record Finding (doc : List ℕ) (n : ℕ) (table room : List ℕ) : Type 0 where
   pub tree : Tree
   pub reads : Reads doc tree
   pub exactly : FindsExactly tree n table room
-
-pub find_exactly : {doc table text table' text' : List ℕ} {n m : ℕ} → Answered doc table text 0 n m table' text' → Finding doc n table' text'
-find_exactly x = let z = filling x in record { tree = z.tree; reads = z.reads; exactly = finds_exactly z.reads z.filled }
-
--- .. and in any tree of it, where a document has one tree
-pub find_in_tree : {doc table text table' text' : List ℕ} {n m : ℕ} {t : Tree} → ((u v : Tree) → Document deepest doc u → Document deepest doc v → u ≡ v)
-    → Answered doc table text 0 n m table' text' → Document deepest doc t → FindsExactly t n table' text'
-find_in_tree {table' = table'} {text' = text'} {n = n} {t = t} one x d =
-    let z = find_exactly x in
-    subst (λ (u : Tree). FindsExactly u n table' text') (one z.tree t z.reads.word d) z.exactly
 
 -- THE SPANS of an accepted document, in the words of its rows
 pub spans_in_table : {doc table text table' text' : List ℕ} {n m : ℕ} → Answered doc table text 0 n m table' text' → RowSpans (length doc) n table'

@@ -77,16 +77,6 @@ module _ (table room : List ℕ) (n : ℕ) where
           last = omega (arith, p.last);
         }
 
-  -- EACH ROW is that of its own part of the tree
-  mutual
-    pub row_placed : {r b : ℕ} {u t : Tree} → RowOf r u b t → Placed b t → Placed r u
-    row_placed own p = p
-    row_placed (within {b = b} {k = k} {a = a} {e = e} {c = c} {ts = ts} x) p = among_placed x (children b k a e c ts p)
-
-    pub among_placed : {r b : ℕ} {u : Tree} {ts : Forest} → RowAmong r u b ts → PlacedAll b ts → Placed r u
-    among_placed (in_first {b = b} {t = t} {ts = ts} x) p = row_placed x (head_placed b t ts p)
-    among_placed (in_further {b = b} {t = t} {ts = ts} x) p = among_placed x (tail_placed b t ts p)
-
   -- ---- the words of a row
 
   pub leaf_word : (r k a e : ℕ) (s : Decoded) (p : Placed r (leaf k a e s)) (j : ℕ) → j < width

@@ -9,7 +9,8 @@ use Rattle.language.specs.Tree.{Positions, unlined, Tree, leaf, node, Forest, no
 use Rattle.language.specs.Document.{Document}
 use Rattle.language.specs.Answered.{limit}
 use Rattle.rooms.specs.Forest.{length_rows}
-use Rattle.spans.specs.Rising.{firsts, firsts_in, Rising, rising_none, rising_more, rising_order, length_firsts, document_rises}
+use Rattle.spans.specs.Rising.{firsts, firsts_in, Rising, rising_none, rising_more, rising_order, length_firsts}
+use Rattle.spans.proofs.RisingLaws.{document_rises}
 use Rattle.lined.specs.Lined.{first_byte, Ranked}
 
 -- word 1 of row i is the first byte of the i-th of the tree's spans

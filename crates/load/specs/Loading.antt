@@ -13,7 +13,8 @@ use Rattle.shaped.specs.Bare.{alike_size}
 use Rattle.stored.specs.Form.{form, loaded}
 use Rattle.stored.specs.Unspanned.{placed_like}
 use Rattle.stored.specs.Loaded.{BADFORM, Kept, Loads, bad_form}
-use Rattle.stored.specs.Answering.{Found, load_rows, load_text, load_done}
+use Rattle.stored.specs.Answering.{Found}
+use Rattle.stored.proofs.AnsweringLaws.{load_rows, load_text, load_done}
 
 -- the tree that the stored bytes hold, with its count of rows and of text bytes
 pub record Held (stored : List ℕ) (n b : ℕ) : Type 0 where

@@ -9,8 +9,8 @@ use Rattle.stored.specs.Form.{head, form, loaded}
 use Rattle.stored.specs.Parts.{widest_is}
 use Rattle.uncut.specs.Short.{longest}
 use Rattle.stored.specs.Old as old
-use Rattle.stored.specs.OldForms.{old_placed}
-use Rattle.stored.specs.OldLengths.{short_now, content_narrow}
+use Rattle.stored.proofs.OldFormsLaws.{old_placed}
+use Rattle.stored.proofs.OldLengthsLaws.{short_now, content_narrow}
 use Rattle.fields.specs.Rows.{kept_value}
 use Rattle.uncut.specs.Filling.{Fill, FillRoot, FilledRooms}
 use Rattle.cutfill.specs.Filling as long

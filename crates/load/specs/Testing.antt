@@ -10,9 +10,9 @@ use Rattle.stored.specs.Form.{head, form}
 use Rattle.stored.specs.Parts.{widest_is}
 use Rattle.uncut.specs.Short.{longest}
 use Rattle.stored.specs.Old as old
-use Rattle.stored.specs.OldLengths.{short_old, short_now, form_length}
+use Rattle.stored.proofs.OldLengthsLaws.{short_old, short_now, form_length}
 use Rattle.stored.specs.Bytes.{At, at_as, at-slice}
-use Rattle.stored.specs.Apart.{form_apart}
+use Rattle.stored.proofs.ApartLaws.{form_apart}
 use Rattle.stored.specs.Unspanned.{form_alike}
 use Rattle.stored.specs.Loaded.{Kept}
 use Rattle.stored.specs.Keeps.{kept_shaped}

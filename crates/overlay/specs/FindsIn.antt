@@ -11,8 +11,9 @@ use Rattle.questions.specs.Walk as questions
 use Rattle.rooms.specs.Forest.{length_rows}
 use Rattle.found.specs.Objects.{RowOf, own, Pair, pair, Pairs, no_pair, one_pair, ObjectAt, object_at, Holds, held, held_later, NoKey}
 use Rattle.found.specs.Stands.{stands_first}
-use Rattle.found.specs.Rooted.{value_row}
-use Rattle.found.specs.Find.{Filled, Answers, answers, find_value}
+use Rattle.found.proofs.RootedLaws.{value_row}
+use Rattle.found.specs.Find.{Filled, Answers, answers}
+use Rattle.found.proofs.FindLaws.{find_value}
 use Rattle.exact.specs.Class.{clash}
 use Rattle.shaped.specs.Shaped as shaped
 use Rattle.shaped.specs.Shaped.{Shaped, shaped_leaf, shaped_array, shaped_object}

@@ -13,7 +13,7 @@ use Rattle.repeats.specs.declared.Repeat.TheVariants.{Nowhere}
 use Rattle.repeats.specs.Flat.{Twice}
 use Rattle.repeats.specs.Repeating.{repeats_twice, twice_repeats}
 use Rattle.repeats.specs.Later.{Names, names_map, Later, names_few, zeros}
-use Rattle.repeats.specs.Twice.{later_twice, twice_later_key}
+use Rattle.repeats.proofs.TwiceLaws.{later_twice, twice_later_key}
 use Rattle.places.specs.Places.{place_keys, most_keys, Placed}
 use Rattle.places.specs.Chosen.{chosen, left_out, chosen_some, chosen_few, some_keys, windows, chosen_windows, left_windows, windows_all}
 use Rattle.places.specs.Sifted.{took_plain}

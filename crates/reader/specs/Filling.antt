@@ -12,7 +12,7 @@ use Rattle.reader.specs.declared.Tried.TheVariants.{Settled, TooFew}
 use Rattle.language.specs.declared.Answer.{Answer}
 use Rattle.language.specs.Tree.{unlined, width, text_of, rows_of}
 use Rattle.language.specs.Answered.{limit, deepest, number, value, second, third, Answered, Totals}
-use Rattle.spans.specs.Document.{few_rows, few_text}
+use Rattle.spans.proofs.DocumentLaws.{few_rows, few_text}
 use Rattle.notes.specs.Flat.{flat}
 use Rattle.notes.specs.Notes.{Kept}
 use Rattle.repeats.specs.Stands.{Stands, stands_sets}

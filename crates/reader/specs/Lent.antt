@@ -10,7 +10,7 @@ use Rattle.rooms.specs.declared.Ans.TheVariants.{Ok}
 use Rattle.language.specs.Tree.{Tree, Repeats, unlined, rows_of, width, size, text_of, escapes_of}
 use Rattle.language.specs.Answered.{limit, deepest, REPEAT, ROWS, TEXT, Answered, Totals}
 use Rattle.language.specs.Document.{Document}
-use Rattle.spans.specs.Document.{few_rows}
+use Rattle.spans.proofs.DocumentLaws.{few_rows}
 use Rattle.repeats.specs.declared.Repeat.{Repeat}
 use Rattle.repeats.specs.declared.Repeat.TheVariants.{At, Nowhere}
 use Rattle.notes.specs.Flat.{Named, flat}

@@ -8,7 +8,7 @@ use Rattle.language.specs.Answered.{deepest, Stops, char, syntax, deep, end, Rea
 use Rattle.language.specs.Alike.{Alike}
 use Rattle.language.specs.Sound.{Profile, Holds, Sound}
 use Rattle.rooms.specs.Forest.{length_rows}
-use Rattle.spans.specs.Document.{few_rows, few_text}
+use Rattle.spans.proofs.DocumentLaws.{few_rows, few_text}
 use Rattle.shaped.specs.Shaped.{Shaped}
 use Rattle.shaped.specs.Document.{document_shaped}
 use Rattle.shaped.specs.Asked.{same_self, same_left, same_then}

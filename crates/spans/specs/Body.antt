@@ -7,7 +7,7 @@ use Rattle.language.specs.Tree.{unescaped, leaf}
 use Rattle.language.specs.BlockText.{Line, blank, line, Deeper, TextLine, BodyLine, hold, trim, lowest, spaces, unlines, body_text, body_end, OpenString, PropertyString}
 use Rattle.spans.specs.Every.{Every, InFront, ret_every, here_then, byte_then, bind_every, via, map_every, alt_every, star_every, indented_every}
 use Rattle.spans.specs.Formed.{Formed, formed_text}
-use Rattle.spans.specs.Lies.{Lies, leaf_lies}
+use Rattle.spans.specs.Lies.{Lies}
 use Rattle.spans.specs.Texts.{Fits, joined, star_fits, star_cat, plus_cat, byte_steps, option_fits, char_fits, piece_fits}
 
 -- the bytes of lines, less the indentation that every line must have
@@ -20,23 +20,23 @@ spaces_length : (n : ℕ) → length (spaces n) ≡ n
 spaces_length zero = refl
 spaces_length (suc n) = let h = spaces_length n in omega arith
 
-unlines_le : (m : ℕ) (ls : List Line) → length (unlines m ls) ≤ weight ls
+pub unlines_le : (m : ℕ) (ls : List Line) → length (unlines m ls) ≤ weight ls
 unlines_le m [] = omega arith
 unlines_le m (blank ∷ ls) = let h = unlines_le m ls in omega arith
 unlines_le m (line i t e ∷ ls) =
     let h = unlines_le m ls in
     omega (arith, joined (spaces (i - m) ++ t) (10 ∷ unlines m ls), joined (spaces (i - m)) t, spaces_length (i - m))
 
-hold_le : (ls : List Line) → weight (hold ls) ≤ suc (weight ls)
+pub hold_le : (ls : List Line) → weight (hold ls) ≤ suc (weight ls)
 hold_le [] = omega arith
 hold_le (l ∷ ls) = omega arith
 
-trim_le : (ls : List Line) → weight (trim ls) ≤ weight ls
+pub trim_le : (ls : List Line) → weight (trim ls) ≤ weight ls
 trim_le [] = omega arith
 trim_le (blank ∷ ls) = let h = trim_le ls in let k = hold_le (trim ls) in omega arith
 trim_le (line i t e ∷ ls) = let h = trim_le ls in omega arith
 
-body_le : (ls : List Line) → length (body_text ls) ≤ weight ls
+pub body_le : (ls : List Line) → length (body_text ls) ≤ weight ls
 unfolding body_text
 body_le ls = let h = trim_le ls in let k = unlines_le (lowest (trim ls)) (trim ls) in omega arith
 
@@ -73,34 +73,10 @@ text_line_every i at n h =
     (char_fits n)
     (λ d m k. bind_every (star_cat piece_fits m) (λ ps e l. here_then (byte_then (λ b. ret_every (λ ls at' x. body_line (omega (arith, joined d (cat ps))) x)))))
 
-body_every : (c at : ℕ) → Every (Star (BodyLine c)) at (Body at)
+pub body_every : (c at : ℕ) → Every (Star (BodyLine c)) at (Body at)
 body_every c at =
     star_every
     Body
     body_none
     (λ a. alt_every (byte_then (λ b. ret_every (λ ls at' x. body_blank x))) (deeper_every c a (λ i n h. text_line_every i a n (omega arith))))
     at
-
--- a block string: its leader's LF stands at e, and s is its text
-string_leaf : {a e at' : ℕ} {ls : List Line} {s : List ℕ} → a < e → Body (suc e) ls at' → suc a + length s ≤ at' → Lies Formed 1 a (leaf STRING a (body_end e ls) (unescaped s)) at'
-string_leaf {e = e} h x k =
-    let b = x.begins e (omega arith) in
-    let f = x.ends e (omega arith) in
-    leaf_lies (formed_text (omega arith) (omega arith)) (omega arith) (omega arith) (omega arith) (omega arith)
-
-open_leaf : {a e at' : ℕ} (t : List ℕ) {ls : List Line} → Fits (suc a) t e → Body (suc e) ls at' → Lies Formed 1 a (leaf STRING a (body_end e ls) (unescaped (t ++ 10 ∷ body_text ls))) at'
-open_leaf t {ls} h x = let f = x.fits in string_leaf (omega arith) x (omega (arith, joined t (10 ∷ body_text ls), body_le ls))
-
-property_leaf : {a at' : ℕ} {ls : List Line} → Body (suc (suc a)) ls at' → Lies Formed 1 a (leaf STRING a (body_end (suc a) ls) (unescaped (body_text ls))) at'
-property_leaf {ls = ls} x = let f = x.fits in string_leaf (omega arith) x (omega (arith, body_le ls))
-
-pub open_string_lies : (c at : ℕ) → Every (OpenString c) at (Lies Formed 1 at)
-open_string_lies c at =
-    here_then
-    (byte_then
-    (λ g. bind_every
-    (option_fits (suc at) (byte_then (λ b. bind_every (plus_cat piece_fits (suc (suc at))) (λ ps m h. ret_every (omega arith)))))
-    (λ t e h. here_then (byte_then (λ b. map_every _ (via (body_every c (suc e)) (λ ls at' x. open_leaf t h x)))))))
-
-pub property_string_lies : (n at : ℕ) → Every (PropertyString n) at (Lies Formed 1 at)
-property_string_lies n at = here_then (byte_then (λ g. here_then (byte_then (λ b. map_every _ (via (body_every n (suc (suc at))) (λ ls at' x. property_leaf x))))))

@@ -45,10 +45,6 @@ pub elements_count : {c : ℕ} {ts : Forest} → Elements c ts → trees ts ≡ 
 elements_count no_element = refl
 elements_count (element x y) = ap suc (elements_count y)
 
-pub pairs_count : {c : ℕ} {ts : Forest} → Pairs c ts → trees ts ≡ c + c
-pairs_count no_pair = refl
-pairs_count (pair x y z) = let h = pairs_count z in omega arith
-
 -- no container is a key: keys are leaves
 mutual
   pub data LeafKeys : Tree → Type 0 where

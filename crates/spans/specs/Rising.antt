@@ -7,7 +7,7 @@ use Rattle.std.proofs.Math.ListN.{get_or-append}
 use Rattle.language.specs.Tree.{Tree, leaf, node, Forest, none, more, first, after, size, sizes}
 use Rattle.language.specs.Document.{Document}
 use Rattle.spans.specs.Placed.{Placed, Along, placed_leaf, placed_node, along_none, along_more, along_le, span_some, Among, among_first, among_later, child, Within, itself, below}
-use Rattle.spans.specs.Document.{placed, in_document}
+
 
 -- the first bytes of a tree's rows, in row order
 unfoldable mutual
@@ -99,6 +99,3 @@ mutual
   along_rises {a} (along_more {t = t} h p l) =
       let s = span_some p in
       rising_append {a = a} {b = after t} (omega arith) (along_le l) (rising_from h (placed_rises p)) (along_rises l)
-
-pub document_rises : (k : ℕ) (doc : List ℕ) (t : Tree) → Document k doc t → Rising 0 (firsts t) (length doc)
-document_rises k doc t d = rising_from {b = first t} (omega arith) (rising_to (in_document k doc t d itself) (placed_rises (placed k doc t d)))

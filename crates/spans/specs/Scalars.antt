@@ -7,74 +7,43 @@ use Rattle.language.specs.Tree.{unescaped, leaf}
 use Rattle.language.specs.Scalars.{null_word, true_word, false_word, nan_word, infinity_word, Keyword, Keywords, Further, Digits, One, plain, minus, signed, Integer, Pointed, Exponent, Float, Plain}
 use Rattle.spans.specs.Every.{Every, ret_every, here_then, byte_every, byte_then, bind_every, via, map_every, alt_every, word_then}
 use Rattle.spans.specs.Formed.{Formed, formed_word, formed_text}
-use Rattle.spans.specs.Lies.{Lies, leaf_lies}
+use Rattle.spans.specs.Lies.{Lies}
 use Rattle.spans.specs.Texts.{Fits, Some, Steps, joined, star_fits, byte_steps, option_fits, pick_le}
 
-keyword_lies : (kind : ℕ) (word text : List ℕ) → 0 < length word → length text ≤ length word → ((a e : ℕ) → Formed (leaf kind a e (unescaped text)))
-    → (at : ℕ) → Every (Keyword kind word text) at (Lies Formed 0 at)
-keyword_lies kind word text h k f at =
-    here_then (word_then word (λ m l. here_then (ret_every (leaf_lies (f at m) (omega arith) (omega arith) (omega arith) (omega arith)))))
-
-empty_lies : (kind : ℕ) (word : List ℕ) → 0 < length word → NULL ≤ kind → kind ≤ TRUE → (at : ℕ) → Every (Keyword kind word []) at (Lies Formed 0 at)
-empty_lies kind word h k l = keyword_lies kind word [] h (omega arith) (λ a e. formed_word k l refl)
-
-float_word_lies : (word : List ℕ) → 0 < length word → (at : ℕ) → Every (Keyword FLOAT word word) at (Lies Formed 0 at)
-float_word_lies word h = keyword_lies FLOAT word word h (omega arith) (λ a e. formed_text (omega arith) (omega arith))
-
-keywords_lies : (at : ℕ) → Every Keywords at (Lies Formed 0 at)
-keywords_lies at =
-    alt_every
-    (alt_every
-    (empty_lies NULL null_word (omega arith) (omega arith) (omega arith) at)
-    (alt_every (empty_lies TRUE true_word (omega arith) (omega arith) (omega arith) at) (empty_lies FALSE false_word (omega arith) (omega arith) (omega arith) at)))
-    (alt_every
-    (float_word_lies nan_word (omega arith) at)
-    (alt_every (float_word_lies infinity_word (omega arith) at) (float_word_lies (45 ∷ infinity_word) (omega arith) at)))
-
 -- digits
-further_steps : (spaced : Bool) (at : ℕ) → Every (Further spaced) at (Steps at)
+pub further_steps : (spaced : Bool) (at : ℕ) → Every (Further spaced) at (Steps at)
 further_steps false at = byte_steps at
 further_steps true at = alt_every (byte_steps at) (byte_then (λ b. byte_every (λ c. omega arith)))
 
-digits_some : (spaced : Bool) (at : ℕ) → Every (Digits spaced) at (Some at)
+pub digits_some : (spaced : Bool) (at : ℕ) → Every (Digits spaced) at (Some at)
 digits_some spaced at = byte_then (λ d. bind_every (star_fits (further_steps spaced) (suc at)) (λ ds m h. ret_every (omega arith, omega arith)))
 
 digits_fits : (spaced : Bool) (at : ℕ) → Every (Digits spaced) at (Fits at)
 digits_fits spaced at = via (digits_some spaced at) (λ v m h. h.0)
 
-one_some : (c : Class) (at : ℕ) → Every (One c) at (Some at)
+pub one_some : (c : Class) (at : ℕ) → Every (One c) at (Some at)
 one_some c at = map_every (λ b. b ∷ []) (byte_every (λ b. (omega arith, omega arith)))
 
-one_fits : (c : Class) (at : ℕ) → Every (One c) at (Fits at)
+pub one_fits : (c : Class) (at : ℕ) → Every (One c) at (Fits at)
 one_fits c at = via (one_some c at) (λ v m h. h.0)
 
 -- an integer's text is not longer than its sign and its digits
-plain_le : (ds : List ℕ) → length (plain ds) ≤ length ds
+pub plain_le : (ds : List ℕ) → length (plain ds) ≤ length ds
 unfolding plain
 plain_le [] = omega arith
 plain_le (d ∷ []) = omega arith
 plain_le (d ∷ e ∷ ds) = let h = plain_le (e ∷ ds) in pick_le (eqb d 48) (plain (e ∷ ds)) (d ∷ e ∷ ds) (omega arith) (omega arith)
 
-minus_le : (ds : List ℕ) → length (minus ds) ≤ suc (length ds)
+pub minus_le : (ds : List ℕ) → length (minus ds) ≤ suc (length ds)
 unfolding minus
 minus_le [] = omega arith
 minus_le (d ∷ ds) = pick_le (eqb d 48) (d ∷ ds) (45 ∷ d ∷ ds) (omega arith) (omega arith)
 
-signed_le : (m ds : List ℕ) → length (signed m ds) ≤ length m + length ds
+pub signed_le : (m ds : List ℕ) → length (signed m ds) ≤ length m + length ds
 signed_le [] ds = let h = plain_le ds in omega arith
 signed_le (m ∷ ms) ds = let h = plain_le ds in let k = minus_le (plain ds) in omega arith
 
-integer_lies : (spaced : Bool) (at : ℕ) → Every (Integer spaced) at (Lies Formed 0 at)
-integer_lies spaced at =
-    here_then
-    (bind_every
-    (option_fits at (one_fits (only 45) at))
-    (λ m n h. bind_every (digits_some spaced n) (λ ds e k. here_then (ret_every (by m ds e h k.0 k.1)))))
-  where
-    by : {n : ℕ} (m ds : List ℕ) (e : ℕ) → Fits at m n → Fits n ds e → n < e → Lies Formed 0 at (leaf INTEGER at e (unescaped (signed m ds))) e
-    by m ds e h k l = let q = signed_le m ds in leaf_lies (formed_text (omega arith) (omega arith)) (omega arith) (omega arith) (omega arith) (omega arith)
-
-pointed_some : (spaced : Bool) (at : ℕ) → Every (Pointed spaced) at (Some at)
+pub pointed_some : (spaced : Bool) (at : ℕ) → Every (Pointed spaced) at (Some at)
 pointed_some spaced at =
     alt_every
     (bind_every
@@ -88,31 +57,10 @@ pointed_some spaced at =
     by : {m n e : ℕ} (ds p fs : List ℕ) → Fits at ds m → at < m → Fits m p n → Fits n fs e → Some at (ds ++ p ++ fs) e
     by ds p fs h k l o = let x = joined (ds ++ p) fs in let y = joined ds p in (omega arith, omega arith)
 
-exponent_fits : (spaced : Bool) (at : ℕ) → Every (Exponent spaced) at (Fits at)
+pub exponent_fits : (spaced : Bool) (at : ℕ) → Every (Exponent spaced) at (Fits at)
 exponent_fits spaced at =
     bind_every
     (one_fits (only 101) at)
     (λ x m h. bind_every
     (option_fits m (one_fits ((43 to 43) ∷ (45 to 45) ∷ []) m))
     (λ s n k. bind_every (digits_fits spaced n) (λ ds e l. ret_every (omega (arith, joined (x ++ s) ds, joined x s)))))
-
-float_lies : (spaced : Bool) (at : ℕ) → Every (Float spaced) at (Lies Formed 0 at)
-float_lies spaced at =
-    here_then
-    (bind_every
-    (option_fits at (one_fits (only 45) at))
-    (λ m n h. bind_every
-    {P = Some n}
-    (alt_every
-    (bind_every (pointed_some spaced n) (λ p o k. bind_every (option_fits o (exponent_fits spaced o)) (λ x e l. ret_every (two p x k.0 k.1 l))))
-    (bind_every (digits_some spaced n) (λ p o k. bind_every (exponent_fits spaced o) (λ x e l. ret_every (two p x k.0 k.1 l)))))
-    (λ w e k. here_then (ret_every (by m w e h k.0 k.1)))))
-  where
-    two : {n m e : ℕ} (p x : List ℕ) → Fits n p m → n < m → Fits m x e → Some n (p ++ x) e
-    two p x h k l = let y = joined p x in (omega arith, omega arith)
-
-    by : {n : ℕ} (m w : List ℕ) (e : ℕ) → Fits at m n → Fits n w e → n < e → Lies Formed 0 at (leaf FLOAT at e (unescaped (m ++ w))) e
-    by m w e h k l = let q = joined m w in leaf_lies (formed_text (omega arith) (omega arith)) (omega arith) (omega arith) (omega arith) (omega arith)
-
-pub plain_lies : (spaced : Bool) (at : ℕ) → Every (Plain spaced) at (Lies Formed 0 at)
-plain_lies spaced at = alt_every (keywords_lies at) (alt_every (integer_lies spaced at) (float_lies spaced at))

@@ -8,45 +8,31 @@ use Rattle.language.specs.Tree.{Decoded, unescaped, Tree, leaf}
 use Rattle.language.specs.Strings.{hex_number, Code, Escape, SingleEscape, Between, Quoted, Spanned, String, Key, Pair, Pairs, InlineBytes}
 use Rattle.spans.specs.Every.{Every, ret_every, here_then, byte_then, bind_every, via, map_every, alt_every, such_every, word_then}
 use Rattle.spans.specs.Formed.{Formed, IsKey, formed_text, is_a_key}
-use Rattle.spans.specs.Lies.{Lies, leaf_lies}
+use Rattle.spans.specs.Lies.{Lies}
 use Rattle.spans.specs.Texts.{Fits, FitsText, SomeText, Steps, star_fits, plus_some, plain_fit, plain_fits, star_together, byte_steps, option_fits, char_fits, utf8_four}
 
 -- "`\u{…}`": five bytes or more for at most four, and an escape
 code_steps : (at : ℕ) → Every Code at (Steps at)
 code_steps at = such_every (via (plus_some byte_steps at) (λ v m h. h.1))
 
-escape_fits : (at : ℕ) → Every Escape at (FitsText at)
+pub escape_fits : (at : ℕ) → Every Escape at (FitsText at)
 escape_fits at =
     byte_then
     (λ b. alt_every
     (byte_then (λ c. ret_every (omega arith)))
     (word_then (117 ∷ 123 ∷ []) (λ m h. bind_every (code_steps m) (λ ds n k. byte_then (λ c. ret_every (omega (arith, utf8_four (hex_number 0 ds))))))))
 
-single_escape_fits : (at : ℕ) → Every SingleEscape at (FitsText at)
+pub single_escape_fits : (at : ℕ) → Every SingleEscape at (FitsText at)
 single_escape_fits at =
     byte_then (λ b. alt_every (byte_then (λ c. ret_every (omega arith))) (bind_every (char_fits (suc at)) (λ s m h. ret_every (omega arith))))
 
-between_some : (quote : ℕ) {E : Lang Decoded} (others : Class) → ((at : ℕ) → Every E at (FitsText at)) → (at : ℕ) → Every (Between quote E others) at (SomeText at)
+pub between_some : (quote : ℕ) {E : Lang Decoded} (others : Class) → ((at : ℕ) → Every E at (FitsText at)) → (at : ℕ) → Every (Between quote E others) at (SomeText at)
 between_some quote others g at =
     byte_then
     (λ b. bind_every (star_together (λ m. alt_every (g m) (plain_fits (char_fits m))) (suc at)) (λ ps m h. byte_then (λ c. ret_every (omega arith, omega arith))))
 
 pub quoted_some : (at : ℕ) → Every Quoted at (SomeText at)
 quoted_some at = alt_every (between_some _ _ escape_fits at) (between_some _ _ single_escape_fits at)
-
--- a text with its span
-spanned_lies : {F : Tree → Type 0} {A : Lang Decoded} (kind : ℕ) → ((a e : ℕ) (s : Decoded) → F (leaf kind a e s)) → (at : ℕ) → Every A at (SomeText at)
-    → Every (Spanned kind A) at (Lies F 0 at)
-spanned_lies {F} kind f at g = here_then (bind_every g (λ s e h. here_then (ret_every (by s e h.0 h.1))))
-  where
-    by : (s : Decoded) (e : ℕ) → FitsText at s e → at < e → Lies F 0 at (leaf kind at e s) e
-    by s e h k = leaf_lies (f at e s) k (omega arith) (omega arith) (omega arith)
-
-pub string_lies : (at : ℕ) → Every String at (Lies Formed 0 at)
-string_lies at = spanned_lies STRING (λ a e s. formed_text (omega arith) (omega arith)) at (quoted_some at)
-
-pub key_lies : (at : ℕ) → Every Key at (Lies IsKey 0 at)
-key_lies at = spanned_lies KEY (λ a e s. is_a_key) at (alt_every (map_every unescaped (via (plus_some byte_steps at) (λ s m h. (plain_fit at s h.0, h.1)))) (quoted_some at))
 
 -- hex pairs
 pair_steps : (at : ℕ) → Every Pair at (Steps at)
@@ -59,11 +45,3 @@ pairs_fits at =
     (λ p m h. bind_every
     (star_fits (λ n. alt_every (pair_steps n) (byte_then (λ b. via (pair_steps (suc n)) (λ v o k. omega arith)))) m)
     (λ ps e k. ret_every (omega arith)))
-
-pub inline_bytes_lies : (at : ℕ) → Every InlineBytes at (Lies Formed 0 at)
-inline_bytes_lies at =
-    spanned_lies
-    BYTES
-    (λ a e s. formed_text (omega arith) (omega arith))
-    at
-    (byte_then (λ b. bind_every (option_fits (suc at) (pairs_fits (suc at))) (λ bs m h. byte_then (λ c. ret_every (omega arith, omega arith)))))

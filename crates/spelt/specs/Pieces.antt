@@ -11,7 +11,7 @@ use Rattle.exact.specs.Comb.{map_r}
 use Rattle.exact.specs.Ll.{word_r}
 use Rattle.exact.specs.Run.{steps, run_l}
 use Rattle.utf8.specs.Utf8.{At, live, full, next, start, char_r}
-use Rattle.utf8.specs.Spelling.{spell}
+use Rattle.utf8.proofs.SpellingLaws.{spell}
 use Rattle.characters.specs.Plains.{Quote, double, single, plain_of}
 use Rattle.strings.specs.Code.{code_r}
 use Rattle.strings.specs.Quoted.{letter_r, braced_r, coded_r, escape_r, singled, itself_r, unsingle, unescaped_r, single_escape_r}

@@ -14,7 +14,7 @@ use Rattle.language.specs.Written.{Sounded, is_sound, unsound}
 use Rattle.shaped.specs.Holds.{profile_shaped, holds_at}
 use Rattle.stored.specs.Form.{head, widest, form}
 use Rattle.stored.specs.Stored.{Stores, stores, bad_row, rules}
-use Rattle.stored.specs.Answering.{holds_most, holds_short}
+use Rattle.stored.proofs.AnsweringLaws.{holds_most, holds_short}
 use Rattle.fields.specs.Puts.{Puts}
 use Rattle.fields.specs.Rows.{kept_value}
 use Rattle.fields.specs.Fields.{Field}

@@ -9,19 +9,12 @@ use Rattle.shaped.specs.Shaped.{Shaped}
 use Rattle.shaped.specs.Bare.{alike_size, alike_text}
 use Rattle.shaped.specs.Holds.{profile_shaped}
 use Rattle.stored.specs.Form.{head, widest, form, loaded}
-use Rattle.stored.specs.Lengths.{form_plain, form_most}
+
 use Rattle.stored.specs.Unspanned.{placed_alike}
 use Rattle.stored.specs.Loaded.{BADFORM, Loads, loads, bad_form, rows, bytes}
-use Rattle.stored.specs.Keeps.{kept_shaped, KeptLike, shaped_kept}
+use Rattle.stored.specs.Keeps.{kept_shaped, KeptLike}
 
 -- ---- storing: however many parts there are, the bytes are few enough to be counted
-
-pub holds_most : {table : List ℕ} {n : ℕ} {text : List ℕ} (t : Tree) → Holds table n text t → length (form t) ≤ 8 * lent
-holds_most t h = let e = form_most (profile_shaped h.profile) in omega (arith, h.count, h.rows_fit, h.text_fits)
-
--- .. and where one field holds them, rows and text tell how many they are
-pub holds_short : {table : List ℕ} {n : ℕ} {text : List ℕ} (t : Tree) → Holds table n text t → head * n + length (text_of t) ≤ head + widest → length (form t) ≡ head * n + length (text_of t)
-holds_short t h l = form_plain (profile_shaped h.profile) (omega (arith, h.count)) ∙ ap (λ (m : ℕ). head * m + length (text_of t)) h.count
 
 -- ---- loading
 
@@ -31,44 +24,9 @@ pub record Found (stored : List ℕ) (t : Tree) : Type 0 where
   pub once : Once t
   pub bytes : form t ≡ stored
 
-found_kept : {stored : List ℕ} (t : Tree) → Found stored t → length stored ≤ lent → KeptLike stored t
-found_kept t x l = shaped_kept t x.shaped x.once x.bytes l
-
 module _ {stored table text : List ℕ} where
   pub load_long : lent < length stored → Loads stored table text BADFORM 0 0 table text
   load_long l = bad_form (λ t x. omega (arith, x.few))
 
   pub load_bad : ((t : Tree) → Found stored t → ⊥) → Loads stored table text BADFORM 0 0 table text
   load_bad f = bad_form (λ t x. f t (record { shaped = kept_shaped x; once = x.holds.profile.once; bytes = x.bytes }))
-
-  module _ (t : Tree) (x : Found stored t) (l : length stored ≤ lent) where
-    pub load_rows : words_in table < width * size t → Loads stored table text ROWS (size t) 0 table text
-    load_rows m =
-        let k = found_kept t x l in
-        let e = alike_size k.tree t k.alike in
-        subst (λ (n : ℕ). Loads stored table text ROWS n 0 table text) e (rows k.tree k.kept (omega arith))
-
-    pub load_text : width * size t ≤ words_in table → bytes_in text < length (text_of t) → Loads stored table text TEXT (length (text_of t)) 0 table text
-    load_text m o =
-        let k = found_kept t x l in
-        let e = alike_size k.tree t k.alike in
-        let f = ap length (alike_text k.tree t k.alike) in
-        subst (λ (n : ℕ). Loads stored table text TEXT n 0 table text) f (bytes k.tree k.kept (omega arith) (omega arith))
-
-    pub load_done : width * size t ≤ words_in table → length (text_of t) ≤ bytes_in text
-        → Loads
-        stored
-        table
-        text
-        0
-        (size t)
-        (length (text_of t))
-        (rows_of unlined 0 0 0 (loaded t) ++ drop (width * size t) table)
-        (text_of t ++ drop (length (text_of t)) text)
-    load_done m o =
-        let k = found_kept t x l in
-        let u = k.tree in
-        let e : size t ≡ size u = sym (alike_size u t k.alike) in
-        let f : text_of t ≡ text_of u = sym (alike_text u t k.alike) in
-        let g : loaded t ≡ loaded u = sym (placed_alike u t k.alike (λ i. i)) in
-        rw (e, f, g) (loads u k.kept (omega arith) (omega (arith, ap length f)))

@@ -12,46 +12,17 @@ use Rattle.shaped.specs.Once.{alike_once}
 use Rattle.shaped.specs.Holds.{profile_shaped, stored_holds}
 use Rattle.house.specs.Document.{house_document}
 use Rattle.stored.specs.Form.{form}
-use Rattle.stored.specs.Lengths.{few_rows, few_text}
+
 use Rattle.stored.specs.Unspanned.{form_alike}
-use Rattle.stored.specs.Apart.{form_tells}
+
 use Rattle.stored.specs.Loaded.{Kept}
 
 module _ {stored : List ℕ} where
   pub kept_shaped : {t : Tree} → Kept stored t → Shaped deepest t
   kept_shaped x = profile_shaped x.holds.profile
 
-  pub kept_alike : {t u : Tree} → Kept stored t → Kept stored u → Alike t u
-  kept_alike x y = form_tells (kept_shaped x) (kept_shaped y) (x.bytes ∙ sym y.bytes)
-
--- a profile of few bytes is kept as its form: its rows and its text are few enough for a sound table
-pub profile_kept : (t : Tree) → Profile t → length (form t) ≤ lent → Kept (form t) t
-profile_kept t p l =
-    let x = profile_shaped p in
-    record {
-      table = rows_of unlined 0 0 0 t ++ [];
-      rows = size t;
-      text = text_of t ++ [];
-      holds = stored_holds t unlined [] [] p (few_rows t x l) (few_text t x l);
-      bytes = refl;
-      few = l;
-    }
-
 -- A TREE LIKE this one is kept
 pub record KeptLike (stored : List ℕ) (t : Tree) : Type 0 where
   pub tree : Tree
   pub kept : Kept stored tree
   pub alike : Alike tree t
-
-pub shaped_kept : {stored : List ℕ} (t : Tree) → Shaped deepest t → Once t → form t ≡ stored → length stored ≤ lent → KeptLike stored t
-shaped_kept {stored} t x o e l =
-    let r = house_document deepest t x in
-    let u = r.tree in
-    let a = sym r.alike in
-    let g : form u ≡ stored = form_alike u t r.alike ∙ e in
-    let p : Profile u = record { document = house t; word = r.word; once = alike_once t u a o } in
-    record {
-      tree = u;
-      kept = subst (λ (s : List ℕ). Kept s u) g (profile_kept u p (subst (λ (s : List ℕ). length s ≤ lent) (sym g) l));
-      alike = r.alike;
-    }

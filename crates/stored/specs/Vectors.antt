@@ -4,9 +4,9 @@ use Rattle.std.proofs.Common.{arith}
 use Rattle.language.specs.Kind.{NULL, FALSE, TRUE, INTEGER, FLOAT, STRING, BYTES, ARRAY, OBJECT, KEY}
 use Rattle.language.specs.Tree.{unescaped, Tree, leaf, node, none, more, Field, field, array_tree, object_tree, unlined, size, sizes, text_of, rows_of}
 use Rattle.stored.specs.Form.{head, widest, parted, cut, content, form, placed, loaded}
-use Rattle.stored.specs.Parts.{cut_length}
 
-abbrev scalar : ℕ → List ℕ → Tree
+
+abbrev pub scalar : ℕ → List ℕ → Tree
 scalar kind s = leaf kind 0 0 (unescaped s)
 
 abbrev key : List ℕ → Tree
@@ -134,15 +134,6 @@ b₁ = refl
 b₂ : drop 65538 (form (scalar STRING (replicate 65536 97))) ≡ 6 ∷ 0 ∷ 1 ∷ 97 ∷ []
 unfolding widest parted cut content
 b₂ = refl
-
--- 131,070 bytes are a part and a full end, 131,071 two parts and one byte
-b₃ : (s : List ℕ) → length s ≡ 131070 → length (form (scalar BYTES s)) ≡ 131070 + 2 * head
-unfolding widest content
-b₃ s e = omega (arith, cut_length BYTES s)
-
-b₄ : (s : List ℕ) → length s ≡ 131071 → length (form (scalar BYTES s)) ≡ 131071 + 3 * head
-unfolding widest content
-b₄ s e = omega (arith, cut_length BYTES s)
 
 -- an array of 65,537 bytes, cut in the head of its second element: `["aa…", 7]⏎` with 65,530 times `a`. The cut counts in that element's span
 abbrev across : Tree

@@ -10,7 +10,8 @@ use Rattle.exact.specs.Out.{Reader}
 use Rattle.exact.specs.Lang.{Lang, ret_r, byte_r}
 use Rattle.exact.specs.Comb.{seq_r, map_r, alt_r, many_r}
 use Rattle.exact.specs.Ll.{Shape, Ll, ret_ll, byte_ll, seq_ll, alt_ll, star_ll, relax, word_r, word_ll, byte₁}
-use Rattle.utf8.specs.Char.{char_r, char_s, char_ll}
+use Rattle.utf8.specs.Char.{char_r, char_s}
+use Rattle.utf8.proofs.CharLaws.{char_ll}
 use Rattle.strings.specs.Code.{code_r, code_ll}
 use Rattle.strings.specs.Spans.{sub_self, solid, spanned_r, spanned_ll}
 

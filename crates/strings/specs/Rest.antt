@@ -16,7 +16,8 @@ use Rattle.exact.specs.Comb.{seq_r, many_r, alt_tame, seq_tame}
 use Rattle.exact.specs.Place.{peek, There, byte_there, none_there, there, run, run_end, many_run, run_end_lem, peek_cons}
 use Rattle.language.specs.Characters.{ascii}
 use Rattle.language.specs.Tree.{Decoded, unescaped, ◌then◌, together}
-use Rattle.utf8.specs.Char.{char_s, char_ll}
+use Rattle.utf8.specs.Char.{char_s}
+use Rattle.utf8.proofs.CharLaws.{char_ll}
 use Rattle.strings.specs.Quoted.{piece_r, piece_s}
 use Rattle.strings.specs.Turns.{many_turn}
 use Rattle.strings.specs.Joining.{then_none, then_join}

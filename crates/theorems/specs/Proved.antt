@@ -18,13 +18,17 @@ use Rattle.blocks.specs.Document as readers
 use Rattle.blocks.specs.Clean as clean
 use Rattle.spans.specs.Keys.{keys_in}
 use Rattle.spans.specs.Placed.{Within, Child, Siblings, Inside}
-use Rattle.spans.specs.Rising.{Rising, firsts, document_rises}
+use Rattle.spans.specs.Rising.{Rising, firsts}
+use Rattle.spans.proofs.RisingLaws.{document_rises}
 use Rattle.spans.specs.Document as documents
+use Rattle.spans.proofs.DocumentLaws as documents_laws
 use Rattle.spans.specs.Begins as begins
+use Rattle.spans.proofs.BeginsLaws as begins_laws
 use Rattle.found.specs.Spans.{RowSpans}
 use Rattle.lined.specs.Lined.{first_byte}
 use Rattle.found.specs.Firsts.{row_line, row_column}
 use Rattle.found.specs.Read as found
+use Rattle.found.proofs.ReadLaws as found_laws
 use Rattle.promise.specs.Unique as unique
 use Rattle.promise.specs.Refusals as refusals
 use Rattle.promise.specs.LargerRooms as rooms
@@ -119,18 +123,18 @@ larger_rooms doc table text table₂ text₂ table' text' table'' text'' n v s n
 
 -- FEW ROWS AND LITTLE TEXT: each fewer than the document's bytes
 pub few_rows : (k : ℕ) (doc : List ℕ) (t : Tree) → Document k doc t → size t < length doc
-few_rows = documents.few_rows
+few_rows = documents_laws.few_rows
 
 pub few_text : (k : ℕ) (doc : List ℕ) (t : Tree) → Document k doc t → length (text_of t) < length doc
-few_text = documents.few_text
+few_text = documents_laws.few_text
 
 -- FEW ESCAPES: no more than the document's bytes
 pub few_escapes : (k : ℕ) (doc : List ℕ) (t : Tree) → Document k doc t → escapes_of t ≤ length doc
-few_escapes = documents.few_escapes
+few_escapes = documents_laws.few_escapes
 
 -- FEW KEYS: four bytes or more of a document belong to each, at any depth
 pub few_keys : (k : ℕ) (doc : List ℕ) (t : Tree) → Document k doc t → 4 * keys_in t ≤ length doc
-few_keys = documents.few_keys
+few_keys = documents_laws.few_keys
 
 -- SPANS of a tree: each child's inside its parent's; siblings' disjoint and in order; none empty, and all inside the document
 pub record TreeSpans (bytes : ℕ) (t : Tree) : Type 0 where
@@ -141,9 +145,9 @@ pub record TreeSpans (bytes : ℕ) (t : Tree) : Type 0 where
 pub spans : (k : ℕ) (doc : List ℕ) (t : Tree) → Document k doc t → TreeSpans (length doc) t
 spans k doc t d =
     record {
-      inside = λ w c. documents.inside k doc t d w c;
-      in_order = λ w c. documents.in_order k doc t d w c;
-      in_document = λ w. (documents.some_span k doc t d w, documents.in_document k doc t d w);
+      inside = λ w c. documents_laws.inside k doc t d w c;
+      in_order = λ w c. documents_laws.in_order k doc t d w c;
+      in_document = λ w. (documents_laws.some_span k doc t d w, documents_laws.in_document k doc t d w);
     }
 
 -- .. and in the words of the table that is filled for an accepted document
@@ -161,7 +165,7 @@ rows_rise_in_table doc table text table' text' n m x r q l h = found.rise_in_tab
 
 -- BEGINNINGS: every tree of a document, at any depth, keys too, begins with an ASCII byte, and so its span with a whole character
 pub begins_ascii : (k : ℕ) (doc : List ℕ) (t : Tree) → Document k doc t → (u : Tree) → Within u t → get_or doc (first u) 128 < 128
-begins_ascii = begins.begins_ascii
+begins_ascii = begins_laws.begins_ascii
 
 -- LINES LEAD BACK to the first byte: two rows of equal line and column start at the same byte
 pub lines_back : (doc table text table' text' : List ℕ) (n m : ℕ) → Answered doc table text 0 n m table' text' → (r q : ℕ) → r < n → q < n
@@ -171,4 +175,4 @@ lines_back doc table text table' text' n m x r q l h e f = found.back_in_table x
 -- FINDING in the table that is filled for an accepted document answers the value of the key in that object, exactly if the object has the key
 pub find_exactly : (doc table text table' text' : List ℕ) (n m : ℕ) → Answered doc table text 0 n m table' text' → (t : Tree) → Document deepest doc t
     → found.FindsExactly t n table' text'
-find_exactly doc table text table' text' n m x t d = found.find_in_tree (one_tree deepest doc) x d
+find_exactly doc table text table' text' n m x t d = found_laws.find_in_tree (one_tree deepest doc) x d

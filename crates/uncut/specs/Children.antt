@@ -13,7 +13,7 @@ use Rattle.shaped.specs.Shaped.{shaped_leaf, shaped_array, shaped_object}
 use Rattle.stored.specs.Form.{head, tag}
 use Rattle.stored.specs.Old.{content, forms, form, placed, placeds}
 use Rattle.stored.specs.Bytes.{At, at_left, at_right}
-use Rattle.stored.specs.OldLengths.{form_length, forms_length}
+use Rattle.stored.proofs.OldLengthsLaws.{form_length, forms_length}
 use Rattle.fields.specs.Puts.{Puts, puts_none, puts_as, puts_then}
 use Rattle.fields.specs.Rows.{Kept, kept_key, kept_value, Kepts, kepts_none, kepts_more, elements_kept, pairs_kept, scalar_low, size_some}
 use Rattle.uncut.specs.Heads.{end_at, at_as, at_place, field_end, field_content}

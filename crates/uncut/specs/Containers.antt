@@ -12,7 +12,7 @@ use Rattle.shaped.specs.Once.{alike_once}
 use Rattle.stored.specs.Form.{tagged, head, tag}
 use Rattle.stored.specs.Old.{content, forms, form}
 use Rattle.stored.specs.Bytes.{At}
-use Rattle.stored.specs.OldApart.{form_apart}
+use Rattle.stored.proofs.OldApartLaws.{form_apart}
 use Rattle.sound.specs.Distinct.{Distinct, once_distinct}
 use Rattle.sound.specs.Members.{Sane, One, Member, container_kind, Many, many_pairs, contained, array_many, object_many, array_distinct}
 use Rattle.fields.specs.Rows.{scalar_low}

@@ -8,8 +8,8 @@ use Rattle.exact.specs.Class.{pick, clash, and, is}
 use Rattle.utf8.specs.Utf8.{At, live, next, start}
 use Rattle.utf8.specs.Whole.{left_of, whole_start, whole_of, left_most, step_back, scan_back, scan_append, inside_step, outside_step}
 pub use Rattle.language.specs.Characters.{ascii, Allowed}
-pub use Rattle.utf8.specs.Whole.{step, scan, whole, tail_byte, allowed_whole, whole_allowed, begins_live, live_begins}
-pub use Rattle.utf8.specs.Clean.{Clean, ret_clean, here_clean, byte_clean, sub_clean, char_clean, seq_clean, alt_clean, star_clean, plus_clean, map_clean, such_clean, indented_clean, run_clean, word_clean, clean_begins, end_clean}
+pub use Rattle.utf8.specs.Whole.{step, scan, whole, tail_byte, allowed_whole, begins_live}
+pub use Rattle.utf8.specs.Clean.{Clean, ret_clean, here_clean, byte_clean, sub_clean, char_clean, seq_clean, alt_clean, star_clean, plus_clean, map_clean, such_clean, indented_clean, run_clean, word_clean, end_clean}
 
 -- THE TEST. From the three bytes before the place: tail bytes are passed over until a character is seen to start
 abbrev pub catch : At → ℕ → At
@@ -93,7 +93,7 @@ module _ (s : List ℕ) (p : ℕ) (l : p < length s) (before : Begins Allowed (t
           nothing_before : (n : ℕ) → n ≡ 0 → scan start (take n (take p s)) ≡ start
           nothing_before n e = rw e refl
 
-  agree : scan start (take (suc p) s) ≡ step (caught start (three_before p s)) (get_or s p 0)
+  pub agree : scan start (take (suc p) s) ≡ step (caught start (three_before p s)) (get_or s p 0)
   agree =
       ap (scan start) (take-suc s p 0 l)
       ∙ (scan_append (take p s) (get_or s p 0 ∷ []) start ∙ sync_next (scan start (take p s)) (caught start (three_before p s)) (get_or s p 0) alive synced)
@@ -105,13 +105,6 @@ module _ (s : List ℕ) (p : ℕ) (l : p < length s) (before : Begins Allowed (t
       by : (x : Bool) → live (step (caught start (three_before p s)) (get_or s p 0)) ≡ x → pick x false true ≡ true → ⊥
       by true x y = clash y refl
       by false x y = clash (subst (λ (σ : At). live σ ≡ true) agree (begins_live (take (suc p) s) b)) x
-
-  pub char_no : bad_char p s ≡ false → Begins Allowed (take (suc p) s)
-  char_no e = by (live (step (caught start (three_before p s)) (get_or s p 0))) refl e
-    where
-      by : (x : Bool) → live (step (caught start (three_before p s)) (get_or s p 0)) ≡ x → pick x false true ≡ false → Begins Allowed (take (suc p) s)
-      by true x y = live_begins (take (suc p) s) (subst (λ (σ : At). live σ ≡ true) (sym agree) x)
-      by false x y = absurd (clash refl y)
 
 -- `a:` and a tab: CHAR 2. The bytes EF BB BF first: not CHAR at 0. A tail byte after a whole character of four bytes: CHAR
 t₁ : bad_char 2 (97 ∷ 58 ∷ 9 ∷ []) ≡ true

@@ -7,11 +7,11 @@ use Rattle.exact.specs.Ll.{Ll}
 use Rattle.exact.specs.Run.{Run, past, run_of, run_full, stay, ahead}
 use Rattle.language.specs.Characters.{Char, char, utf8}
 use Rattle.utf8.specs.Utf8.{At, live, full, next, start, Spelt, spelt_ll}
-use Rattle.utf8.specs.Spelling.{utf8_full, spell}
+use Rattle.utf8.specs.Spelling.{utf8_full}
 pub use Rattle.utf8.specs.Utf8.{char_r, char_s}
 
 module _ (plain : Class) where
-  past_is : (w : List ℕ) (at : ℕ) → past (next plain) full live at w ≡ at + length w
+  pub past_is : (w : List ℕ) (at : ℕ) → past (next plain) full live at w ≡ at + length w
   past_is [] at = omega arith
   past_is (b ∷ w) at = past_is w (suc at) ∙ omega arith
 
@@ -19,22 +19,6 @@ module _ (plain : Class) where
   char_spelt (char {at = at} {t = t} v e) =
       subst (λ a. Spelt plain at (utf8 v ++ t) (utf8 v) a t) (past_is (utf8 v) at) (run_of (next plain) full live (utf8 v) start at t (utf8_full plain v e))
 
-  run_shape : {σ : At} {at : ℕ} {s w : List ℕ} {at' : ℕ} {t : List ℕ} → Run (next plain) full live σ at s w at' t → (s ≡ w ++ t) × (at' ≡ at + length w)
+  pub run_shape : {σ : At} {at : ℕ} {s w : List ℕ} {at' : ℕ} {t : List ℕ} → Run (next plain) full live σ at s w at' t → (s ≡ w ++ t) × (at' ≡ at + length w)
   run_shape (stay {at = at} e) = (refl, omega arith)
   run_shape (ahead {b = b} x) = let i = run_shape x in (ap (b ∷◌) i.0, i.1 ∙ omega arith)
-
-  pub spelt_char : {at : ℕ} {s w : List ℕ} {at' : ℕ} {t : List ℕ} → Spelt plain at s w at' t → Char plain at s w at' t
-  spelt_char {at} {s} {w} {at'} {t} x =
-      let h = run_shape x in
-      let p = spell plain w (run_full (next plain) full live x) in
-      let u : Char plain at (w ++ t) w (at + length w) t = subst (λ u. Char plain at (u ++ t) u (at + length u) t) p.bytes (char p.value p.allowed) in
-      rw (h.0, h.1) u
-
-  pub char_ll : Ll (char_s plain) (Char plain) (char_r plain)
-  char_ll =
-      let l = spelt_ll plain in
-      record {
-        exact = exact_iff (λ at s v at' t x. spelt_char x) (λ at s v at' t x. char_spelt x) l.exact;
-        begun = λ at s v at' t x. l.begun at s v at' t (char_spelt x);
-        firm = l.firm;
-      }

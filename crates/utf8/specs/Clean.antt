@@ -11,7 +11,7 @@ use Rattle.exact.specs.Grow.{Sub}
 use Rattle.language.specs.Characters.{ascii, Char, char, character, wide, Allowed}
 use Rattle.utf8.specs.Char.{char_spelt}
 use Rattle.utf8.specs.Utf8.{At, Arrow, table, follow, full, Classes, start, ◌to-be◌}
-use Rattle.utf8.specs.Whole.{every, step, scan, whole, from_full, whole_run, whole_allowed}
+use Rattle.utf8.specs.Whole.{every, step, scan, whole, from_full, whole_run}
 
 -- A CLEAN LANGUAGE is one of whole allowed characters. The combinators keep this.
 pub record Clean {X : Type 0} (A : Lang X) : Type 0 where
@@ -120,14 +120,6 @@ run_clean {S} {next'} {full'} {live'} c h laws' g σ = record { clean = go }
 pub word_clean : (bs : List ℕ) → sub_all bs ≡ true → Clean (Word bs)
 word_clean [] h = ret_clean 0
 word_clean (b ∷ bs) h = let x = and_of (sub (only b) ascii) (sub_all bs) h in seq_clean (byte_clean (only b) x.0) λ _. word_clean bs x.1
-
--- what begins a word of a clean language, and what is whole characters after it, begins a sequence of allowed characters
-pub clean_begins : {X W : Type 0} {A : Lang X} (K : X → ℕ → Tail W) (at : ℕ) (u : List ℕ) → Clean A
-    → ((v : X) (a : ℕ) (t : List ℕ) (w : W) → K v a t w → whole (scan start t) ≡ true) → Begins (Then A K at) u → Begins Allowed u
-clean_begins K at u c k b =
-    let x = b.word in
-    let a = whole_allowed (u ++ b.more) (c.clean x.first (k x.value x.next x.rest b.value x.others)) in
-    record { more = b.more; value = a.0; word = a.1 }
 
 pub end_clean : {X : Type 0} {v : X} {a : ℕ} {t : List ℕ} {w : X} → End v a t w → whole (scan start t) ≡ true
 end_clean end = refl

@@ -9,7 +9,7 @@ use Rattle.language.specs.Characters.{character, utf8, wide}
 use Rattle.utf8.specs.Utf8.{At, leads, follow, finished, live, full, Classes, found, next, stuck, laws, start, done, dead}
 use Rattle.utf8.specs.Tails.{left_of, tail_byte, begun, left_live, tail_step}
 use Rattle.utf8.specs.OverNumbers.{says, through, says_yes}
-use Rattle.utf8.specs.Wide.{after_two, after_three, after_four, wide_least, two_wide, three_wide, four_wide, three_long, four_long}
+use Rattle.utf8.specs.Wide.{after_two, after_three, after_four, wide_least, two_wide, three_wide, four_wide, four_long}
 use Rattle.utf8.specs.States.{low_byte, lead_byte, to_state, state_two, state_three, state_four}
 
 -- the bytes of a number, by its length
@@ -26,15 +26,15 @@ module _ (v : ℕ) where
   pub utf8_four : 65535 < v → utf8 v ≡ (240 + v / 262144) ∷ (128 + v / 4096 % 64) ∷ (128 + v / 64 % 64) ∷ (128 + v % 64) ∷ []
   utf8_four l = rw (lt-leb v 127 (omega arith), lt-leb v 2047 (omega arith), lt-leb v 65535 l) refl
 
-left_one : says (λ σ. eqb (left_of σ) 1) leads 194 223 ≡ true
+pub left_one : says (λ σ. eqb (left_of σ) 1) leads 194 223 ≡ true
 unfolding says through
 left_one = refl
 
-left_two : says (λ σ. eqb (left_of σ) 2) leads 224 239 ≡ true
+pub left_two : says (λ σ. eqb (left_of σ) 2) leads 224 239 ≡ true
 unfolding says through
 left_two = refl
 
-left_three : says (λ σ. eqb (left_of σ) 3) leads 240 244 ≡ true
+pub left_three : says (λ σ. eqb (left_of σ) 3) leads 240 244 ≡ true
 unfolding says through
 left_three = refl
 
@@ -98,21 +98,21 @@ module _ (plain : Class) where
     pub allowed : character plain value ≡ true
     pub bytes : utf8 value ≡ w
 
-  steps_live : (w : List ℕ) (σ : At) → full (steps (next plain) full live σ w) ≡ true → live σ ≡ true
+  pub steps_live : (w : List ℕ) (σ : At) → full (steps (next plain) full live σ w) ≡ true → live σ ≡ true
   steps_live w σ e = lives (next plain) full live (laws plain) (run_of (next plain) full live w σ 0 [] e)
 
   -- one tail byte more
-  record Onward (σ : At) (w : List ℕ) : Type 0 where
-    tail : ℕ
-    more : List ℕ
-    splits : w ≡ tail ∷ more
-    low : 128 ≤ tail
-    high : tail ≤ 191
-    less : suc (left_of (next plain σ tail)) ≡ left_of σ
-    goes : begun (next plain σ tail) ≡ true
-    ends : full (steps (next plain) full live (next plain σ tail) more) ≡ true
+  pub record Onward (σ : At) (w : List ℕ) : Type 0 where
+    pub tail : ℕ
+    pub more : List ℕ
+    pub splits : w ≡ tail ∷ more
+    pub low : 128 ≤ tail
+    pub high : tail ≤ 191
+    pub less : suc (left_of (next plain σ tail)) ≡ left_of σ
+    pub goes : begun (next plain σ tail) ≡ true
+    pub ends : full (steps (next plain) full live (next plain σ tail) more) ≡ true
 
-  onward : (w : List ℕ) (σ : At) → 1 ≤ left_of σ → full (steps (next plain) full live σ w) ≡ true → Onward σ w
+  pub onward : (w : List ℕ) (σ : At) → 1 ≤ left_of σ → full (steps (next plain) full live σ w) ≡ true → Onward σ w
   onward [] σ l e = absurd (clash e (ap finished (left_live σ l)))
   onward (b ∷ w) σ l e = by (or_of (within (128 to 191) b) false t.0)
     where
@@ -125,7 +125,7 @@ module _ (plain : Class) where
           record { tail = b; more = w; splits = refl; low = r.0; high = r.1; less = t.1; goes = t.2; ends = e }
       by (inr x) = absurd (clash x refl)
 
-  at_last : (w : List ℕ) (σ : At) → begun σ ≡ true → left_of σ ≡ 0 → full (steps (next plain) full live σ w) ≡ true → w ≡ []
+  pub at_last : (w : List ℕ) (σ : At) → begun σ ≡ true → left_of σ ≡ 0 → full (steps (next plain) full live σ w) ≡ true → w ≡ []
   at_last [] σ g l e = refl
   at_last (b ∷ w) σ g l e = absurd (by (or_of (full σ) (leb 1 (left_of σ)) g))
     where
@@ -133,7 +133,7 @@ module _ (plain : Class) where
       by (inl x) = clash x (ap finished (stuck plain σ b (steps_live w (next plain σ b) e)))
       by (inr x) = omega (arith, leb-true 1 (left_of σ) x)
 
-  character_wide : (v : ℕ) → 127 < v → wide v ≡ true → character plain v ≡ true
+  pub character_wide : (v : ℕ) → 127 < v → wide v ≡ true → character plain v ≡ true
   character_wide v l e = rw (lt-leb v 127 l) e
 
   tail_of : (n b : ℕ) → 128 ≤ b → b ≤ 191 → 128 + (64 * n + (b - 128)) % 64 ≡ b
@@ -147,26 +147,6 @@ module _ (plain : Class) where
       let p : 192 + v / 64 ≡ a = omega arith in
       let q : 128 + v % 64 ≡ b = omega arith in
       record { value = v; allowed = character_wide v (omega arith) w; bytes = utf8_two v (omega arith) (omega arith) ∙ cc }
-
-  spelling_three : (a b c v : ℕ) → 224 ≤ a → a ≤ 239 → 128 ≤ b → b ≤ 191 → 128 ≤ c → c ≤ 191 → v ≡ 4096 * (a - 224) + 64 * (b - 128) + (c - 128)
-      → full (to_state plain (a ∷ b ∷ c ∷ [])) ≡ true → Spelling (a ∷ b ∷ c ∷ [])
-  spelling_three a b c v la ha lb hb lc hc d e =
-      let n : 917504 + v ≡ 64 * (64 * a + (b - 128)) + (c - 128) = omega arith in
-      let f : full (follow (after_three plain) (917504 + v)) ≡ true =
-      ap (λ m. full (follow (after_three plain) m)) n ∙ (ap full (sym (state_three plain a b c (omega arith) lb hb lc hc)) ∙ e) in
-      let l = longer f (dec_le v 2047) in
-      let p : 224 + v / 4096 ≡ a = omega arith in
-      let q : 128 + v / 64 % 64 ≡ b = omega arith in
-      let r : 128 + v % 64 ≡ c = omega arith in
-      record {
-        value = v;
-        allowed = character_wide v (omega arith) (sym (three_wide plain v l (omega arith)) ∙ f);
-        bytes = utf8_three v l (omega arith) ∙ cc;
-      }
-    where
-      longer : full (follow (after_three plain) (917504 + v)) ≡ true → Dec (v ≤ 2047) → 2047 < v
-      longer f (yes x) = absurd (clash f (three_long plain v x))
-      longer f (no x) = omega arith
 
   spelling_four : (a b c d v : ℕ) → 240 ≤ a → a ≤ 244 → 128 ≤ b → b ≤ 191 → 128 ≤ c → c ≤ 191 → 128 ≤ d → d ≤ 191
       → v ≡ 262144 * (a - 240) + 4096 * (b - 128) + 64 * (c - 128) + (d - 128)
@@ -193,37 +173,29 @@ module _ (plain : Class) where
       longer f (no x) = omega arith
 
   module _ (a : ℕ) (w : List ℕ) (e : full (to_state plain (a ∷ w)) ≡ true) where
-    spell_low : a ≤ 127 → Spelling (a ∷ w)
+    pub spell_low : a ≤ 127 → Spelling (a ∷ w)
     spell_low h = by (is plain a) refl (subst (λ σ. full (steps (next plain) full live σ w) ≡ true) (low_byte plain a h) e)
       where
         by : (x : Bool) → is plain a ≡ x → full (steps (next plain) full live (pick x done dead) w) ≡ true → Spelling (a ∷ w)
         by true x f = record { value = a; allowed = rw (le-leb a 127 h) x; bytes = utf8_one a h ∙ ap (a ∷◌) (sym (at_last w done refl refl f)) }
         by false x f = absurd (clash (steps_live w dead f) refl)
 
-    lead_left : (k l h : ℕ) → says (λ σ. eqb (left_of σ) k) leads l h ≡ true → 128 ≤ a → l ≤ a → a ≤ h → left_of (next plain start a) ≡ k
+    pub lead_left : (k l h : ℕ) → says (λ σ. eqb (left_of σ) k) leads l h ≡ true → 128 ≤ a → l ≤ a → a ≤ h → left_of (next plain start a) ≡ k
     lead_left k l h s m x y = ap left_of (lead_byte plain a m) ∙ eqb-true (left_of (follow leads a)) k (says_yes a (λ σ. eqb (left_of σ) k) leads l h s x y)
 
-    abbrev lead : At
+    abbrev pub lead : At
     lead = next plain start a
 
-    spelt_as : (u : List ℕ) → w ≡ u → (full (to_state plain (a ∷ u)) ≡ true → Spelling (a ∷ u)) → Spelling (a ∷ w)
+    pub spelt_as : (u : List ℕ) → w ≡ u → (full (to_state plain (a ∷ u)) ≡ true → Spelling (a ∷ u)) → Spelling (a ∷ w)
     spelt_as u f k = subst (λ v. Spelling (a ∷ v)) (sym f) (k (subst (λ v. full (to_state plain (a ∷ v)) ≡ true) f e))
 
-    by_two : 194 ≤ a → a ≤ 223 → left_of lead ≡ 1 → Onward lead w → Spelling (a ∷ w)
+    pub by_two : 194 ≤ a → a ≤ 223 → left_of lead ≡ 1 → Onward lead w → Spelling (a ∷ w)
     by_two l h n o =
         let z = at_last o.more (next plain lead o.tail) o.goes (omega (arith, o.less)) o.ends in
         spelt_as
         (o.tail ∷ [])
         (o.splits ∙ ap (o.tail ∷◌) z)
         (spelling_two a o.tail (64 * (a - 192) + (o.tail - 128)) l h o.low o.high refl)
-
-    by_three : 224 ≤ a → a ≤ 239 → left_of lead ≡ 2 → (o : Onward lead w) → Onward (next plain lead o.tail) o.more → Spelling (a ∷ w)
-    by_three l h n o p =
-        let z = at_last p.more (next plain (next plain lead o.tail) p.tail) p.goes (omega (arith, o.less, p.less)) p.ends in
-        spelt_as
-        (o.tail ∷ p.tail ∷ [])
-        (o.splits ∙ ap (o.tail ∷◌) (p.splits ∙ ap (p.tail ∷◌) z))
-        (spelling_three a o.tail p.tail (4096 * (a - 224) + 64 * (o.tail - 128) + (p.tail - 128)) l h o.low o.high p.low p.high refl)
 
     by_four : 240 ≤ a → a ≤ 244 → left_of lead ≡ 3 → (o : Onward lead w) → (p : Onward (next plain lead o.tail) o.more)
         → Onward (next plain (next plain lead o.tail) p.tail) p.more → Spelling (a ∷ w)
@@ -255,7 +227,7 @@ module _ (plain : Class) where
         refl)
 
     -- one byte after another
-    third : (o : Onward lead w) → 2 ≤ left_of lead → Onward (next plain lead o.tail) o.more
+    pub third : (o : Onward lead w) → 2 ≤ left_of lead → Onward (next plain lead o.tail) o.more
     third o n = onward o.more (next plain lead o.tail) (omega (arith, o.less)) o.ends
 
     fourth : (o : Onward lead w) (p : Onward (next plain lead o.tail) o.more) → 3 ≤ left_of lead → Onward (next plain (next plain lead o.tail) p.tail) p.more
@@ -264,40 +236,11 @@ module _ (plain : Class) where
     four_from : 240 ≤ a → a ≤ 244 → left_of lead ≡ 3 → (o : Onward lead w) → Onward (next plain lead o.tail) o.more → Spelling (a ∷ w)
     four_from l h n o p = by_four l h n o p (fourth o p (omega arith))
 
-    spell_two : 194 ≤ a → a ≤ 223 → Spelling (a ∷ w)
+    pub spell_two : 194 ≤ a → a ≤ 223 → Spelling (a ∷ w)
     spell_two l h = let n = lead_left 1 194 223 left_one (omega arith) l h in by_two l h n (onward w lead (omega arith) e)
 
-    spell_three : 224 ≤ a → a ≤ 239 → Spelling (a ∷ w)
-    spell_three l h =
-        let n = lead_left 2 224 239 left_two (omega arith) l h in
-        let o = onward w lead (omega arith) e in
-        by_three l h n o (third o (omega arith))
-
-    spell_four : 240 ≤ a → a ≤ 244 → Spelling (a ∷ w)
+    pub spell_four : 240 ≤ a → a ≤ 244 → Spelling (a ∷ w)
     spell_four l h =
         let n = lead_left 3 240 244 left_three (omega arith) l h in
         let o = onward w lead (omega arith) e in
         four_from l h n o (third o (omega arith))
-
-    spell_high : 128 ≤ a → Spelling (a ∷ w)
-    spell_high m = by (or_of (within (194 to 244) a) false (inside (Classes leads) ((194 to 244) ∷ []) a refl (found leads a lived)))
-      where
-        lived : live (follow leads a) ≡ true
-        lived = subst (λ σ. live σ ≡ true) (lead_byte plain a m) (steps_live w (next plain start a) e)
-
-        among : 194 ≤ a → a ≤ 244 → Dec (a ≤ 223) → Dec (a ≤ 239) → Spelling (a ∷ w)
-        among l h (yes x) y = spell_two l x
-        among l h (no x) (yes y) = spell_three (omega arith) y
-        among l h (no x) (no y) = spell_four (omega arith) h
-
-        by : (within (194 to 244) a ≡ true) ⊎ (false ≡ true) → Spelling (a ∷ w)
-        by (inl x) = let r = range_of 194 244 a x in among r.0 r.1 (dec_le a 223) (dec_le a 239)
-        by (inr x) = absurd (clash x refl)
-
-    spell_any : Dec (a ≤ 127) → Spelling (a ∷ w)
-    spell_any (yes h) = spell_low h
-    spell_any (no h) = spell_high (omega arith)
-
-  pub spell : (w : List ℕ) → full (to_state plain w) ≡ true → Spelling w
-  spell [] e = absurd (clash e refl)
-  spell (a ∷ w) e = spell_any a w e (dec_le a 127)

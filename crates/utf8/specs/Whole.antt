@@ -7,7 +7,7 @@ use Rattle.exact.specs.Lang.{End, end}
 use Rattle.exact.specs.Comb.{Star, nil, cons}
 use Rattle.exact.specs.Run.{Run, lives, stay, ahead}
 use Rattle.language.specs.Characters.{ascii, Char, Allowed}
-use Rattle.utf8.specs.Char.{spelt_char, char_spelt}
+use Rattle.utf8.specs.Char.{char_spelt}
 pub use Rattle.utf8.specs.Tails.{left_of, tail_byte, every, followed, begun, left_live, left_most, full_done, tail_step}
 use Rattle.utf8.specs.Utf8.{At, table, Kind, kind, lively, live, full, next, stuck, laws, start, done, dead, one_more, two_more, after_c2, after_e0, after_ed, after_ef, after_ef_b7, after_f0, after_f1, after_f4, plane_end, last, char_end, char_lost, char_inside}
 
@@ -119,64 +119,20 @@ allowed_whole s w x = star_whole x.first (at_end x.others)
     at_end end = refl
 
 -- the rest of the text from between two characters, and from inside one
-record Rest (at : ℕ) (s : List ℕ) : Type 0 where
-  chars : List (List ℕ)
-  stop_at : ℕ
-  read : Star (Char ascii) at s chars stop_at []
+pub record Rest (at : ℕ) (s : List ℕ) : Type 0 where
+  pub chars : List (List ℕ)
+  pub stop_at : ℕ
+  pub read : Star (Char ascii) at s chars stop_at []
 
-record Rest-in (σ : At) (at : ℕ) (s : List ℕ) : Type 0 where
-  bytes : List ℕ
-  middle : ℕ
-  rest : List ℕ
-  char : Run (next ascii) full live σ at s bytes middle rest
-  others : Rest middle rest
-
--- one byte more
-module _ (b : ℕ) (s : List ℕ) (at : ℕ) (ih : (σ : At) → begun σ ≡ true → whole (scan σ s) ≡ true → Rest-in σ (suc at) s) where
-  rest_here : whole (scan start (b ∷ s)) ≡ true → Rest at (b ∷ s)
-  rest_here e =
-      let o = outside_step start b refl refl (scan_back s (step start b) (whole_of (scan (step start b) s) e).0) in
-      let r = ih (next ascii start b) o.2 e in
-      record { chars = (b ∷ r.bytes) ∷ r.others.chars; stop_at = r.others.stop_at; read = cons (spelt_char ascii (ahead r.char)) r.others.read }
-
-  rest_inside : (σ : At) → begun σ ≡ true → whole (scan σ (b ∷ s)) ≡ true → Rest-in σ at (b ∷ s)
-  rest_inside σ g e = by (or_of (full σ) (leb 1 (left_of σ)) g)
-    where
-      by : (full σ ≡ true) ⊎ (leb 1 (left_of σ) ≡ true) → Rest-in σ at (b ∷ s)
-      by (inl f) =
-          record {
-            bytes = [];
-            middle = at;
-            rest = b ∷ s;
-            char = stay f;
-            others = rest_here (subst (λ (τ : At). whole (scan τ (b ∷ s)) ≡ true) (full_done σ f) e);
-          }
-      by (inr l) =
-          let i = inside_step σ b (leb-true 1 (left_of σ) l) (scan_back s (step σ b) (whole_of (scan (step σ b) s) e).0) in
-          let r = ih (next ascii σ b) (subst (λ (τ : At). begun τ ≡ true) i.0 i.3) (subst (λ (τ : At). whole (scan τ s) ≡ true) i.0 e) in
-          record { bytes = b ∷ r.bytes; middle = r.middle; rest = r.rest; char = ahead r.char; others = r.others }
-
-rests : (s : List ℕ) (at : ℕ) → (whole (scan start s) ≡ true → Rest at s) × ((σ : At) → begun σ ≡ true → whole (scan σ s) ≡ true → Rest-in σ at s)
-rests [] at = ((λ e. here), inside_of)
-  where
-    here : Rest at []
-    here = record { chars = []; stop_at = at; read = nil }
-
-    inside_of : (σ : At) → begun σ ≡ true → whole σ ≡ true → Rest-in σ at []
-    inside_of σ b e = by (or_of (full σ) (leb 1 (left_of σ)) b)
-      where
-        by : (full σ ≡ true) ⊎ (leb 1 (left_of σ) ≡ true) → Rest-in σ at []
-        by (inl f) = record { bytes = []; middle = at; rest = []; char = stay f; others = here }
-        by (inr l) = absurd (omega (arith, leb-true 1 (left_of σ) l, (whole_of σ e).1))
-rests (b ∷ s) at = (rest_here b s at (rests s (suc at)).1, rest_inside b s at (rests s (suc at)).1)
-
-pub whole_allowed : (s : List ℕ) → whole (scan start s) ≡ true → (w : List (List ℕ)) × Allowed s w
-whole_allowed s e =
-    let r = (rests s 0).0 e in
-    (r.chars, record { value = r.chars; next = r.stop_at; rest = []; first = r.read; others = end })
+pub record Rest-in (σ : At) (at : ℕ) (s : List ℕ) : Type 0 where
+  pub bytes : List ℕ
+  pub middle : ℕ
+  pub rest : List ℕ
+  pub char : Run (next ascii) full live σ at s bytes middle rest
+  pub others : Rest middle rest
 
 -- what is alive has an end
-ends : (σ : At) → live σ ≡ true → (w : List ℕ) × (whole (scan σ w) ≡ true)
+pub ends : (σ : At) → live σ ≡ true → (w : List ℕ) × (whole (scan σ w) ≡ true)
 ends start e = ([], refl)
 ends done e = ([], refl)
 ends dead e = absurd (clash e refl)
@@ -199,9 +155,3 @@ begins_live u b =
     b.more
     (scan start u)
     (subst (λ (σ : At). live σ ≡ true) (scan_append u b.more start) (whole_of (scan start (u ++ b.more)) (allowed_whole (u ++ b.more) b.value b.word)).0)
-
-pub live_begins : (u : List ℕ) → live (scan start u) ≡ true → Begins Allowed u
-live_begins u e =
-    let w = ends (scan start u) e in
-    let a = whole_allowed (u ++ w.0) (subst (λ (σ : At). whole σ ≡ true) (sym (scan_append u w.0 start)) w.1) in
-    record { more = w.0; value = a.0; word = a.1 }

@@ -117,11 +117,6 @@ module _ (plain : Class) where
   unfolding push spread block image through says agrees wide_class planes
   ends_four = refl
 
-  -- an overlong form is none
-  overlong_three : says lacks after_three 917504 919551 ≡ true
-  unfolding push spread block image through says
-  overlong_three = refl
-
   overlong_four : says lacks after_four 62914560 62980095 ≡ true
   unfolding push spread block image through says
   overlong_four = refl
@@ -135,9 +130,6 @@ module _ (plain : Class) where
 
     pub four_wide : 65536 ≤ v → v ≤ 1310719 → full (follow after_four (62914560 + v)) ≡ wide v
     four_wide l h = agreed after_four 62914560 1310719 v h wide_class 65536 ends_four l ∙ wide_is v
-
-    pub three_long : v ≤ 2047 → full (follow after_three (917504 + v)) ≡ false
-    three_long h = lacks_no (follow after_three (917504 + v)) (says_yes (917504 + v) lacks after_three 917504 919551 overlong_three (omega arith) (omega arith))
 
     pub four_long : v ≤ 65535 → full (follow after_four (62914560 + v)) ≡ false
     four_long h = lacks_no (follow after_four (62914560 + v)) (says_yes (62914560 + v) lacks after_four 62914560 62980095 overlong_four (omega arith) (omega arith))

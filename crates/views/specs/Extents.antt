@@ -4,7 +4,8 @@ use Rattle.std.proofs.Common.{sym, ap, ap₂, subst, ◌∙◌, append_assoc, ar
 use Rattle.std.proofs.Math.Decide.{dec_le}
 use Rattle.std.proofs.Math.Seq.{slice, length-slice}
 use Rattle.stored.specs.Form.{tagged, head, widest, PART, cut}
-use Rattle.stored.specs.Parts.{widest_is, Fields, field_apart, cut_short, cut_long, cut_length}
+use Rattle.stored.specs.Parts.{widest_is, Fields, field_apart}
+use Rattle.stored.proofs.PartsLaws.{cut_short, cut_long, cut_length}
 use Rattle.stored.specs.Bytes.{At, at_left, at_right, at_byte, at_join, at_as, slice_at}
 use Rattle.views.specs.declared.parts.Span.{Span}
 use Rattle.views.specs.declared.parts.Span.TheVariants.{Of, Nothing}

@@ -7,7 +7,8 @@ use Rattle.std.proofs.Math.Decide.{dec_le}
 use Rattle.std.proofs.Math.ListN.{length, get_or, length-take, length-drop, get_or-append}
 use Rattle.std.proofs.Math.Seq.{get_or-drop, get_or-take, length-take-le, take-append-add}
 use Rattle.stored.specs.Form.{tagged, head, widest, PART, cut, inside}
-use Rattle.stored.specs.Parts.{widest_some, cut_short, cut_long, cut_length, Parts, end, part, parts, inside_first, inside_later}
+use Rattle.stored.specs.Parts.{widest_some, Parts, end, part, parts, inside_first, inside_later}
+use Rattle.stored.proofs.PartsLaws.{cut_short, cut_long, cut_length}
 use Rattle.stored.specs.Bytes.{At}
 
 -- the heads, one before each 65,535 bytes, taken out; there are fewer of them than bytes

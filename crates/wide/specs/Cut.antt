@@ -9,9 +9,10 @@ use Rattle.language.specs.Tree.{unescaped, Tree, leaf, node, Forest, none, more,
 use Rattle.shaped.specs.Shaped.{Scripted, Scalar, is_null, is_false, is_true, is_an_integer, is_float, is_string, is_bytes, Shaped, shaped_leaf, shaped_array, shaped_object}
 use Rattle.shaped.specs.Once.{alike_once}
 use Rattle.stored.specs.Form.{PART, tag, cut, content, forms, form}
-use Rattle.stored.specs.Parts.{Fields, cut_apart}
+use Rattle.stored.specs.Parts.{Fields}
+use Rattle.stored.proofs.PartsLaws.{cut_apart}
 use Rattle.stored.specs.Lengths.{scalar_content}
-use Rattle.stored.specs.Apart.{form_apart}
+use Rattle.stored.proofs.ApartLaws.{form_apart}
 use Rattle.stored.specs.Bytes.{At, at_as}
 use Rattle.sound.specs.Distinct.{Distinct, once_distinct, leaf_once}
 use Rattle.sound.specs.Members.{Sane, One, IsKey, is_a_key, Member, container_kind, Many, many_pairs, contained, array_many, object_many, array_distinct}

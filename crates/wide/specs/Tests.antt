@@ -7,7 +7,8 @@ use Rattle.std.proofs.Math.ListN.{length, length-append}
 use Rattle.language.specs.Kind.{KEY}
 use Rattle.language.specs.Tree.{Decoded, Tree, leaf, node, Forest, none, more, size, sizes, text_of, texts_of}
 use Rattle.stored.specs.Form.{PART, tag, cut, content, forms, form}
-use Rattle.stored.specs.Parts.{Fields, cut_apart}
+use Rattle.stored.specs.Parts.{Fields}
+use Rattle.stored.proofs.PartsLaws.{cut_apart}
 use Rattle.stored.specs.Bytes.{At, at_left, at_right, at_join, at_as, at_place}
 use Rattle.sound.specs.Members.{Sane, One, one, IsKey, is_a_key, Member, pair, element}
 use Rattle.wide.specs.declared.Walked.{Walked}

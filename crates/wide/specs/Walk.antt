@@ -7,9 +7,9 @@ use Rattle.std.proofs.Math.ListN.{length, drop}
 use Rattle.language.specs.Tree.{Tree, Forest, none, more, sizes, text_of, texts_of}
 use Rattle.shaped.specs.Beside.{beside, beside_size}
 use Rattle.stored.specs.Form.{content, forms, form}
-use Rattle.stored.specs.Apart.{form_apart}
+use Rattle.stored.proofs.ApartLaws.{form_apart}
 use Rattle.stored.specs.Unspanned.{form_alike}
-use Rattle.stored.specs.Lengths.{forms_length, form_longer}
+use Rattle.stored.proofs.LengthsLaws.{forms_length, form_longer}
 use Rattle.stored.specs.Bytes.{At, at_left, at_right, at_join, at_as, at_place}
 use Rattle.sound.specs.Members.{Sane, Member, pair, element, Many, many_none, many_more, many_last}
 use Rattle.wide.specs.declared.Walked.{Walked}

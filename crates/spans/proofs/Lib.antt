@@ -1,0 +1,11 @@
+pub mod BeginsLaws
+pub mod BlocksLaws
+pub mod BodyLaws
+pub mod DocumentLaws
+pub mod FormedLaws
+pub mod InlineLaws
+pub mod LiesLaws
+pub mod PartsLaws
+pub mod RisingLaws
+pub mod ScalarsLaws
+pub mod StringsLaws

@@ -1,0 +1,14 @@
+pub mod AnsweringLaws
+pub mod ApartLaws
+pub mod BackLaws
+pub mod CasesLaws
+pub mod FieldsLaws
+pub mod KeepsLaws
+pub mod LengthsLaws
+pub mod OldApartLaws
+pub mod OldFilesLaws
+pub mod OldFormsLaws
+pub mod OldLengthsLaws
+pub mod PartsLaws
+pub mod UniqueLaws
+pub mod VectorsLaws
