@@ -1,5 +1,4 @@
 -- THE FIELDS OF A CONTENT, SOME AFTER OTHERS: those of a run are filled as those of a short file (`pass_steps`), some after others make all (`left_more`, `left_end`), and those of the file make the whole (`root_filled`). Assumes nothing.
-use denote.Slice.{shr_slice_at}
 use Rattle.std.specs.Prelude.{◌≡◌, refl, List, [], take}
 use Rattle.std.proofs.Math.Path.{sym, ap}
 use Rattle.std.proofs.Common.{subst, ◌∙◌, append-nil}
@@ -15,7 +14,7 @@ use Rattle.stored.specs.Form.{widest, tag, content, forms, form, placed, placeds
 use Rattle.stored.specs.Parts.{widest_is}
 use Rattle.stored.proofs.LengthsLaws.{forms_length, form_longer, few_rows, few_text}
 use Rattle.stored.specs.Old as old
-use Rattle.stored.specs.Bytes.{At, at_left, at_right, at_as, at_place, at-slice}
+use Rattle.stored.specs.Bytes.{At, at_left, at_right, at_as, at_place, at_slice}
 use Rattle.fields.specs.Puts.{puts_as}
 use Rattle.views.specs.Views.{viewed, view_file, view_less}
 use Rattle.views.specs.Spans.{Lies}
@@ -78,7 +77,7 @@ module _ (stored starts : List ℕ) (d at stop r p x : ℕ) (h : FillCut stored 
         slice_front stored place w.left e w.near.inside short
         ∙ (ap (take e) (sym w.near.is)
         ∙ (sym (slice_front v at w.left e fits short)
-        ∙ (shr_slice_at {e = at + e} (forms front) front_at (omega (arith, split.long)) (let s = short in let f = fits in omega arith) ∙ run_forms front narrow)))
+        ∙ (at_slice {e = at + e} (forms front) front_at (omega (arith, split.long)) (let s = short in let f = fits in omega arith) ∙ run_forms front narrow)))
 
     long : length (old.forms front) ≡ e
     long = sym (ap length (run_forms front narrow)) ∙ split.long

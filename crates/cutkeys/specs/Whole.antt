@@ -1,5 +1,4 @@
 -- KEYS THAT STAND WHOLE in the stored bytes (`whole_at`): places grow by one a byte at least (`place_grows`), so that a text whose last byte stands no farther than its bytes need stands there one behind another (`whole_text`). Assumes nothing.
-use denote.Slice.{shr_slice_at}
 use Rattle.std.specs.Prelude.{◌≡◌, List, [], ◌∷◌, Bool, true, false, ℕ, zero, suc, ◌+◌, ◌-◌, ◌*◌, ◌/◌, ◌%◌, ◌≤◌, ◌<◌, leb, eqb, length, get_or, take, drop}
 use Rattle.std.proofs.Math.Path.{refl}
 use Rattle.std.proofs.Common.{sym, ap, ap₂, subst, ◌∙◌, arith, drop-drop, Fits, leb-true, leb-false, le-leb, eqb-true, eq-eqb, ne_eqb}
@@ -13,7 +12,7 @@ use Rattle.language.specs.Kind.{pick}
 use Rattle.stored.specs.Form.{tagged, head, widest, inside, cut}
 use Rattle.stored.specs.Parts.{widest_is}
 use Rattle.stored.proofs.PartsLaws.{cut_short, cut_length}
-use Rattle.stored.specs.Bytes.{At, at_as, at_right, at-slice}
+use Rattle.stored.specs.Bytes.{At, at_as, at_right, at_slice}
 use Rattle.distinct.specs.Names.{Part}
 use Rattle.distinct.specs.Roads.{Road}
 use Rattle.views.specs.Views.{viewed, place_of, view_place, view_less, Seen, Reached, run_slice}
@@ -128,7 +127,7 @@ module _ (stored starts : List ℕ) (d : ℕ) where
     text_short l =
         let e = cut_short s.kind s.inner (omega (arith, size_is, widest_is)) in
         let x : At v (p + 3) s.inner = at_right v {n = 3} (s.kind ∷ length s.inner / 256 ∷ length s.inner % 256 ∷ []) s.inner refl (at_as e s.here) in
-        text_of v s.kind s.inner s.true_tag s.here ∙ sym (shr_slice_at {e = p + 3 + size_of v p} s.inner x (omega (arith, size_is)) (let i = text_inside in omega (arith, f.fits)))
+        text_of v s.kind s.inner s.true_tag s.here ∙ sym (at_slice {e = p + 3 + size_of v p} s.inner x (omega (arith, size_is)) (let i = text_inside in omega (arith, f.fits)))
 
     module _ (w : whole_at p ≡ true) where
       facts : (size_of v p ≤ 65535) × (place_of starts d (p + 2 + size_of v p) ≡ place_of starts d (p + 2) + size_of v p)

@@ -16,7 +16,6 @@ use Rattle.spans.specs.Placed.{Among, among_first, among_later, child, Within, i
 use Rattle.spans.specs.Kinds.{Either, within_either}
 use Rattle.found.specs.Objects.{RowOf, own, within, RowAmong, in_first, in_further, Pair, pair, Pairs, no_pair, one_pair, ObjectAt, object_at}
 use Rattle.found.specs.Rows.{Placed, leaf_word, node_word}
-
 use Rattle.found.specs.Walks.{object_row}
 use Rattle.found.specs.Find.{Filled, placed, enough}
 

@@ -21,7 +21,6 @@ use Rattle.spans.proofs.BeginsLaws.{begins_ascii}
 use Rattle.lined.specs.Back.{lines_back}
 use Rattle.found.specs.Objects.{RowOf, Pair, Holds, ObjectAt}
 use Rattle.found.specs.Stands.{stands_first}
-
 use Rattle.found.specs.Once.{Once, once}
 use Rattle.found.specs.Find.{Filled, Answers, answers}
 use Rattle.found.specs.Kinds.{Object}

@@ -1,5 +1,4 @@
 -- WHAT TESTING THE WHOLE TELLS (`Told`), of stored bytes that one field holds and of more: nothing may stand behind the root's field. Assumes nothing.
-use denote.Slice.{shr_slice_at}
 use Rattle.std.specs.Prelude.{◌≡◌, refl, List, [], ℕ, ◌+◌, ◌-◌, ◌*◌, ◌≤◌, ◌<◌, length}
 use Rattle.std.proofs.Common.{sym, ap, subst, ◌∙◌, append-nil, arith, rules}
 use Rattle.std.proofs.Math.Seq.{slice, take-length}
@@ -11,7 +10,7 @@ use Rattle.stored.specs.Parts.{widest_is}
 use Rattle.uncut.specs.Short.{longest}
 use Rattle.stored.specs.Old as old
 use Rattle.stored.proofs.OldLengthsLaws.{short_old, short_now, form_length}
-use Rattle.stored.specs.Bytes.{At, at_as, at-slice}
+use Rattle.stored.specs.Bytes.{At, at_as, at_slice}
 use Rattle.stored.proofs.ApartLaws.{form_apart}
 use Rattle.stored.specs.Unspanned.{form_alike}
 use Rattle.stored.specs.Loaded.{Kept}
@@ -42,7 +41,7 @@ module _ (stored : List ℕ) where
   -- the tree that stands from the beginning to the end
   one_told : (t : Tree) (n b : ℕ) → Sane deepest t → At stored 0 (form t) → length (form t) ≡ length stored → n ≡ size t → b ≡ length (text_of t) → length stored ≤ lent → Told stored n b
   one_told t n b s h l r x f =
-      let z : slice 0 (length stored) stored ≡ form t = shr_slice_at {e = length stored} (form t) h (omega arith) (omega arith) in
+      let z : slice 0 (length stored) stored ≡ form t = at_slice {e = length stored} (form t) h (omega arith) (omega arith) in
       record {
         bad = λ e. absurd (omega (arith, size_some t));
         good = λ e. record { tree = t; found = record { shaped = s.shaped; once = s.once; bytes = sym z ∙ take-length stored }; rows = sym r; bytes = sym x; few = f };

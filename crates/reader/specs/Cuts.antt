@@ -13,6 +13,7 @@ use Rattle.places.specs.Chosen.{count_none}
 -- ---- keys twice, in a list that is cut
 
 pub twice_across : {q a p : ℕ} {s : List ℕ} (xs ys : List Named) → In q a s xs → In q p s ys → Twice p (xs ++ ys)
+twice_across {q = q} {a = a} {p = p} {s = s} [] ys x'' y = elim x'' [ ]
 twice_across (_ ∷ xs) ys in_here y = twice_here (in_right xs ys y)
 twice_across (_ ∷ xs) ys (in_later x) y = twice_later (twice_across xs ys x y)
 
@@ -53,14 +54,17 @@ twice_in (twice_later x) = let y = twice_in x in record { object = y.object; tex
 -- ---- keys that stand in a document one behind another
 
 pub in_from : {doc : List ℕ} {a e q p : ℕ} {s : List ℕ} {ns : List Named} → Keys doc a ns e → In q p s ns → a ≤ p
+in_from {doc = doc} {q = q} {p = p} {s = s} (Rattle.named.specs.Lie.keys_none {a = a} {e = e} _) x6 = elim x6 [ ]
 in_from (keys_more h k y) in_here = h
 in_from (keys_more h k y) (in_later i) = let z = in_from y i in omega (arith, k.ahead)
 
 pub in_inside : {doc : List ℕ} {a e q p : ℕ} {s : List ℕ} {ns : List Named} → Keys doc a ns e → In q p s ns → p < length doc
+in_inside {doc = doc} {q = q} {p = p} {s = s} (Rattle.named.specs.Lie.keys_none {a = a} {e = e} _) x6 = elim x6 [ ]
 in_inside (keys_more h k y) in_here = omega (arith, k.ahead, k.inside)
 in_inside (keys_more h k y) (in_later i) = in_inside y i
 
 pub in_order : {doc : List ℕ} {a e q p r b : ℕ} {s t : List ℕ} (xs ys : List Named) → Keys doc a (xs ++ ys) e → In q p s xs → In r b t ys → p < b
+in_order {doc = doc} {a = a} {e = e} {q = q} {p = p} {r = r} {b = b} {s = s} {t = t} [] ys _ x4 j = elim x4 [ ]
 in_order (_ ∷ xs) ys (keys_more h k y) in_here j = let z = in_from y (in_right xs ys j) in omega (arith, k.ahead)
 in_order (_ ∷ xs) ys (keys_more h k y) (in_later i) j = in_order xs ys y i j
 

@@ -12,8 +12,6 @@ use Rattle.spans.specs.Placed.{Within}
 use Rattle.spans.specs.Formed.{Formed}
 use Rattle.spans.specs.Lies.{Lies}
 use Rattle.spans.specs.Texts.{option_goes, line_comment_goes}
-
-
 use Rattle.spans.specs.Blocks.{OnLines, Roomy}
 use Rattle.spans.specs.Document.{comments_go}
 use Rattle.spans.specs.Words.{Moves, alt_words, ret_values, skip, moves_by, extends_moves, seq_moves, byte_moves, word_moves}
@@ -62,5 +60,4 @@ module _ (doc : List ℕ) where
         doc
         (λ a. seq_starts (word_starts (45 ∷ 32 ∷ []) refl))
         (λ a h. behind doc (word_moves (45 ∷ 32 ∷ [])) (λ w. last doc g (λ v hv. ret_values (h, hv))))
-
-  -- ---- documents
+    -- ---- documents

@@ -9,10 +9,6 @@ use Rattle.spans.specs.Formed.{Formed, IsKey}
 use Rattle.spans.specs.Lies.{LiesIn, Lies, ElementsLie, PairsLie, elements_none, pairs_none}
 use Rattle.spans.specs.Texts.{option_goes, line_comment_goes}
 
-
-
-
-
 -- what was read of lines has a byte to spare: an LF, a dash or a colon
 abbrev pub OnLines : Lang Tree → Type 0
 OnLines A = (at : ℕ) → Every A at (LiesIn Formed 1 1 at)

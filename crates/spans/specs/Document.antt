@@ -15,7 +15,6 @@ use Rattle.spans.specs.Keys.{keys_in}
 use Rattle.spans.specs.Kinds.{Contains, Tells, within_either, either_contains, either_tells}
 use Rattle.spans.specs.Lies.{LiesIn}
 use Rattle.spans.specs.Texts.{Goes, star_goes, comment_goes}
-
 use Rattle.spans.specs.Blocks.{OnLines, Roomy}
 
 pub comments_go : (at : ℕ) → Every (Star (Comment >> Feed)) at (Goes at)

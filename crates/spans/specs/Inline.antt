@@ -8,8 +8,6 @@ use Rattle.spans.specs.Every.{Every, Extends, ret_every, here_then, byte_then, s
 use Rattle.spans.specs.Formed.{Formed}
 use Rattle.spans.specs.Lies.{LiesIn, Lies, ElementsLie, PairsLie, elements_none, pairs_none}
 
-
-
 -- As with a comma and a space between, up to a closing byte
 pub listed_every : {X : Type 0} {A : Lang X} (close : ℕ) (I : ℕ → List X → ℕ → Type 0) → ((at : ℕ) → I at [] at) → Extends I A → (at : ℕ) {R : List X → ℕ → Type 0}
     → ((vs : List X) (m : ℕ) → I at vs m → R vs (suc m)) → Every (Listed close A) at R

@@ -8,7 +8,6 @@ use Rattle.language.specs.Tree.{Tree, leaf, node, Forest, none, more, first, aft
 use Rattle.language.specs.Document.{Document}
 use Rattle.spans.specs.Placed.{Placed, Along, placed_leaf, placed_node, along_none, along_more, along_le, span_some, Among, among_first, among_later, child, Within, itself, below}
 
-
 -- the first bytes of a tree's rows, in row order
 unfoldable mutual
   pub firsts : Tree → List ℕ

@@ -9,7 +9,6 @@ use Rattle.shaped.specs.Shaped.{Shaped}
 use Rattle.shaped.specs.Bare.{alike_size, alike_text}
 use Rattle.shaped.specs.Holds.{profile_shaped}
 use Rattle.stored.specs.Form.{head, widest, form, loaded}
-
 use Rattle.stored.specs.Unspanned.{placed_alike}
 use Rattle.stored.specs.Loaded.{BADFORM, Loads, loads, bad_form, rows, bytes}
 use Rattle.stored.specs.Keeps.{kept_shaped, KeptLike}

@@ -11,7 +11,6 @@ use Rattle.shaped.specs.RowsAt.{RowsAt}
 use Rattle.shaped.specs.Bare.{alike_size, alike_text, alike_at}
 use Rattle.shaped.specs.Holds.{at_holds, stored_at, sound_tree}
 use Rattle.stored.specs.Form.{form, loaded}
-
 use Rattle.stored.specs.Unspanned.{form_alike, placed_like}
 use Rattle.stored.specs.Stored.{Stores, stores, bad_row, needs}
 use Rattle.stored.specs.Loaded.{Kept, Loads, loads, bad_form, rows, bytes}

@@ -12,9 +12,7 @@ use Rattle.shaped.specs.Once.{alike_once}
 use Rattle.shaped.specs.Holds.{profile_shaped, stored_holds}
 use Rattle.house.specs.Document.{house_document}
 use Rattle.stored.specs.Form.{form}
-
 use Rattle.stored.specs.Unspanned.{form_alike}
-
 use Rattle.stored.specs.Loaded.{Kept}
 
 module _ {stored : List ℕ} where

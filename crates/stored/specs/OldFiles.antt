@@ -6,9 +6,7 @@ use Rattle.language.specs.Lent.{lent}
 use Rattle.language.specs.Sound.{Profile}
 use Rattle.stored.specs.Form.{head, widest, form}
 use Rattle.stored.specs.Loaded.{Kept}
-
 use Rattle.stored.specs.Old as old
-
 
 pub widest_few : head + widest ≤ lent
 unfolding widest

@@ -10,7 +10,6 @@ use Rattle.stored.specs.Form.{head, widest}
 use Rattle.stored.specs.Lengths as lengths
 use Rattle.stored.specs.Old.{content, forms, form, placed, placeds, Wide, wide_here, wide_below, Wides, wide_first, wide_later}
 
-
 -- a scalar's content is its text
 pub scalar_text_lem : {k : ℕ} {s : List ℕ} → Scalar k s → pick (has_text k) s [] ≡ s
 scalar_text_lem is_null = refl

@@ -10,7 +10,6 @@ use Rattle.stored.specs.Unspanned.{form_alike, placed_alike}
 use Rattle.stored.specs.Stored.{Stores, stores, bad_row, needs}
 use Rattle.stored.specs.Loaded.{Kept, Loads, loads, bad_form, rows, bytes}
 
-
 -- ---- storing
 
 module _ {table : List ℕ} {n : ℕ} {text : List ℕ} where

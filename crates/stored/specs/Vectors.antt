@@ -5,7 +5,6 @@ use Rattle.language.specs.Kind.{NULL, FALSE, TRUE, INTEGER, FLOAT, STRING, BYTES
 use Rattle.language.specs.Tree.{unescaped, Tree, leaf, node, none, more, Field, field, array_tree, object_tree, unlined, size, sizes, text_of, rows_of}
 use Rattle.stored.specs.Form.{head, widest, parted, cut, content, form, placed, loaded}
 
-
 abbrev pub scalar : ℕ → List ℕ → Tree
 scalar kind s = leaf kind 0 0 (unescaped s)
 

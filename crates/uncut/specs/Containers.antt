@@ -1,5 +1,4 @@
 -- A CONTAINER IN STORED BYTES: the members between its head and its end, and what they make of it. Assumes nothing.
-use denote.Slice.{shr_slice_at}
 use Rattle.std.specs.Prelude.{◌≡◌, refl, List, Bool, ℕ, suc, ◌+◌, ◌-◌, ◌≤◌, get_or}
 use Rattle.std.proofs.Common.{sym, subst, ◌∙◌, arith}
 use Rattle.std.proofs.Math.Path.{ap}
@@ -17,7 +16,7 @@ use Rattle.sound.specs.Distinct.{Distinct, once_distinct}
 use Rattle.sound.specs.Members.{Sane, One, Member, container_kind, Many, many_pairs, contained, array_many, object_many, array_distinct}
 use Rattle.fields.specs.Rows.{scalar_low}
 use Rattle.uncut.specs.declared.tested.Tested.TheVariants.{Good, Bad}
-use Rattle.uncut.specs.Heads.{end_at, Field, at_as, at-slice, field_tag, field_end, field_content, field_at}
+use Rattle.uncut.specs.Heads.{end_at, Field, at_as, at_slice, field_tag, field_end, field_content, field_at}
 use Rattle.uncut.specs.Tested.{Tests, alone, none_alone}
 use Rattle.uncut.specs.Walk.{Passed}
 
@@ -61,7 +60,7 @@ module _ (stored : List ℕ) where
     unfolding content
     made_here =
         let f = w.field in
-        let c : slice (a + head) e stored ≡ forms w.passed.front = shr_slice_at (forms w.passed.front) w.passed.here w.passed.place f.inside in
+        let c : slice (a + head) e stored ≡ forms w.passed.front = at_slice (forms w.passed.front) w.passed.here w.passed.place f.inside in
         at_as (ap (λ (i : ℕ). tagged i (slice (a + head) e stored)) w.kind ∙ ap (tagged (container_kind o)) c) (field_at f)
 
     pub closed_good : Distinct w.passed.front → Tests stored (One (Sane (suc k))) a e (Good e (rows + 1))

@@ -1,5 +1,4 @@
 -- FILLING ROOMS FROM STORED BYTES: what the code of a field, of a container's children and of a leaf is asked (`Fill`), what it leaves in the rooms (`Fills`), and how. Assumes nothing.
-use denote.Slice.{shr_slice_at}
 use Rattle.std.specs.Prelude.{◌≡◌, refl, List, [], Bool, true, false, ℕ, suc, ◌+◌, ◌-◌, ◌*◌, ◌/◌, ◌≤◌, ◌<◌, length, get_or, eqb, leb}
 use Rattle.std.proofs.Common.{sym, ap, ap₂, ◌∙◌, arith, le-leb}
 use Rattle.std.proofs.lemmas.List.Edits.{sets}
@@ -19,7 +18,7 @@ use Rattle.stored.specs.Bytes.{At}
 use Rattle.uncut.specs.Short.{longest}
 use Rattle.fields.specs.Puts.{Puts, puts_none, puts_as}
 use Rattle.fields.specs.Rows.{Kept, kept_key, kept_value, Kepts}
-use Rattle.uncut.specs.Heads.{Behind, at-slice, field_tag, field_end, field_content}
+use Rattle.uncut.specs.Heads.{Behind, at_slice, field_tag, field_end, field_content}
 
 -- how many trees a forest has
 unfoldable pub trees : Forest → ℕ
@@ -201,7 +200,7 @@ module _ (stored : List ℕ) {b a r p x : ℕ} (h : FillAt stored b a r p x) whe
     far = omega arith
 
     content_slice : slice (a + head) e stored ≡ content h.tree
-    content_slice = shr_slice_at {e = e} (content h.tree) (field_content h.tree h.here) (omega arith) (omega (arith, h.inside))
+    content_slice = at_slice {e = e} (content h.tree) (field_content h.tree h.here) (omega arith) (omega (arith, h.inside))
 
     -- A NULL, FALSE OR TRUE: its row, and no text
     pub fill_bare : {table table' text : List ℕ} → get_or stored a 0 < 4 → table' ≡ sets table (width * r) (row_list unlined (get_or stored a 0) (b + a) (b + e) 0 0 p (r + 1))

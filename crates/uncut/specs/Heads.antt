@@ -1,5 +1,4 @@
 -- FIELDS IN STORED BYTES BY THEIR HEADS: where a field ends (`end_at`), whether a whole one stands before a place (`Whole`), and that it is then tag, length and content (`field_at`). Assumes nothing.
-use denote.Slice.{shr_slice_at}
 use Rattle.std.specs.Prelude.{◌≡◌, refl, List, [], ◌∷◌, ◌++◌, take, drop}
 use Rattle.std.proofs.Common.{sym, ap, subst, ◌∙◌, append_assoc, take-append-drop, length-append, length-drop, drop-drop, get_or-drop, length-take-le}
 use Prim.Native.Nat.{ℕ, suc, ◌+◌, ◌-◌, ◌*◌, ◌/◌, ◌%◌, ◌≤◌, ◌<◌}
@@ -79,8 +78,8 @@ module _ {stored : List ℕ} where
         is = ap (drop a) (sym (take-append-drop e stored)) ∙ drop-append-le a (take e stored) (drop e stored) z;
       }
 
-  pub shr_slice_at : {a e : ℕ} (s : List ℕ) → At stored a s → e ≡ a + length s → e ≤ length stored → slice a e stored ≡ s
-  shr_slice_at {a} {e} s x h l =
+  pub at_slice : {a e : ℕ} (s : List ℕ) → At stored a s → e ≡ a + length s → e ≤ length stored → slice a e stored ≡ s
+  at_slice {a} {e} s x h l =
       let y = slice_at a e (omega arith) l in
       let n : length (slice a e stored) ≡ length s = omega (arith, length-slice a e stored l) in
       let z : slice a e stored ++ y.behind ≡ s ++ x.behind = sym y.is ∙ x.is in
@@ -103,7 +102,7 @@ module _ {stored : List ℕ} where
   field_content {a} t x = Rattle.stored.specs.Bytes.at_right stored {n = head} (tag t ∷ length (content t) / 256 ∷ length (content t) % 256 ∷ []) (content t) refl x
 
   pub field_slice : {a : ℕ} (t : Tree) → At stored a (form t) → end_at stored a ≤ length stored → content_at stored a ≡ content t
-  field_slice {a} t x l = shr_slice_at (content t) (field_content t x) (omega (arith, field_end t x)) l
+  field_slice {a} t x l = at_slice (content t) (field_content t x) (omega (arith, field_end t x)) l
 
   -- A WHOLE FIELD is its tag, its length and its content
   pub field_at : {a e : ℕ} → Field stored a e → At stored a (tagged (get_or stored a 0) (slice (a + head) e stored))

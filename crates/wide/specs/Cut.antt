@@ -90,6 +90,7 @@ module _ (v : List ℕ) where
     key_none f = none_alone v (λ t q h l. by t q h)
       where
         by : (t : Tree) → IsKey t → At v a (form t) → ⊥
+        by (node _ _ _ _ _) x7 h = elim x7 [ ]
         by (leaf k i j s) (is_a_key x) h = f (subst Scripted ((one_tree (leaf k i j s) (λ e. omega arith) h).1 ∙ sym content_is) x)
 
     pub scalar_stands : {k : ℕ} → Scalar kind (take n inner) → Tests v (One (Sane k)) a stop (Good end 1 n)

@@ -6,7 +6,5 @@ use Rattle.fields.proofs.part_at.Goals as goal
 
 pub returns : goal.returns
 returns c =
-    let headed = c.before.before in
-    let moved = headed.before.before.before.before in
-    let s = moved.before.before.before.args in
-    part_moved s.out.now _ _ (s.x + 65538 * s.k) (s.x + 3 + 65535 * s.k) s.tag s.m (omega arith) moved.shift.ensures headed.head.ensures
+    let s = c.args in
+    part_moved s.out.now _ _ (s.x + 65538 * s.k) (s.x + 3 + 65535 * s.k) s.tag s.m (omega arith) c.shift.ensures c.head.ensures

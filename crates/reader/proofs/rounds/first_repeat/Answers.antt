@@ -1,0 +1,13 @@
+-- `first_repeat` is as it promises. Assumes nothing.
+use Rattle.reader.specs.Rounds.{doubled_repeated}
+use borrow.Author.Rules.{rules}
+use Rattle.reader.proofs.rounds.first_repeat.Goals as goal
+
+pub sifted-requires : goal.sifted-requires
+sifted-requires c = search (doubled_repeated, rules)
+
+pub shape_of-keys : goal.shape_of-keys
+shape_of-keys c = search (doubled_repeated, rules)
+
+pub returns : goal.returns
+returns c = search (doubled_repeated, rules)

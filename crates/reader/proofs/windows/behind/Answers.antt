@@ -1,0 +1,40 @@
+-- `behind` goes on by half a log of keys until one has a repeated key, or none are left. Assumes nothing.
+use Prim.Native.Nat.{◌-◌}
+use Rattle.reader.specs.Windows.{Sweeping, behind_on, going}
+use borrow.Author.Rules.{rules}
+use Rattle.reader.proofs.windows.behind.Goals as goal
+
+pub overflow_mul-j : goal.overflow_mul-j
+overflow_mul-j c = search going
+
+pub loop-j-init : goal.loop-j-init
+loop-j-init c = search going
+
+pub across-p-requires : goal.across-p-requires
+across-p-requires c = search going
+
+pub shape_of-keys-then-p-lt-LIMIT : goal.shape_of-keys-then-p-lt-LIMIT
+shape_of-keys-then-p-lt-LIMIT c = search going
+
+pub returns-then-p-lt-LIMIT : goal.returns-then-p-lt-LIMIT
+returns-then-p-lt-LIMIT c = search going
+
+pub log_word-requires : goal.log_word-requires
+log_word-requires c = search going
+
+pub shape_of-keys-then-log_word-lt1 : goal.shape_of-keys-then-log_word-lt1
+shape_of-keys-then-log_word-lt1 c = search going
+
+pub returns-then-log_word-lt1 : goal.returns-then-log_word-lt1
+returns-then-log_word-lt1 c = search going
+
+pub overflow_add-j : goal.overflow_add-j
+overflow_add-j c = search going
+
+pub loop-j-smaller : goal.loop-j-smaller
+loop-j-smaller c = search going
+
+pub loop-j-preserved : goal.loop-j-preserved
+loop-j-preserved c =
+    let on = behind_on _ _ _ _ c.loop-j.invariant.0 _ _ c.across-p.ensures in
+    (search (on, rules), search rules)

@@ -1,0 +1,54 @@
+-- `write` keeps its promise: what is not sound, too long or too much for the output is told before a byte is written.
+use Rattle.writer.specs.Wrote.{writing, write_done}
+use Rattle.writer.proofs.write.Goals as goal
+
+pub sound-requires : goal.sound-requires
+sound-requires c = search writing
+
+pub roomy-requires : goal.roomy-requires
+roomy-requires c = search writing
+
+pub house-requires : goal.house-requires
+house-requires c = search writing
+
+pub shape_of-out-then-roomy : goal.shape_of-out-then-roomy
+shape_of-out-then-roomy c = search writing
+
+pub returns-then-roomy : goal.returns-then-roomy
+returns-then-roomy c = search writing
+
+pub count-n-requires : goal.count-n-requires
+count-n-requires c = search writing
+
+pub shape_of-out-then-n-gt-LIMIT : goal.shape_of-out-then-n-gt-LIMIT
+shape_of-out-then-n-gt-LIMIT c = search writing
+
+pub returns-then-n-gt-LIMIT : goal.returns-then-n-gt-LIMIT
+returns-then-n-gt-LIMIT c = search writing
+
+pub bytes_lent-requires : goal.bytes_lent-requires
+bytes_lent-requires c = search writing
+
+pub shape_of-out-then-bytes_lent-n : goal.shape_of-out-then-bytes_lent-n
+shape_of-out-then-bytes_lent-n c = search writing
+
+pub returns-then-bytes_lent-n : goal.returns-then-bytes_lent-n
+returns-then-bytes_lent-n c = search writing
+
+pub house-requires-then-sound : goal.house-requires-then-sound
+house-requires-then-sound c = search writing
+
+pub shape_of-out-then-sound : goal.shape_of-out-then-sound
+shape_of-out-then-sound c = search writing
+
+pub returns-then-sound : goal.returns-then-sound
+returns-then-sound c =
+    let done = c.before.before in
+    let room = done.before.before in
+    let short = room.before.before.before in
+    let counted = short.before in
+    let told = counted.before.before.before.before in
+    write_done _ _ _ _ told.before.sound.ensures told.if1.true _ counted.count.ensures _ _ room.before.bytes-lent.ensures short.if3.false room.if4.false _ _ done.house2.ensures
+
+pub returns : goal.returns
+returns c = search writing
