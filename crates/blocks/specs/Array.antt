@@ -15,7 +15,7 @@ use Rattle.exact.specs.More.{OneMore, calm, seq_more, Shuts}
 use Rattle.blocktext.specs.Follow.{beyond, lines, lines_beyond, beyond_lines}
 use Rattle.blocktext.specs.Led.{led_r, led_exact, led_opens, led_shuts}
 use Rattle.blocks.specs.First.{Opens, seq_opens}
-use Rattle.blocks.specs.Lines.{lines_r, lines_exact, further_tame, lines_more, lines_sub}
+use Rattle.blocks.specs.Lines.{lines_r, lines_exact, lines_more, lines_sub}
 use Rattle.blocks.specs.Look.{Decided, seq_decided}
 use Rattle.blocks.specs.KeyLook.{dash_look, dash_stop, dash_decided}
 
@@ -34,7 +34,7 @@ dashed_shuts : (r : Reader Tree) → Shuts (only 45) (dashed_r r)
 unfolding dashed_r
 dashed_shuts r = led_shuts refl refl (word_ll (45 ∷ 32 ∷ [])) λ d _. map_r (entry d) r
 
-dashed_decided : {I : Lang Tree} {F : Follow} {r : Reader Tree} → Exact 1 I F r → Decided dash_look dash_stop (dashed_r r)
+pub dashed_decided : {I : Lang Tree} {F : Follow} {r : Reader Tree} → Exact 1 I F r → Decided dash_look dash_stop (dashed_r r)
 unfolding dashed_r
 dashed_decided e = dash_decided λ d. (map_exact (entry d) e).moves
 
@@ -56,13 +56,6 @@ module _ (n : ℕ) {I : Lang Tree} {r : Reader Tree} (e : Exact 1 I (lines (suc 
   pub array_exact : Exact 1 (Array n I) (lines n) (array_r n r)
   unfolding array_r
   array_exact = map_exact block_array (lines_exact (only 45) refl refl (dashed_opens I) (dashed_shuts r) n item_in)
-
-  pub array_decided : Decided dash_look dash_stop (array_r n r)
-  unfolding array_r lines_r
-  array_decided =
-      seq_decided
-      (λ es. (ret_ll (block_array es)).exact.moves)
-      (seq_decided (λ i. further_tame (only 45) n i (dashed_exact e).moves) (dashed_decided e))
 
 pub array_opens : (n : ℕ) (I : Lang Tree) → Opens (only 45) (Array n I)
 array_opens n I = seq_opens (seq_opens (dashed_opens I))
@@ -88,10 +81,6 @@ module _ (c : ℕ) {I : Lang Tree} {r : Reader Tree} (e : Exact 1 I (lines (suc 
   pub bullet_exact : Exact 1 (Bullet I) (lines c) (bullet_r r)
   unfolding bullet_r
   bullet_exact = map_exact lone (weaken 1 (lines c) (omega arith) (beyond_lines c) (weaken 1 (beyond c) (omega arith) (lines_beyond c) (dashed_exact e)))
-
-  pub bullet_decided : Decided dash_look dash_stop (bullet_r r)
-  unfolding bullet_r
-  bullet_decided = seq_decided (λ i. (ret_ll (lone i)).exact.moves) (dashed_decided e)
 
 pub bullet_more : {r₀ r₁ r₂ : Reader Tree} → OneMore r₀ r₁ r₂ → OneMore (bullet_r r₀) (bullet_r r₁) (bullet_r r₂)
 unfolding bullet_r

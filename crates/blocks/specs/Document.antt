@@ -16,45 +16,38 @@ use Rattle.exact.specs.More.{OneMore, calm, seq_more, finish_more, end_onward}
 use Rattle.exact.specs.Decide.{Family}
 use Rattle.characters.specs.Comments.{comment_r, comment_ll}
 use Rattle.blocktext.specs.Follow.{lines}
-use Rattle.blocks.specs.Root.{root_r, root_exact, root_first, root_opens, root_more, root_sub}
+use Rattle.blocks.specs.Root.{root_r, root_first, root_sub}
 
 -- COMMENTS BEFORE THE ROOT
 unfoldable pub head_r : Reader (List ℕ)
 head_r = many_r (is (only 35)) (seq_r comment_r λ _. byte_r (is (only 10)))
 
-abbrev head_s : Shape
+abbrev pub head_s : Shape
 head_s = record { null = true; first = only 35; follow = only 35 }
 
-head_ll : Ll head_s (Star (Comment >> Feed)) head_r
+pub head_ll : Ll head_s (Star (Comment >> Feed)) head_r
 unfolding head_r
 head_ll = relax head_s refl refl refl (star_ll refl refl (seq_ll refl comment_ll λ _. byte₁ 10))
 
 -- BLANK LINES AFTER IT
-abbrev Blanks : Tree → Lang Tree
+abbrev pub Blanks : Tree → Lang Tree
 Blanks v = Star Feed >> Ret v
 
 abbrev pub blanks_r : Tree → Reader Tree
 blanks_r v = seq_r (many_r (is (only 10)) (byte_r (is (only 10)))) λ _. ret_r v
 
-abbrev blanks_s : Shape
+abbrev pub blanks_s : Shape
 blanks_s = record { null = true; first = only 10; follow = only 10 }
 
-blanks_ll : (v : Tree) → Ll blanks_s (Blanks v) (blanks_r v)
+pub blanks_ll : (v : Tree) → Ll blanks_s (Blanks v) (blanks_r v)
 blanks_ll v = relax blanks_s refl refl refl (seq_ll refl (star_ll refl refl (byte₁ 10)) λ _. ret_ll v)
 
 -- nothing follows
-abbrev Done : Follow
+abbrev pub Done : Follow
 Done = bar (Starts (λ b. true))
 
-blanks_exact : (v : Tree) → Exact 0 (Blanks v) Done (blanks_r v)
-blanks_exact v = weaken 0 Done (omega arith) (within_bar _ Done anything) (blanks_ll v).exact
-  where
-    anything : (t : List ℕ) → Starts (is (only 10)) t → Starts (λ b. true) t
-    anything [] x = x
-    anything (b ∷ t) x = refl
-
 -- blank lines are no further line, and one less of them is as well
-blanks_fit : (W : Type 0) (K : Tree → ℕ → Tail W) → Fits Done K → Fits (lines 0) (λ v. Then (Blanks v) K)
+pub blanks_fit : (W : Type 0) (K : Tree → ℕ → Tail W) → Fits Done K → Fits (lines 0) (λ v. Then (Blanks v) K)
 blanks_fit W K fi =
     record {
       clear = λ v a t w x d. not v a t w d x.first.first x.first.second x.others;
@@ -77,51 +70,8 @@ blanks_fit W K fi =
 unfoldable pub whole_r : ℕ → Reader Tree
 whole_r k = seq_r head_r λ _. seq_r (root_r k) blanks_r
 
-whole_exact : (k : ℕ) → Exact 1 (Whole k) Done (whole_r k)
-unfolding whole_r
-whole_exact k =
-    weaken
-    1
-    Done
-    (omega arith)
-    (within_same Done)
-    (seq_exact
-    head_ll.exact
-    (λ _. seq_fits (root_exact k) blanks_exact blanks_fit)
-    (λ cs at s v at' t x g z. starts_none root_first (only 35) s refl ((root_opens k).opens at s x.value x.middle x.rest x.first) z))
-
-whole_more : (k j : ℕ) → k < j → OneMore (whole_r k) (whole_r (suc k)) (whole_r j)
-unfolding whole_r
-whole_more k j l = seq_more (calm head_ll) λ _. seq_more (root_more k j l) λ v. calm (blanks_ll v)
-
-whole_sub : (k : ℕ) → Sub (Whole k) (Whole (suc k))
+pub whole_sub : (k : ℕ) → Sub (Whole k) (Whole (suc k))
 whole_sub k = seq_sub (sub_refl _) λ _. seq_sub (root_sub k) λ v. sub_refl _
 
 unfoldable pub verdict : ℕ → List ℕ → Res Tree
 verdict k s = finish (whole_r k 0 s) end_r
-
--- THE VERDICT IS EXACT
-pub exact : (k : ℕ) (s : List ℕ) → Verdict (Document k) 0 s (verdict k s)
-unfolding Document verdict
-exact k s = (whole_exact k).run End end_r end_begins (fits_bar (λ v at t w x y. closed x y)) 0 s (λ v at s' l. end_verdict v at s')
-  where
-    closed : {v : Tree} {at : ℕ} {t : List ℕ} {w : Tree} → End v at t w → Starts (λ b. true) t → ⊥
-    closed end y = y
-
--- ONE CONTAINER MORE IS ENOUGH
-pub family : Family Document verdict
-unfolding Document verdict
-family =
-    record {
-      exact = exact;
-      rises = λ k u b. sub_begins End 0 u (whole_sub k) b;
-      climbs = λ k j s l. finish_more end_r end_onward (whole_r k 0 s) (whole_r (suc k) 0 s) (whole_r j 0 s) ((whole_more k j l).climbs 0 s);
-    }
-
--- A DOCUMENT HAS ONE TREE
-pub one_tree : (k : ℕ) (s : List ℕ) (t u : Tree) → Document k s t → Document k s u → t ≡ u
-one_tree k s t u x y = go (exact k s)
-  where
-    go : {f : Res Tree} → Verdict (Document k) 0 s f → t ≡ u
-    go (takes w z h) = h t x ∙ sym (h u y)
-    go (stops p v z) = absurd (z t x)

@@ -22,17 +22,6 @@ pub byte_then : {X : Type 0} {e : ℕ} {B : Lang X} {F : Follow} {q : Reader X} 
 byte_then {F = F} b x =
     weaken 1 F (omega arith) (within_same F) (seq_exact (byte_exact (is (only b)) b (only_is b)) (λ _. x) (λ x at s y at' t b g z. z))
 
--- what is read by its bytes, and then a language that begins with none that would go on in it
-pub ll_then : {X Y : Type 0} {e : ℕ} {σ : Shape} {A : Lang X} {B : X → Lang Y} {F : Follow} {r : Reader X} {q : X → Reader Y} (c : Class)
-    → σ.null ≡ false → apart c σ.follow ≡ true → Ll σ A r → ((x : X) → Opens c (B x)) → ((x : X) → Exact e (B x) F (q x)) → Exact 1 (Seq A B) F (seq_r r q)
-ll_then {σ = σ} {F = F} c n h l o x =
-    weaken
-    1
-    F
-    (omega (arith, need_false σ.null n))
-    (within_same F)
-    (seq_exact l.exact x (λ v at s y at' t b g z. starts_none c σ.follow s h ((o v).opens at s y at' t b) z))
-
 -- a choice by the first byte
 pub first_exact : {X : Type 0} {d : ℕ} {c e : Class} {A B : Lang X} {F : Follow} {r q : Reader X} → apart e c ≡ true → Opens c A → Opens e B
     → Exact d A F r → Exact d B F q → Exact d (Alt A B) F (alt_r (is c) r q)

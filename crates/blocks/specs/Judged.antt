@@ -6,7 +6,7 @@ use Rattle.language.specs.Answered.{deepest, CHAR, SYNTAX, DEEP, END, Stops, cha
 use Rattle.exact.specs.Decide.{settle, settled}
 use Rattle.utf8.specs.Told.{Answer, Right, tell, given, refused_char, refused_syntax, refused_deep, refused_end, r_given, r_char, r_syntax, r_deep, r_end}
 use Rattle.utf8.proofs.ToldLaws.{told}
-use Rattle.blocks.specs.Document.{verdict, family}
+use Rattle.blocks.specs.Document.{verdict}
 use Rattle.blocks.specs.Clean.{document_allowed}
 
 unfoldable pub judge : List ℕ → Answer Tree
@@ -20,14 +20,9 @@ Judged s (refused_syntax p) = Stops s SYNTAX p
 Judged s (refused_deep p) = Stops s DEEP p
 Judged s (refused_end p) = Stops s END p
 
-in_words : {s : List ℕ} {a : Answer Tree} → Right Document deepest s a → Judged s a
+pub in_words : {s : List ℕ} {a : Answer Tree} → Right Document deepest s a → Judged s a
 in_words (r_given t x u) = x
 in_words (r_char p l b d) = char p l b d
 in_words (r_syntax p l b d a) = syntax p l b d a
 in_words (r_deep p l b d j x) = deep p j l b d x
 in_words (r_end b z) = end b z
-
--- RIGHT FOR EVERY TEXT
-pub judged : (s : List ℕ) → Judged s (judge s)
-unfolding judge
-judged s = in_words (told (document_allowed deepest) (settled family deepest s))

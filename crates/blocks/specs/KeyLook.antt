@@ -44,7 +44,7 @@ abbrev pub key_stop : Stop
 key_stop at s = reach (key_r at s)
 
 -- a dash and a space
-abbrev space : List ℕ → Bool
+abbrev pub space : List ℕ → Bool
 space [] = false
 space (b ∷ t) = is (only 32) b
 
@@ -52,7 +52,7 @@ abbrev pub dashed : List ℕ → Bool
 dashed [] = false
 dashed (b ∷ s) = and (is (only 45) b) (space s)
 
-abbrev dash : List ℕ → ℕ
+abbrev pub dash : List ℕ → ℕ
 dash [] = 0
 dash (b ∷ s) = pick (is (only 45) b) 1 0
 
@@ -125,25 +125,6 @@ dash_decided {X} {q = q} m = record { goes = goes; shut = shut }
         by false s e = ap bad (omega arith)
         by true [] e = ap bad (omega arith)
         by true (c ∷ t) e = rw e (ap bad (omega arith))
-
--- a dash and a space are no key, and a dash may begin one
-pub dash_key : Ordered dash_look dash_stop key_look key_stop
-dash_key = record { low = low; alone = λ at s e. (behind_dash at s e).0; level = λ at s e. (behind_dash at s e).1 }
-  where
-    low : (at : ℕ) (s : List ℕ) → at + dash s ≤ reach (key_r at s)
-    low at [] = omega (arith, reach_from (key_ll.exact.moves.tame at []))
-    low at (b ∷ s) = by (is (only 45) b) refl
-      where
-        by : (x : Bool) → is (only 45) b ≡ x → at + pick x 1 0 ≤ reach (key_r at (b ∷ s))
-        by false x = omega (arith, reach_from (key_ll.exact.moves.tame at (b ∷ s)))
-        by true x =
-            let k : is keybyte b ≡ true = rw (only_eq 45 b x) refl in
-            let m = key_bare at b s k in
-            let n : keys (b ∷ s) ≡ suc (keys s) = ap (λ (c : Bool). pick c (suc (keys s)) 0) k in
-            rw m.1 (omega arith)
-
-    behind_dash : (at : ℕ) (s : List ℕ) → dashed s ≡ true → (keyed (key_r at s) ≡ false) × (reach (key_r at s) ≤ at + dash s)
-    behind_dash at s e = let u = dashed_is s e in rw (u.1, (key_bare at 45 (32 ∷ u.0) refl).1) (refl, omega arith)
 
 -- BOTH: an array or an object begins here
 abbrev pub block_look : Test

@@ -64,11 +64,6 @@ module _ {X : Type 0} {A : Lang X} {r : Reader X} (c : Class) (solid : apart c (
       (within_same (lines n))
       (seq_fits ea (λ v. map_exact (v ∷◌) (further_exact c solid dry opens shuts n ea some)) lines_fits)
 
--- what is read behind the first line
-pub further_tame : {X : Type 0} {d : ℕ} {r : Reader X} (c : Class) (n : ℕ) (v : X) → Tame d r → Tame 0 (map_r (v ∷◌) (further_r c n r))
-further_tame c n v m =
-    tame_any (seq_tame (star_g_tame (ind (is c) n) (lead n) (lead_near n) (indented_more n (steady m)).tame₀) (λ vs. (ret_ll (v ∷ vs)).exact.moves))
-
 pub lines_more : {X : Type 0} (c : Class) (n : ℕ) {r₀ r₁ r₂ : Reader X} → OneMore r₀ r₁ r₂ → OneMore (lines_r c n r₀) (lines_r c n r₁) (lines_r c n r₂)
 unfolding lines_r
 lines_more c n e = seq_more e λ v. seq_more (star_g_more (indented_more n e) (ind (is c) n) (lead n) (lead_near n)) λ vs. calm (ret_ll (v ∷ vs))

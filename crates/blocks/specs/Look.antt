@@ -28,15 +28,10 @@ seq_decided {r = r} {q} m d =
       shut = λ at s e. ap (λ o. bind o q) (d.shut at s e);
     }
 
-reach_left : {X : Type 0} (o : Out X) (q : ℕ) → reach o ≤ reach (merge o (bad q))
+pub reach_left : {X : Type 0} (o : Out X) (q : ℕ) → reach o ≤ reach (merge o (bad q))
 reach_left (ok v a t) q = omega arith
 reach_left (soft p v a t) q = omega arith
 reach_left (bad p) q = omega arith
-
-reach_right : {X : Type 0} (p : ℕ) (o : Out X) → reach o ≤ reach (merge (bad p) o)
-reach_right p (ok v a t) = omega arith
-reach_right p (soft q v a t) = omega arith
-reach_right p (bad q) = omega arith
 
 -- TWO OF THEM: where the first goes on, the second is refused no later; elsewhere the first is refused no later
 pub record Ordered (look₁ : Test) (stop₁ : Stop) (look₂ : Test) (stop₂ : Stop) : Type 0 where
@@ -50,19 +45,6 @@ turn false true = second
 turn false false = neither
 
 module _ {X : Type 0} {look₁ look₂ : Test} {stop₁ stop₂ : Stop} {r q : Reader X} (h : Ordered look₁ stop₁ look₂ stop₂) (d : Decided look₁ stop₁ r) (e : Decided look₂ stop₂ q) where
-  pub or_decided : Decided (λ at s. or (look₁ at s) (look₂ at s)) stop₂ (or_r r q)
-  unfolding or_r
-  or_decided = record { goes = λ at s. goes at s (look₁ at s) refl; shut = λ at s. shut at s (look₁ at s) refl }
-    where
-      goes : (at : ℕ) (s : List ℕ) (x : Bool) → look₁ at s ≡ x → or x (look₂ at s) ≡ true → stop₂ at s < reach (merge (r at s) (q at s))
-      goes at s true x y =
-          rw (e.shut at s (h.alone at s x)) (omega (arith, h.level at s x, d.goes at s x, reach_left (r at s) (stop₂ at s)))
-      goes at s false x y = rw (d.shut at s x) (omega (arith, e.goes at s y, reach_right (stop₁ at s) (q at s)))
-
-      shut : (at : ℕ) (s : List ℕ) (x : Bool) → look₁ at s ≡ x → or x (look₂ at s) ≡ false → merge (r at s) (q at s) ≡ bad (stop₂ at s)
-      shut at s true x y = absurd (clash refl y)
-      shut at s false x y = rw (d.shut at s x, e.shut at s y) (ap bad (omega (arith, h.low at s)))
-
   pub decided_meet : Meet (λ at s. turn (look₁ at s) (look₂ at s)) stop₁ stop₂ r q
   decided_meet = record { spot = λ at s. go at s (look₁ at s) refl (look₂ at s) refl }
     where

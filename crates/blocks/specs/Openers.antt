@@ -24,46 +24,15 @@ use Rattle.blocks.specs.First.{Opens, alt_opens, first_exact, alt_swap, alt_grou
 use Rattle.blocks.specs.Look.{Stands, refused, Beside}
 use Rattle.blocks.specs.KeyLook.{key_first, key_stop, block_look}
 use Rattle.blocks.specs.LineLook.{quoted_stands, beside}
-use Rattle.blocks.specs.ValueLine.{Ending, line_r, line_exact, line_opens, line_more, line_alike, line_stands}
+use Rattle.blocks.specs.ValueLine.{Ending, line_r, line_opens, line_more, line_alike}
 
 -- AN OPEN BLOCK STRING OR BLOCK BYTES at c by their first byte, else a line of one value
 unfoldable pub opener_r : (Tree → Reader Tree) → ℕ → ℕ → Reader Tree
 opener_r q k c = alt_r (is (only 96)) (open_string_r c) (alt_r (is (only 62)) (open_bytes_r c) (line_r q k))
 
 module _ {B : Tree → Lang Tree} {q : Tree → Reader Tree} (e : Ending B q) where
-  pub opener_exact : (k c : ℕ) → Exact 1 (Alt (Seq (LineValue k) B) (Open c)) (lines c) (opener_r q k c)
-  unfolding opener_r
-  opener_exact k c =
-      alt_swap
-      (alt_group
-      (first_exact
-      refl
-      (open_string_opens c)
-      (alt_opens (open_bytes_opens c) (line_opens e k))
-      (weaken 1 (lines c) (omega arith) (beyond_lines c) (open_string_exact c))
-      (first_exact
-      refl
-      (open_bytes_opens c)
-      (line_opens e k)
-      (weaken 1 (lines c) (omega arith) (beyond_lines c) (open_bytes_exact c))
-      (weaken 1 (lines c) (omega arith) (within_none (lines c)) (line_exact e k)))))
-
   pub opener_opens : (k c : ℕ) → Opens (value_first ++ (only 96 ++ only 62)) (Alt (Seq (LineValue k) B) (Open c))
   opener_opens k c = alt_opens (line_opens e k) (alt_opens (open_string_opens c) (open_bytes_opens c))
-
-  pub opener_more : (k j c : ℕ) → k < j → OneMore (opener_r q k c) (opener_r q (suc k) c) (opener_r q j c)
-  unfolding opener_r
-  opener_more k j c l =
-      alt_more (is (only 96)) (steady (open_string_exact c).moves) (alt_more (is (only 62)) (steady (open_bytes_exact c).moves) (line_more e k j l))
-
-  pub opener_beside : (k c : ℕ) → Beside block_look key_stop (opener_r q 0 c) (opener_r q k c)
-  unfolding opener_r
-  opener_beside k c =
-      beside
-      (tame_any (opener_exact 0 c).moves)
-      (tame_any (opener_exact k c).moves)
-      (λ at b s h. ap (λ o. pick (is (only 96) b) (open_string_r c at (b ∷ s)) (pick (is (only 62) b) (open_bytes_r c at (b ∷ s)) o)) (line_alike e k at b s h))
-      (λ at b s h. rw (apart_no key_first (only 96) b refl h, apart_no key_first (only 62) b refl h) (line_stands e at b s h))
 
 -- NESTED CONTENT'S LINE: an open block string by its first byte, else joined strings
 unfoldable pub nested_line_r : ℕ → Reader Tree
@@ -75,39 +44,7 @@ module _ (m : ℕ) where
   nested_line_exact =
       first_exact refl (open_string_opens m) (joined_opens m) (weaken 1 (lines m) (omega arith) (beyond_lines m) (open_string_exact m)) (joined_exact m)
 
-  joined_split : (at : ℕ) {o : Out Decoded} → Firm o
+  pub joined_split : (at : ℕ) {o : Out Decoded} → Firm o
       → bind (bind o (λ v. line_end_r (part v))) (joined_more_r m at) ≡ bind o (λ v a t. bind (line_end_r (part v) a t) (joined_more_r m at))
   joined_split at f_ok = refl
   joined_split at f_bad = refl
-
-  joined_quoted : (at b : ℕ) (s : List ℕ) → is quotes b ≡ true → Stands (block_look at (b ∷ s)) (key_stop at (b ∷ s)) (joined_r m at (b ∷ s))
-  unfolding joined_r joined_line_r
-  joined_quoted at b s h =
-      subst
-      (λ (o : Out Tree). Stands (block_look at (b ∷ s)) (key_stop at (b ∷ s)) o)
-      (sym (joined_split at (quoted_ll.firm at (b ∷ s))))
-      (quoted_stands
-      (λ v a t. bind (line_end_r (part v) a t) (joined_more_r m at))
-      (λ v. seq_tame (line_end_ll (part v)).exact.moves (λ p. (joined_more_exact m at p).moves))
-      (λ v a t. refl)
-      at
-      b
-      s
-      h)
-
-  joined_stands : (at b : ℕ) (s : List ℕ) → is key_first b ≡ true → Stands (block_look at (b ∷ s)) (key_stop at (b ∷ s)) (joined_r m at (b ∷ s))
-  joined_stands at b s h = by (is keybyte b) refl
-    where
-      by : (x : Bool) → is keybyte b ≡ x → Stands (block_look at (b ∷ s)) (key_stop at (b ∷ s)) (joined_r m at (b ∷ s))
-      by true x =
-          refused at ((joined_shuts m).not at b s (apart_no keybyte quotes b refl x)) (reach_from (key_ll.exact.moves.tame at (b ∷ s)))
-      by false x = joined_quoted at b s (is_right keybyte quotes b x h)
-
-  pub nested_line_beside : Beside block_look key_stop (nested_line_r m) (nested_line_r m)
-  unfolding nested_line_r
-  nested_line_beside =
-      beside
-      (tame_any nested_line_exact.moves)
-      (tame_any nested_line_exact.moves)
-      (λ at b s h. refl)
-      (λ at b s h. rw (apart_no key_first (only 96) b refl h) (joined_stands at b s h))

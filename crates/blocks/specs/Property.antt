@@ -19,12 +19,12 @@ use Rattle.inline.specs.Lists.{value_first}
 use Rattle.blocktext.specs.Follow.{beyond, lines, lines_beyond}
 use Rattle.blocktext.specs.BlockStrings.{property_string_r, property_string_exact, property_string_opens}
 use Rattle.blocktext.specs.BlockBytes.{property_bytes_r, property_bytes_exact, property_bytes_opens}
-use Rattle.blocks.specs.First.{Opens, byte_opens, seq_opens, alt_opens, ll_opens, byte_then, ll_then, first_exact, alt_swap, alt_group}
-use Rattle.blocks.specs.Lines.{lines_r, lines_exact, further_tame, lines_more, lines_sub}
-use Rattle.blocks.specs.Rest.{Rest, rest_r, rest_exact, rest_more, rest_sub}
+use Rattle.blocks.specs.First.{Opens, byte_opens, seq_opens, alt_opens, ll_opens, byte_then, first_exact, alt_swap, alt_group}
+use Rattle.blocks.specs.Lines.{lines_r, lines_exact, lines_more, lines_sub}
+use Rattle.blocks.specs.Rest.{Rest, rest_r, rest_more, rest_sub}
 use Rattle.blocks.specs.Look.{Decided, seq_decided}
 use Rattle.blocks.specs.KeyLook.{key_look, key_stop, key_decided}
-use Rattle.blocks.specs.ValueLine.{comment_end_r, CommentEnd, comment_ending, line_r, line_exact, line_opens, line_more, line_sub}
+use Rattle.blocks.specs.ValueLine.{comment_end_r, CommentEnd, comment_ending, line_r, line_opens, line_more, line_sub}
 
 -- BEHIND THE COLON'S SPACE: a block string or block bytes by their first byte, else a line value
 abbrev pub On : ℕ → ℕ → Lang Tree
@@ -33,27 +33,10 @@ On k n = Alt (ValueLine k) (Alt (PropertyString n) (PropertyBytes n))
 unfoldable pub on_r : ℕ → ℕ → Reader Tree
 on_r k n = alt_r (is (only 96)) (property_string_r n) (alt_r (is (only 62)) (property_bytes_r n) (line_r comment_end_r k))
 
-on_exact : (k n : ℕ) → Exact 1 (On k n) (beyond n) (on_r k n)
-unfolding on_r
-on_exact k n =
-    alt_swap
-    (alt_group
-    (first_exact
-    refl
-    (property_string_opens n)
-    (alt_opens (property_bytes_opens n) (line_opens comment_ending k))
-    (property_string_exact n)
-    (first_exact
-    refl
-    (property_bytes_opens n)
-    (line_opens comment_ending k)
-    (property_bytes_exact n)
-    (weaken 1 (beyond n) (omega arith) (within_none (beyond n)) (line_exact comment_ending k)))))
-
-on_opens : (k n : ℕ) → Opens (value_first ++ (only 96 ++ only 62)) (On k n)
+pub on_opens : (k n : ℕ) → Opens (value_first ++ (only 96 ++ only 62)) (On k n)
 on_opens k n = alt_opens (line_opens comment_ending k) (alt_opens (property_string_opens n) (property_bytes_opens n))
 
-on_more : (k j n : ℕ) → k < j → OneMore (on_r k n) (on_r (suc k) n) (on_r j n)
+pub on_more : (k j n : ℕ) → k < j → OneMore (on_r k n) (on_r (suc k) n) (on_r j n)
 unfolding on_r
 on_more k j n l =
     alt_more
@@ -65,23 +48,10 @@ on_more k j n l =
 unfoldable pub property_r : ℕ → ℕ → Reader Tree → Reader Field
 property_r k n r = seq_r key_r λ ky. seq_r (byte_r (is (only 58))) λ _. map_r (field ky) (rest_r (on_r k n) r)
 
-module _ (k n : ℕ) {N : Lang Tree} {r : Reader Tree} (e : Exact 1 N (lines (suc (suc n))) r) where
-  behind_exact : Exact 1 (Rest (On k n) N) (beyond n) (rest_r (on_r k n) r)
-  behind_exact = rest_exact refl (on_opens k n) (on_exact k n) (weaken 1 (beyond n) (omega arith) (lines_beyond n) e)
-
-  pub property_exact : Exact 1 (Property k n N) (beyond n) (property_r k n r)
-  unfolding property_r
-  property_exact =
-      ll_then (only 58) refl refl key_ll (λ ky. seq_opens (byte_opens (only 58))) (λ ky. byte_then 58 (map_exact (field ky) behind_exact))
-
-  property_decided : Decided key_look key_stop (property_r k n r)
-  unfolding property_r
-  property_decided = key_decided λ ky. (map_exact (field ky) behind_exact).moves
-
-property_opens : (k n : ℕ) (N : Lang Tree) → Opens key_s.first (Property k n N)
+pub property_opens : (k n : ℕ) (N : Lang Tree) → Opens key_s.first (Property k n N)
 property_opens k n N = seq_opens (ll_opens refl key_ll)
 
-property_shuts : (k n : ℕ) (r : Reader Tree) → Shuts key_s.first (property_r k n r)
+pub property_shuts : (k n : ℕ) (r : Reader Tree) → Shuts key_s.first (property_r k n r)
 unfolding property_r
 property_shuts k n r = seq_shuts _ (ll_shuts refl key_ll)
 
@@ -89,30 +59,8 @@ property_shuts k n r = seq_shuts _ (ll_shuts refl key_ll)
 unfoldable pub object_r : ℕ → ℕ → Reader Tree → Reader Tree
 object_r k n r = map_r block_object (lines_r key_s.first n (property_r k n r))
 
-module _ (k n : ℕ) {N : Lang Tree} {r : Reader Tree} (e : Exact 1 N (lines (suc (suc n))) r) where
-  pub object_exact : Exact 1 (Object k n N) (lines n) (object_r k n r)
-  unfolding object_r
-  object_exact = map_exact block_object (lines_exact key_s.first refl refl (property_opens k n N) (property_shuts k n r) n (property_exact k n e))
-
-  pub object_decided : Decided key_look key_stop (object_r k n r)
-  unfolding object_r lines_r
-  object_decided =
-      seq_decided
-      (λ fs. (ret_ll (block_object fs)).exact.moves)
-      (seq_decided (λ f. further_tame key_s.first n f (property_exact k n e).moves) (property_decided k n e))
-
 pub object_opens : (k n : ℕ) (N : Lang Tree) → Opens key_s.first (Object k n N)
 object_opens k n N = seq_opens (seq_opens (property_opens k n N))
-
-pub object_more : (k j n : ℕ) → k < j → {r₀ r₁ r₂ : Reader Tree} → OneMore r₀ r₁ r₂ → OneMore (object_r k n r₀) (object_r (suc k) n r₁) (object_r j n r₂)
-unfolding object_r property_r
-object_more k j n l e =
-    seq_more
-    (lines_more
-    key_s.first
-    n
-    (seq_more (calm key_ll) λ ky. seq_more (calm (byte₁ 58)) λ _. seq_more (rest_more (on_more k j n l) e) λ v. calm (ret_ll (field ky v))))
-    λ fs. calm (ret_ll (block_object fs))
 
 pub object_sub : (k n : ℕ) {N N' : Lang Tree} → Sub N N' → Sub (Object k n N) (Object (suc k) n N')
 object_sub k n e =

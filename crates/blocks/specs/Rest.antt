@@ -11,20 +11,20 @@ use Rattle.exact.specs.Ll.{byte₁}
 use Rattle.exact.specs.Grow.{Sub, sub_refl, seq_sub, alt_sub}
 use Rattle.exact.specs.More.{OneMore, calm, seq_more, alt_more}
 use Rattle.characters.specs.Comments.{comment_r, comment_ll}
-use Rattle.blocks.specs.First.{Opens, byte_opens, seq_opens, byte_then, ll_then, first_exact}
+use Rattle.blocks.specs.First.{Opens, byte_opens, seq_opens, byte_then, first_exact}
 
 abbrev pub Rest : Lang Tree → Lang Tree → Lang Tree
 Rest A N = Alt (Space >> A) (Option LineComment >> (Feed >> N))
 
 -- the same with the first space read once
-abbrev Shared : Lang Tree → Lang Tree → Lang Tree
+abbrev pub Shared : Lang Tree → Lang Tree → Lang Tree
 Shared A N = Alt (Space >> Alt (Space >> (Comment >> (Feed >> N))) A) (Feed >> N)
 
 ret_on : {X Y : Type 0} {v : X} {at : ℕ} {s : List ℕ} {x : X} {at' : ℕ} {s' : List ℕ} (A : Lang Y) {y : Y} {a : ℕ} {t : List ℕ} → Ret v at s x at' s' → A at' s' y a t → A at s y a t
 ret_on A ret z = z
 
 module _ (A N : Lang Tree) where
-  to : (at : ℕ) (s : List ℕ) (v : Tree) (at' : ℕ) (t : List ℕ) → Shared A N at s v at' t → Rest A N at s v at' t
+  pub to : (at : ℕ) (s : List ℕ) (v : Tree) (at' : ℕ) (t : List ℕ) → Shared A N at s v at' t → Rest A N at s v at' t
   to at s v at' t (two x) = two (record { value = []; middle = at; rest = s; first = two ret; second = x })
   to at s v at' t (one x) = go x.second
     where
@@ -55,7 +55,7 @@ module _ (A N : Lang Tree) where
             second = y.second.second;
           })
 
-  from : (at : ℕ) (s : List ℕ) (v : Tree) (at' : ℕ) (t : List ℕ) → Rest A N at s v at' t → Shared A N at s v at' t
+  pub from : (at : ℕ) (s : List ℕ) (v : Tree) (at' : ℕ) (t : List ℕ) → Rest A N at s v at' t → Shared A N at s v at' t
   from at s v at' t (one x) = one (record { value = x.value; middle = x.middle; rest = x.rest; first = x.first; second = two x.second })
   from at s v at' t (two x) = go x.first x.second
     where
@@ -89,23 +89,6 @@ rest_r vR nR =
     (is (only 32))
     (seq_r (byte_r (is (only 32))) λ _. alt_r (is (only 32)) (seq_r (byte_r (is (only 32))) λ _. seq_r comment_r λ _. below_r nR) vR)
     (below_r nR)
-
-pub rest_exact : {c : Class} {A N : Lang Tree} {F : Follow} {vR nR : Reader Tree} → apart c (only 32) ≡ true → Opens c A → Exact 1 A F vR → Exact 1 N F nR
-    → Exact 1 (Rest A N) F (rest_r vR nR)
-unfolding rest_r
-rest_exact {c} {A} {N} {F} {vR} {nR} h o ev en =
-    exact_iff
-    (to A N)
-    (from A N)
-    (first_exact
-    refl
-    (seq_opens (byte_opens (only 32)))
-    (seq_opens (byte_opens (only 10)))
-    (byte_then 32 (first_exact h (seq_opens (byte_opens (only 32))) o (byte_then 32 (ll_then (only 10) refl refl comment_ll (λ _. seq_opens (byte_opens (only 10))) (λ _. below))) ev))
-    below)
-  where
-    below : Exact 1 (Feed >> N) F (below_r nR)
-    below = byte_then 10 en
 
 pub rest_more : {v₀ v₁ v₂ n₀ n₁ n₂ : Reader Tree} → OneMore v₀ v₁ v₂ → OneMore n₀ n₁ n₂ → OneMore (rest_r v₀ n₀) (rest_r v₁ n₁) (rest_r v₂ n₂)
 unfolding rest_r

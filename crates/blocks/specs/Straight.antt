@@ -9,100 +9,27 @@ use Rattle.exact.specs.Out.{Out, Reader, reach, ok, soft, bad}
 use Rattle.strings.specs.Keys.{key_r}
 use Rattle.blocks.specs.Or.{merge, or_r}
 use Rattle.blocks.specs.Look.{refused, past, Place, aside, same}
-use Rattle.blocks.specs.KeyLook.{keyed, key_stop, dashed, dash_stop, dash_key, block_look}
+use Rattle.blocks.specs.KeyLook.{keyed, key_stop, dashed, dash_stop, block_look}
 use Rattle.blocks.specs.ValueLine.{comment_end_r, feed_end_r}
 use Rattle.blocks.specs.Property.{object_r}
 use Rattle.blocks.specs.Array.{array_r, bullet_r}
 use Rattle.blocks.specs.Lead.{lead_r, Leads}
 use Rattle.blocks.specs.Openers.{opener_r, nested_line_r}
 use Rattle.blocks.specs.Nested.{nested_here_r, nested_r, item_r}
-use Rattle.blocks.specs.Deeper.{nested_lead, item_lead}
-use Rattle.blocks.specs.Root.{root_r, root_lead}
 
-merge_left : {X : Type 0} (p : ℕ) (o : Out X) → p ≤ reach o → merge (bad p) o ≡ o
-merge_left p (ok v a t) l = refl
-merge_left p (soft q v a t) l = refl
-merge_left p (bad q) l = ap bad (omega arith)
+use Rattle.blocks.specs.Root.{root_r}
 
-merge_right : {X : Type 0} (o : Out X) (q : ℕ) → q ≤ reach o → merge o (bad q) ≡ o
+pub merge_right : {X : Type 0} (o : Out X) (q : ℕ) → q ≤ reach o → merge o (bad q) ≡ o
 merge_right (ok v a t) q l = refl
 merge_right (soft p v a t) q l = refl
 merge_right (bad p) q l = ap bad (omega arith)
 
 module _ {base l d o : Reader Tree} (h : Leads base l d o) (at : ℕ) (s : List ℕ) where
   -- where one of the two looks says yes, the line is refused no later than the key's end
-  line_lost : block_look at s ≡ true → (p : ℕ) × (l at s ≡ bad p) × (p ≤ key_stop at s)
+  pub line_lost : block_look at s ≡ true → (p : ℕ) × (l at s ≡ bad p) × (p ≤ key_stop at s)
   line_lost y = go (h.line.place at s)
     where
       go : Place (block_look at s) (key_stop at s) at s (base at s) (l at s) → (p : ℕ) × (l at s ≡ bad p) × (p ≤ key_stop at s)
       go (aside f z) = absurd (clash y f)
       go (same z f (refused p g k)) = (p, f ∙ g, k)
       go (same z f (past g k)) = absurd (clash y g)
-
-  pub lead_array : dashed s ≡ true → lead_r l d o at s ≡ d at s
-  unfolding lead_r or_r
-  lead_array y =
-      let u = line_lost (or_left (keyed (key_r at s)) y) in
-      let p = u.0 in
-      let k : p ≤ key_stop at s = u.2 in
-      let e = dash_key.level at s y in
-      let g = h.array.goes at s y in
-      rw (u.1, h.object.shut at s (dash_key.alone at s y), merge_right (d at s) (key_stop at s) (omega arith)) (merge_left p (d at s) (omega arith))
-
-  pub lead_object : keyed (key_r at s) ≡ true → lead_r l d o at s ≡ o at s
-  unfolding lead_r or_r
-  lead_object y = by (dashed s) refl
-    where
-      by : (x : Bool) → dashed s ≡ x → merge (l at s) (merge (d at s) (o at s)) ≡ o at s
-      by true x = absurd (clash y (dash_key.alone at s x))
-      by false x =
-          let u = line_lost (or_right (dashed s) y) in
-          let p = u.0 in
-          let k : p ≤ key_stop at s = u.2 in
-          let e = dash_key.low at s in
-          let g = h.object.goes at s y in
-          rw (u.1, h.array.shut at s x, merge_left (dash_stop at s) (o at s) (omega arith)) (merge_left p (o at s) (omega arith))
-
-  pub lead_line : dashed s ≡ false → keyed (key_r at s) ≡ false → lead_r l d o at s ≡ merge (l at s) (bad (key_stop at s))
-  unfolding lead_r or_r
-  lead_line x y = rw (h.array.shut at s x, h.object.shut at s y) (ap (λ (n : ℕ). merge (l at s) (bad n)) (omega (arith, dash_key.low at s)))
-
--- THE THREE PLACES where it is so: nested content, items and the root
-module _ (k m at : ℕ) (s : List ℕ) where
-  pub nested_array : dashed s ≡ true → nested_here_r (suc k) m at s ≡ array_r m (item_r k (suc (suc m))) at s
-  unfolding nested_here_r
-  nested_array = lead_array (nested_lead k m) at s
-
-  pub nested_object : keyed (key_r at s) ≡ true → nested_here_r (suc k) m at s ≡ object_r k m (nested_r k (suc (suc m))) at s
-  unfolding nested_here_r
-  nested_object = lead_object (nested_lead k m) at s
-
-  pub nested_line : dashed s ≡ false → keyed (key_r at s) ≡ false → nested_here_r (suc k) m at s ≡ merge (nested_line_r m at s) (bad (key_stop at s))
-  unfolding nested_here_r
-  nested_line = lead_line (nested_lead k m) at s
-
-module _ (k c at : ℕ) (s : List ℕ) where
-  pub item_array : dashed s ≡ true → item_r (suc k) c at s ≡ bullet_r (item_r k (suc (suc c))) at s
-  unfolding item_r
-  item_array = lead_array (item_lead k c) at s
-
-  pub item_object : keyed (key_r at s) ≡ true → item_r (suc k) c at s ≡ object_r k c (nested_r k (suc (suc c))) at s
-  unfolding item_r
-  item_object = lead_object (item_lead k c) at s
-
-  pub item_line : dashed s ≡ false → keyed (key_r at s) ≡ false → item_r (suc k) c at s ≡ merge (opener_r comment_end_r (suc k) c at s) (bad (key_stop at s))
-  unfolding item_r
-  item_line = lead_line (item_lead k c) at s
-
-module _ (k at : ℕ) (s : List ℕ) where
-  pub root_array : dashed s ≡ true → root_r (suc k) at s ≡ array_r 0 (item_r k 2) at s
-  unfolding root_r
-  root_array = lead_array (root_lead k) at s
-
-  pub root_object : keyed (key_r at s) ≡ true → root_r (suc k) at s ≡ object_r k 0 (nested_r k 2) at s
-  unfolding root_r
-  root_object = lead_object (root_lead k) at s
-
-  pub root_line : dashed s ≡ false → keyed (key_r at s) ≡ false → root_r (suc k) at s ≡ merge (opener_r feed_end_r (suc k) 0 at s) (bad (key_stop at s))
-  unfolding root_r
-  root_line = lead_line (root_lead k) at s

@@ -82,19 +82,12 @@ comment_ending =
 unfoldable pub line_r : (Tree → Reader Tree) → ℕ → Reader Tree
 line_r q k = seq_r (value_r true k) q
 
-bind_ret : {X Y Z : Type 0} (o : Out X) (f : X → ℕ → Y) (q : Y → Reader Z) → bind (bind o (λ v a. ret_r (f v a) a)) q ≡ bind o (λ v a. q (f v a) a)
+pub bind_ret : {X Y Z : Type 0} (o : Out X) (f : X → ℕ → Y) (q : Y → Reader Z) → bind (bind o (λ v a. ret_r (f v a) a)) q ≡ bind o (λ v a. q (f v a) a)
 bind_ret (ok v a t) f q = refl
 bind_ret (soft p v a t) f q = refl
 bind_ret (bad p) f q = refl
 
 module _ {B : Tree → Lang Tree} {q : Tree → Reader Tree} (e : Ending B q) where
-  end_exact : (v : Tree) → Exact 1 (B v) None (q v)
-  end_exact v = weaken 1 None (omega arith) (within_bar _ None nothing) (e.ending_ll v).exact
-
-  pub line_exact : (k : ℕ) → Exact 1 (Seq (LineValue k) B) None (line_r q k)
-  unfolding line_r
-  line_exact k = weaken 1 None (omega arith) (within_bar _ None (λ t x. x)) (seq_exact (line_value_exact k) end_exact (λ v at s w at' t b g z. e.over v at s w at' t b z))
-
   pub line_opens : (k : ℕ) → Opens value_first (Seq (LineValue k) B)
   line_opens k = seq_opens (record { opens = line_value_begun k })
 
@@ -102,31 +95,9 @@ module _ {B : Tree → Lang Tree} {q : Tree → Reader Tree} (e : Ending B q) wh
   unfolding line_r
   line_more k j l = seq_more (value_more true k j l) λ v. calm (e.ending_ll v)
 
-  line_quoted : (at b : ℕ) (s : List ℕ) → is quotes b ≡ true → Stands (block_look at (b ∷ s)) (key_stop at (b ∷ s)) (line_r q 0 at (b ∷ s))
-  unfolding line_r
-  line_quoted at b s h =
-      subst
-      (λ (o : Out Tree). Stands (block_look at (b ∷ s)) (key_stop at (b ∷ s)) o)
-      (sym (ap (λ o. bind o q) (value_quoted at b s h) ∙ bind_ret (quoted_r at (b ∷ s)) (λ v a. leaf STRING at a v) q))
-      (quoted_stands
-      (λ v a. q (leaf STRING at a v) a)
-      (λ v. record { tame = λ a t. (end_exact (leaf STRING at a v)).moves.tame a t })
-      (λ v a t. (ll_shuts refl (e.ending_ll (leaf STRING at a v))).not a 58 t refl)
-      at
-      b
-      s
-      h)
-
-  not_dash : (at : ℕ) (t : List ℕ) → line_r q 0 at (45 ∷ 32 ∷ t) ≡ bad (suc at)
+  pub not_dash : (at : ℕ) (t : List ℕ) → line_r q 0 at (45 ∷ 32 ∷ t) ≡ bad (suc at)
   unfolding line_r
   not_dash at t = ap (λ o. bind o q) (value_dash at t)
-
-  pub line_stands : (at b : ℕ) (s : List ℕ) → is key_first b ≡ true → Stands (block_look at (b ∷ s)) (key_stop at (b ∷ s)) (line_r q 0 at (b ∷ s))
-  line_stands at b s h = by (is keybyte b) refl
-    where
-      by : (x : Bool) → is keybyte b ≡ x → Stands (block_look at (b ∷ s)) (key_stop at (b ∷ s)) (line_r q 0 at (b ∷ s))
-      by true x = bare_stands (λ v. ll_opens refl (e.ending_ll v)) end_exact (line_exact 0) not_dash at b s x
-      by false x = line_quoted at b s (is_right keybyte quotes b x h)
 
   pub line_alike : (k at b : ℕ) (s : List ℕ) → is key_first b ≡ true → line_r q k at (b ∷ s) ≡ line_r q 0 at (b ∷ s)
   unfolding line_r

@@ -37,6 +37,7 @@ module _ (text : ℕ → List ℕ) where
   among_in (among_later x) = let z = among_in x in (z.0, in_later z.1, z.2)
 
   apart_lone : {p : ℕ} {rs : List ℕ} → Apart text rs → In p rs → Other text p (text p) rs → ⊥
+  apart_lone {p = p} apart_none x5 _ = elim x5 [ ]
   apart_lone (apart_more n x) in_here (other_here f e) = f refl
   apart_lone (apart_more n x) in_here (other_later o) = n (other_among o)
   apart_lone (apart_more n x) (in_later i) (other_here f e) = n (in_among i (sym e))
@@ -73,10 +74,12 @@ module _ (text : ℕ → List ℕ) where
 
 module _ (D : Road) where
   pub above : {p q : ℕ} {rs : List ℕ} → Walks D p rs → In q rs → p ≤ q
+  above {q = q} walks_end x4 = elim x4 [ ]
   above (walks_on g w) in_here = omega arith
   above (walks_on {r = r} g w) (in_later i) = let l = above w i in omega (arith, D.onward r g)
 
   pub among_other : {p r : ℕ} {s : List ℕ} {rs : List ℕ} → Walks D p rs → r < p → Among D.text s rs → Other D.text r s rs
+  among_other {r = r} {s = s} walks_end l x7 = elim x7 [ ]
   among_other {r = r} (walks_on {r = q} g w) l (among_here e) = other_here (λ (z : q ≡ r). omega arith) e
   among_other (walks_on {r = q} g w) l (among_later x) = other_later (among_other w (omega (arith, D.onward q g)) x)
 

@@ -109,9 +109,9 @@ module _ (table : List ℕ) (rows : ℕ) (text : List ℕ) (fits : width * rows 
   numbers_placed : {k n r p x : ℕ} {ts : Forest} {ns : List ℕ} → Numbers ts ns → Elements k n ts → ForestAt table text r p x ts → r + sizes ts ≤ rows → Placed r ns × (length ns ≡ n)
   unfolding size
   numbers_placed no_number elements_none h l = (record { naturals = λ i m. absurd (omega arith); values = λ i m. absurd (omega arith) }, refl)
-  numbers_placed (one_number e xs) (elements_more s ys) h l =
+  numbers_placed (one_number e xs) (elements_more {n = n} s ys) h l =
       let g = natural_row s (first_at table text h) (omega arith) e in
-      let rest = numbers_placed xs ys (rest_at table text h) (omega arith) in
+      let rest = numbers_placed {n = n} xs ys (rest_at table text h) (omega arith) in
       (placed_more g.0 g.1 rest.0, ap suc rest.1)
 
   pub record Numbered (ts : Forest) (n : ℕ) : Type 0 where

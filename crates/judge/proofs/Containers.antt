@@ -30,7 +30,7 @@ use Rattle.blocks.specs.KeyLook.{keyed, dashed}
 use Rattle.blocks.specs.Array.{dashed_r, bullet_r}
 use Rattle.blocks.specs.Openers.{opener_r, nested_line_r}
 use Rattle.blocks.specs.Nested.{nested_here_r, nested_r, item_r}
-use Rattle.blocks.specs.Straight.{nested_array, nested_object, nested_line, item_array, item_object, item_line}
+use Rattle.blocks.proofs.StraightLaws.{nested_array, nested_object, nested_line, item_array, item_object, item_line}
 use Rattle.judge.specs.declared.Start.{Start}
 use Rattle.judge.specs.declared.Start.TheVariants.{Dash, Key, Line}
 use Rattle.judge.specs.declared.Next.{Next}

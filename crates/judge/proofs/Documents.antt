@@ -39,10 +39,12 @@ use Rattle.strings.specs.Keys.{key_r}
 use Rattle.blocks.specs.Or.{merge}
 use Rattle.blocks.specs.KeyLook.{keyed, dashed}
 use Rattle.blocks.specs.Openers.{opener_r}
-use Rattle.blocks.specs.Straight.{root_array, root_object, root_line}
+use Rattle.blocks.proofs.StraightLaws.{root_array, root_object, root_line}
 use Rattle.blocks.specs.Root.{root_r}
-use Rattle.blocks.specs.Document.{head_r, blanks_r, whole_r, verdict, exact}
-use Rattle.blocks.specs.Judged.{judge, Judged, judged}
+use Rattle.blocks.specs.Document.{head_r, blanks_r, whole_r, verdict}
+use Rattle.blocks.proofs.DocumentLaws.{exact}
+use Rattle.blocks.specs.Judged.{judge, Judged}
+use Rattle.blocks.proofs.JudgedLaws.{judged}
 use Rattle.judge.specs.declared.Start.{Start}
 use Rattle.judge.specs.declared.Start.TheVariants.{Dash, Key, Line}
 use Rattle.judge.specs.Members.{block_r, array_block, object_block}

@@ -14,9 +14,12 @@ use Rattle.sound.specs.Keys.{beyond}
 use Rattle.sound.specs.Standing.{Kept, kept_value, size_some, At, Along, kind_word, next_word, word_in}
 use Rattle.overlay.specs.Overlay.{is_object, pairs_of, pairs, Value, value, absent, at, value_of, new_ones}
 use Rattle.overlay.specs.Over.{clashes, over}
-use Rattle.overlay.specs.Lists.{topped, mended, laid_pairs, over_objects, over_other, over_others, no_value, new_kept, new_left}
-use Rattle.overlay.specs.Objects.{Props, props_value, sane_props, same_value}
-use Rattle.overlay.specs.Clash.{clashing, clashes_objects, clashes_one, clashes_other}
+use Rattle.overlay.specs.Lists.{topped, mended, laid_pairs, over_others, no_value, new_kept, new_left}
+use Rattle.overlay.proofs.ListsLaws.{over_objects, over_other}
+use Rattle.overlay.specs.Objects.{Props, props_value, same_value}
+use Rattle.overlay.proofs.ObjectsLaws.{sane_props}
+use Rattle.overlay.specs.Clash.{clashing}
+use Rattle.overlay.proofs.ClashLaws.{clashes_objects, clashes_one, clashes_other}
 use Rattle.lay.specs.declared.Spot.{Spot}
 use Rattle.lay.specs.declared.Grown.{Grown}
 use Rattle.lay.specs.declared.Lay.{Lay}

@@ -18,9 +18,12 @@ use Rattle.sound.specs.Keys.{beyond}
 use Rattle.sound.specs.Standing.{Kept, kept_value, size_some, At, Along, next_word, word_in}
 use Rattle.overlay.specs.Overlay.{is_object, pairs_of, pairs, Value, value, absent, value_of, new_ones}
 use Rattle.overlay.specs.Over.{clashes, over}
-use Rattle.overlay.specs.Lists.{topped, mended, laid_pairs, over_objects, new_kept, new_left, new_append}
-use Rattle.overlay.specs.Objects.{Props, sane_props, sane_other, pairs_count}
-use Rattle.overlay.specs.Clash.{clashing, clashes_objects}
+use Rattle.overlay.specs.Lists.{topped, mended, laid_pairs, new_kept, new_left, new_append}
+use Rattle.overlay.proofs.ListsLaws.{over_objects}
+use Rattle.overlay.specs.Objects.{Props, pairs_count}
+use Rattle.overlay.proofs.ObjectsLaws.{sane_props, sane_other}
+use Rattle.overlay.specs.Clash.{clashing}
+use Rattle.overlay.proofs.ClashLaws.{clashes_objects}
 use Rattle.lay.specs.declared.Spot.{Spot}
 use Rattle.lay.specs.declared.Grown.{Grown}
 use Rattle.lay.specs.declared.Lay.{Lay}

@@ -17,7 +17,8 @@ use Rattle.sound.specs.Pairwise.{Named}
 use Rattle.sound.specs.Standing.{Kept, kept_key, size_some, sizes_some, At, Along, next_word, node_along}
 use Rattle.overlay.specs.Overlay.{is_object, pairs_of, pairs, Value, value, absent, value_of}
 use Rattle.overlay.specs.Lists.{value_here, value_there}
-use Rattle.overlay.specs.Objects.{Props, props_none, props_more, sane_props}
+use Rattle.overlay.specs.Objects.{Props, props_none, props_more}
+use Rattle.overlay.proofs.ObjectsLaws.{sane_props}
 use Rattle.exact.specs.Class.{clash}
 use Rattle.lay.specs.Targets.{ceiling}
 

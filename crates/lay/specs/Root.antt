@@ -20,10 +20,11 @@ use Rattle.sound.specs.Members.{Sane}
 use Rattle.overlay.specs.Overlay.{is_object, Laid, laid, overlay}
 use Rattle.overlay.specs.Over.{clashes, over}
 use Rattle.overlay.specs.Overlaid.{CLASH, HoldsObject, Given, fits, clashed, rows, bytes, Overlaid, gives, bad_lower, bad_upper}
-use Rattle.overlay.specs.Unspanned.{unspan_twice, sane_unspan, unspan_object, over_unspan}
+use Rattle.overlay.specs.Unspanned.{unspan_twice, sane_unspan, unspan_object}
+use Rattle.overlay.proofs.UnspannedLaws.{over_unspan}
 use Rattle.overlay.specs.Profiles.{profile_sane}
-use Rattle.overlay.specs.Result.{overlay_laid, overlay_clash}
-use Rattle.overlay.specs.Bounds.{over_rows, over_text}
+use Rattle.overlay.proofs.ResultLaws.{overlay_laid, overlay_clash}
+use Rattle.overlay.proofs.BoundsLaws.{over_rows, over_text}
 use Rattle.lay.specs.declared.Spot.{Spot}
 use Rattle.lay.specs.declared.Lay.{Lay}
 use Rattle.lay.specs.declared.Lay.TheVariants.{Done, Clash}

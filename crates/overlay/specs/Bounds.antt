@@ -14,42 +14,36 @@ use Rattle.shaped.specs.Shaped.{Shaped, shaped_leaf, shaped_array, shaped_object
 use Rattle.sound.specs.Members.{Sane}
 use Rattle.overlay.specs.Overlay.{is_object, pairs, same, Value, value, absent, at, value_of, new_ones}
 use Rattle.overlay.specs.Over.{over}
-use Rattle.overlay.specs.Lists.{same_tells, no_value, value_here, value_there, topped, mended, laid_pairs, new_kept, new_left, over_objects, over_other, over_others}
-use Rattle.overlay.specs.Objects.{Props, props_none, props_more, props_value, sane_props, sane_other, pairs_forest, pairs_count}
+use Rattle.overlay.specs.Lists.{same_tells, no_value, value_here, value_there, topped, mended, laid_pairs, new_kept, new_left, over_others}
+use Rattle.overlay.specs.Objects.{Props, props_none, props_more, props_value, pairs_forest, pairs_count}
 
 -- an object is that of its pairs
-record Whole (t : Tree) : Type 0 where
-  first : ℕ
-  after : ℕ
-  is : t ≡ object_tree first after (pairs t)
-
-object_whole : {k : ℕ} {t : Tree} → Shaped k t → is_object t ≡ true → Whole t
-object_whole (shaped_leaf x) o = absurd (clash o refl)
-object_whole (shaped_array x) o = absurd (clash o refl)
-object_whole (shaped_object {a = a} {e = e} {n = n} {ts = ts} x) o =
-    record { first = a; after = e; is = ap (λ (c : ℕ). node 9 a e c ts) (sym (pairs_count x)) ∙ ap (node 9 a e (count (pairs (node 9 a e n ts)))) (sym (pairs_forest x)) }
+pub record Whole (t : Tree) : Type 0 where
+  pub first : ℕ
+  pub after : ℕ
+  pub is : t ≡ object_tree first after (pairs t)
 
 -- the weight of a tree, and of pairs
 module _ (w : Tree → ℕ) where
-  unfoldable weigh : List Field → ℕ
+  unfoldable pub weigh : List Field → ℕ
   weigh [] = 0
   weigh (field k v ∷ fs) = w k + w v + weigh fs
 
   -- what the keys of fs have among gs
-  unfoldable met : List Field → List Field → ℕ
+  unfoldable pub met : List Field → List Field → ℕ
   met [] gs = 0
   met (field k v ∷ fs) gs = at w 0 (value_of (text_of k) gs) + met fs gs
 
-  weigh_append : (fs gs : List Field) → weigh (fs ++ gs) ≡ weigh fs + weigh gs
+  pub weigh_append : (fs gs : List Field) → weigh (fs ++ gs) ≡ weigh fs + weigh gs
   unfolding weigh
   weigh_append [] gs = omega arith
   weigh_append (field k v ∷ fs) gs = omega (arith, weigh_append fs gs)
 
-  weigh_laid : (fs gs : List Field) → weigh (laid_pairs fs gs) ≡ weigh (mended fs gs) + weigh (new_ones fs gs)
+  pub weigh_laid : (fs gs : List Field) → weigh (laid_pairs fs gs) ≡ weigh (mended fs gs) + weigh (new_ones fs gs)
   unfolding laid_pairs
   weigh_laid fs gs = weigh_append (mended fs gs) (new_ones fs gs)
 
-  met_none : (fs : List Field) → met fs [] ≡ 0
+  pub met_none : (fs : List Field) → met fs [] ≡ 0
   unfolding met value_of
   met_none [] = refl
   met_none (field k v ∷ fs) = omega (arith, met_none fs)
@@ -81,7 +75,7 @@ module _ (w : Tree → ℕ) where
           omega (arith, ap (at w 0) i)
 
   -- what is met and what is new are no more than all
-  met_new : {k : ℕ} {fs : List Field} (gs : List Field) → Props k fs → met fs gs + weigh (new_ones fs gs) ≤ weigh gs
+  pub met_new : {k : ℕ} {fs : List Field} (gs : List Field) → Props k fs → met fs gs + weigh (new_ones fs gs) ≤ weigh gs
   unfolding weigh new_ones
   met_new {fs = fs} [] ps = omega (arith, met_none fs)
   met_new {fs = fs} (field g u ∷ gs) ps = by (value_of (text_of g) fs) refl (met_new gs ps) (met_here g u gs ps)
@@ -92,10 +86,10 @@ module _ (w : Tree → ℕ) where
       by absent e h i = omega (arith, ap weigh (new_kept fs g u gs e), met_there g u fs gs e)
 
   module _ (c : ℕ) (whole : (a e : ℕ) (fs : List Field) → w (object_tree a e fs) ≡ c + weigh fs) where
-    Bound : ℕ → Type 0
+    unfoldable pub Bound : ℕ → Type 0
     Bound k = (t u : Tree) → Sane k t → Sane k u → w (over t u) ≤ w t + w u
 
-    mended_weight : {k : ℕ} {fs : List Field} (gs : List Field) → Bound k → Props k fs → Props k gs → weigh (mended fs gs) ≤ weigh fs + met fs gs
+    pub mended_weight : {k : ℕ} {fs : List Field} (gs : List Field) → Bound k → Props k fs → Props k gs → weigh (mended fs gs) ≤ weigh fs + met fs gs
     unfolding weigh met mended text_of Bound
     mended_weight gs f props_none qs = omega arith
     mended_weight {k} gs f (props_more {a = a} {e = e} {d = d} {v = v} {fs = fs} x y n ps) qs =
@@ -106,43 +100,15 @@ module _ (w : Tree → ℕ) where
         by (value u) q = f v u y (props_value d.bytes qs q)
         by absent q = omega arith
 
-    over_bound : (k : ℕ) → Bound k
-    unfolding Bound
-    over_bound zero t u x y = omega (arith, ap w (over_other t u (sane_other x)))
-    over_bound (suc k) t u x y = by (is_object t) (is_object u) refl refl (over_bound k)
-      where
-        by : (a b : Bool) → is_object t ≡ a → is_object u ≡ b → Bound k → w (over t u) ≤ w t + w u
-        by false b p q f = omega (arith, ap w (over_other t u p))
-        by true false p q f = omega (arith, ap w (over_others t u q))
-        by true true p q f = both p q f (object_whole x.shaped p) (object_whole y.shaped q)
-          where
-            both : is_object t ≡ true → is_object u ≡ true → Bound k → Whole t → Whole u → w (over t u) ≤ w t + w u
-            both p q f i j =
-                let fs = pairs t in
-                let gs = pairs u in
-                let m = mended_weight gs f (sane_props x p) (sane_props y q) in
-                let n = met_new gs (sane_props x p) in
-                let o : w (over t u) ≡ c + weigh (laid_pairs fs gs) = ap w (over_objects t u p q) ∙ whole 0 0 (laid_pairs fs gs) in
-                let l = weigh_laid fs gs in
-                omega (arith, ap w i.is ∙ whole i.first i.after fs, ap w j.is ∙ whole j.first j.after gs)
-
 -- ROWS, AND TEXT
-object_rows : (a e : ℕ) (fs : List Field) → size (object_tree a e fs) ≡ 1 + weigh size fs
+pub object_rows : (a e : ℕ) (fs : List Field) → size (object_tree a e fs) ≡ 1 + weigh size fs
 unfolding size weigh
 object_rows a e [] = refl
 object_rows a e (field k v ∷ fs) = omega (arith, object_rows a e fs)
 
-object_text : (a e : ℕ) (fs : List Field) → length (text_of (object_tree a e fs)) ≡ 0 + weigh (λ t. length (text_of t)) fs
+pub object_text : (a e : ℕ) (fs : List Field) → length (text_of (object_tree a e fs)) ≡ 0 + weigh (λ t. length (text_of t)) fs
 unfolding text_of weigh
 object_text a e [] = refl
 object_text a e (field k v ∷ fs) =
     let us = forest (fields fs) in
     omega (arith, object_text a e fs, length-append (text_of k) (text_of v ++ texts_of us), length-append (text_of v) (texts_of us))
-
-pub over_rows : (k : ℕ) (t u : Tree) → Sane k t → Sane k u → size (over t u) ≤ size t + size u
-unfolding Bound
-over_rows k t u x y = over_bound size 1 object_rows k t u x y
-
-pub over_text : (k : ℕ) (t u : Tree) → Sane k t → Sane k u → length (text_of (over t u)) ≤ length (text_of t) + length (text_of u)
-unfolding Bound
-over_text k t u x y = over_bound (λ z. length (text_of z)) 0 object_text k t u x y

@@ -14,7 +14,7 @@ use Rattle.overlay.specs.Overlay.{is_object, pairs_of, pair_of, pairs, same, Val
 use Rattle.overlay.specs.Over.{clashes, clash_in, clash_of, over, clash_or_over}
 use Rattle.overlay.specs.Lists.{same_tells, no_value, value_here, value_later}
 use Rattle.overlay.specs.Result.{over_given, clash_given}
-use Rattle.overlay.specs.Objects.{Props, props_none, props_more, same_value, props_value, sane_props, sane_other}
+use Rattle.overlay.specs.Objects.{Props, props_none, props_more, same_value, props_value}
 
 pub data Clash : Tree → Tree → Type 0 where
   lower_object : {t u : Tree} → is_object t ≡ true → is_object u ≡ false → Clash t u
@@ -48,28 +48,13 @@ clashing (field k v ∷ fs) gs = or (at (λ w. clashes v w) false (value_of (tex
 mutual
   unfolding pairs_of clashes clashing
 
-  clash_pairs : (ts : Forest) (gs : List Field) → clash_in ts gs ≡ clashing (pairs_of ts) gs
+  pub clash_pairs : (ts : Forest) (gs : List Field) → clash_in ts gs ≡ clashing (pairs_of ts) gs
   clash_pairs none gs = refl
   clash_pairs (more k ts) gs = clash_pair ts k gs
 
   clash_pair : (ts : Forest) (k : Tree) (gs : List Field) → clash_of ts k gs ≡ clashing (pair_of ts k) gs
   clash_pair none k gs = refl
   clash_pair (more v ts) k gs = ap (or (at (λ w. clashes v w) false (value_of (text_of k) gs))) (clash_pairs ts gs)
-
-pub clashes_objects : (t u : Tree) → is_object t ≡ true → is_object u ≡ true → clashes t u ≡ clashing (pairs t) (pairs u)
-unfolding clashes
-clashes_objects (leaf k a e s) u p q = absurd (bools.clash p refl)
-clashes_objects (node k a e c ts) u p q = rw (p, q) (clash_pairs ts (pairs u))
-
-pub clashes_one : (t u : Tree) → is_object t ≡ true → is_object u ≡ false → clashes t u ≡ true
-unfolding clashes
-clashes_one (leaf k a e s) u p q = absurd (bools.clash p refl)
-clashes_one (node k a e c ts) u p q = rw (p, q)
-
-pub clashes_other : (t u : Tree) → is_object t ≡ false → clashes t u ≡ is_object u
-unfolding clashes
-clashes_other (leaf k a e s) u p = refl
-clashes_other (node k a e c ts) u p = rw p
 
 -- one pair more
 module _ (d v : Tree) (fs gs : List Field) (apart : value_of (text_of d) fs ≡ absent) where
@@ -97,53 +82,9 @@ module _ (d v : Tree) (fs gs : List Field) (apart : value_of (text_of d) fs ≡ 
       by false n = tells_map meet_later (λ m. meet_first m (λ y p c. n (subst (Clash v) (same_value (sym p ∙ e)) c))) r g
 
 module _ (k : ℕ) (deeper : (t u : Tree) → Sane k t → Sane k u → Tells (Clash t u) (clashes t u)) where
-  clashing_tells : {fs gs : List Field} → Props k fs → Props k gs → Tells (Meet fs gs) (clashing fs gs)
+  pub clashing_tells : {fs gs : List Field} → Props k fs → Props k gs → Tells (Meet fs gs) (clashing fs gs)
   unfolding clashing value_of text_of
   clashing_tells props_none qs = λ m. no_value m.lower_is refl
   clashing_tells {gs = gs} (props_more {a = a} {e = e} {d = d} {v = v} {fs = fs} x y n ps) qs =
       let key = leaf KEY a e d in
       meet_tells key v fs gs n (value_of d.bytes gs) refl (λ w p. deeper v w y (props_value d.bytes qs p)) (clashing fs gs) (clashing_tells ps qs)
-
-  both_tell : (t u : Tree) → Sane (suc k) t → Sane (suc k) u → is_object t ≡ true → is_object u ≡ true → Tells (Clash t u) (clashes t u)
-  both_tell t u x y p q = rw (clashes_objects t u p q) (tells_map up down (clashing (pairs t) (pairs u)) (clashing_tells (sane_props x p) (sane_props y q)))
-    where
-      up : Meet (pairs t) (pairs u) → Clash t u
-      up m = below m.key p q m.lower_is m.upper_is m.clash
-
-      down : Clash t u → Meet (pairs t) (pairs u)
-      down (lower_object i j) = absurd (bools.clash q j)
-      down (upper_object i j) = absurd (bools.clash p i)
-      down (below {v = v} {w = w} s i j a b c) = record { key = s; lower = v; upper = w; lower_is = a; upper_is = b; clash = c }
-
--- .. another value below
-other_tells : (t u : Tree) → is_object t ≡ false → Tells (Clash t u) (clashes t u)
-other_tells t u p = rw (clashes_other t u p) (by (is_object u) refl)
-  where
-    by : (x : Bool) → is_object u ≡ x → Tells (Clash t u) x
-    by true q = upper_object p q
-    by false q = no_clash p q
-
-pub clashes_tells : (k : ℕ) (t u : Tree) → Sane k t → Sane k u → Tells (Clash t u) (clashes t u)
-clashes_tells zero t u x y = other_tells t u (sane_other x)
-clashes_tells (suc k) t u x y = by (is_object t) (is_object u) refl refl (λ v w i j. clashes_tells k v w i j)
-  where
-    by : (a b : Bool) → is_object t ≡ a → is_object u ≡ b → ((v w : Tree) → Sane k v → Sane k w → Tells (Clash v w) (clashes v w)) → Tells (Clash t u) (clashes t u)
-    by true true p q f = both_tell k f t u x y p q
-    by true false p q f = rw (clashes_one t u p q) (lower_object p q)
-    by false b p q f = other_tells t u p
-
--- so laying gives a clash, or the one over the other
-module _ (k : ℕ) (t u : Tree) (x : Sane k t) (y : Sane k u) where
-  pub clash_told : Clash t u → clash_or_over t u ≡ clash
-  clash_told c = clash_given t u (by (clashes t u) (clashes_tells k t u x y))
-    where
-      by : (r : Bool) → Tells (Clash t u) r → r ≡ true
-      by true e = refl
-      by false n = absurd (n c)
-
-  pub over_told : (Clash t u → ⊥) → clash_or_over t u ≡ laid (over t u)
-  over_told n = over_given t u (by (clashes t u) (clashes_tells k t u x y))
-    where
-      by : (r : Bool) → Tells (Clash t u) r → r ≡ false
-      by true c = absurd (n c)
-      by false e = refl

@@ -11,8 +11,8 @@ use Rattle.overlay.specs.Lists.{no_value}
 use Rattle.overlay.specs.Objects.{same_value}
 use Rattle.overlay.specs.Unspanned.{bare_value, plain_value, unspan_object, sane_unspan}
 use Rattle.overlay.specs.Profiles.{ProfileTree, tree_sane}
-use Rattle.overlay.specs.Result.{no_tree, overlay_laid, overlay_clash}
-use Rattle.overlay.specs.Clash.{Clash, lower_object, upper_object, below, clashes_tells}
+use Rattle.overlay.specs.Result.{no_tree}
+use Rattle.overlay.specs.Clash.{Clash, lower_object, upper_object, below}
 
 -- SPANS ASIDE
 pub clash_unspan : {t u : Tree} → Clash t u → Clash (unspan t) (unspan u)
@@ -21,13 +21,13 @@ clash_unspan {t} {u} (upper_object p q) = upper_object (unspan_object t ∙ p) (
 clash_unspan {t} {u} (below s p q i j c) =
     below s (unspan_object t ∙ p) (unspan_object u ∙ q) (plain_value s t ∙ ap bare_value i) (plain_value s u ∙ ap bare_value j) (clash_unspan c)
 
-object_back : {x : Tree} {b : Bool} (t : Tree) → x ≡ unspan t → is_object x ≡ b → is_object t ≡ b
+pub object_back : {x : Tree} {b : Bool} (t : Tree) → x ≡ unspan t → is_object x ≡ b → is_object t ≡ b
 object_back t e p = sym (unspan_object t) ∙ (sym (ap is_object e) ∙ p)
 
 value_back : {x : Tree} {v : Value} (s : List ℕ) (t : Tree) → x ≡ unspan t → value_of s (pairs t) ≡ v → value_of s (pairs x) ≡ bare_value v
 value_back s t e l = ap (λ (z : Tree). value_of s (pairs z)) e ∙ (plain_value s t ∙ ap bare_value l)
 
-clash_back : {x y : Tree} → Clash x y → (t u : Tree) → x ≡ unspan t → y ≡ unspan u → Clash t u
+pub clash_back : {x y : Tree} → Clash x y → (t u : Tree) → x ≡ unspan t → y ≡ unspan u → Clash t u
 clash_back (lower_object p q) t u e f = lower_object (object_back t e p) (object_back u f q)
 clash_back (upper_object p q) t u e f = upper_object (object_back t e p) (object_back u f q)
 clash_back (below {v = v} {w = w} s p q i j c) t u e f = by (value_of s (pairs t)) (value_of s (pairs u)) refl refl (λ a b. clash_back c a b)
@@ -37,11 +37,3 @@ clash_back (below {v = v} {w = w} s p q i j c) t u e f = by (value_of s (pairs t
         below s (object_back t e p) (object_back u f q) g h (d a b (same_value (sym i ∙ value_back s t e g)) (same_value (sym j ∙ value_back s u f h)))
     by absent m g h d = absurd (no_value i (value_back s t e g))
     by (value a) absent g h d = absurd (no_value j (value_back s u f h))
-
--- THE LAW
-pub overlay_clashes : (t u : Tree) → ProfileTree t → ProfileTree u → overlay t u ≡ clash ↔ Clash t u
-overlay_clashes t u x y = by (clashes (unspan t) (unspan u)) refl (clashes_tells deepest (unspan t) (unspan u) (sane_unspan t (tree_sane x)) (sane_unspan u (tree_sane y)))
-  where
-    by : (b : Bool) → clashes (unspan t) (unspan u) ≡ b → Tells (Clash (unspan t) (unspan u)) b → overlay t u ≡ clash ↔ Clash t u
-    by true p c = (λ e. clash_back c t u refl refl, λ d. overlay_clash t u p)
-    by false p n = (λ e. absurd (no_tree (overlay_laid t u p) e), λ d. absurd (n (clash_unspan d)))

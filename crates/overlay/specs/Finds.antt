@@ -15,13 +15,13 @@ use Rattle.shaped.specs.Shaped.{Shaped, shaped_leaf, shaped_array, shaped_object
 use Rattle.sound.specs.Members.{Sane}
 use Rattle.overlay.specs.Overlay.{is_object, pairs, same, Value, value, absent, value_of, laid, overlay}
 use Rattle.overlay.specs.Over.{clashes, over}
-use Rattle.overlay.specs.Lists.{same_tells, no_value, value_here, value_later, merged, over_other, over_value}
-use Rattle.overlay.specs.Objects.{Props, props_none, props_more, same_value, props_value, pairs_forest, sane_props, sane_other}
+use Rattle.overlay.specs.Lists.{same_tells, no_value, value_here, value_later, merged}
+use Rattle.overlay.specs.Objects.{Props, props_none, props_more, same_value, props_value, pairs_forest}
 use Rattle.overlay.specs.Unspanned.{bare_value, plain_value, unspan_object, sane_unspan}
-use Rattle.overlay.specs.Walked.{overlay_either}
+
 use Rattle.overlay.specs.Profiles.{ProfileTree, tree_sane, sane_tree}
-use Rattle.overlay.specs.Result.{overlay_over, overlay_object, overlay_sane}
-use Rattle.overlay.specs.Clash.{Clash, lower_object, upper_object, below, clashes_tells, over_told}
+
+use Rattle.overlay.specs.Clash.{Clash, lower_object, upper_object, below}
 
 -- an object's children: one of its pairs has the key s, with the value v
 pub data Property (s : List ℕ) (v : Tree) : Forest → Type 0 where
@@ -31,7 +31,7 @@ pub data Property (s : List ℕ) (v : Tree) : Forest → Type 0 where
 pub data Finds (s : List ℕ) (v : Tree) : Tree → Type 0 where
   finds : {a e c : ℕ} {ts : Forest} → Property s v ts → Finds s v (node OBJECT a e c ts)
 
-finds_object : {s : List ℕ} {v t : Tree} → Finds s v t → is_object t ≡ true
+pub finds_object : {s : List ℕ} {v t : Tree} → Finds s v t → is_object t ≡ true
 finds_object (finds p) = refl
 
 abbrev pub Lacks : List ℕ → Tree → Type 0
@@ -39,13 +39,13 @@ Lacks s t = (v : Tree) → Finds s v t → ⊥
 
 -- IN AN OBJECT as documents without repeated keys have it, that is the value of the key
 module _ {k : ℕ} (s : List ℕ) where
-  to_value : {fs : List Field} {v : Tree} → Props k fs → Property s v (forest (fields fs)) → value_of s fs ≡ value v
+  pub to_value : {fs : List Field} {v : Tree} → Props k fs → Property s v (forest (fields fs)) → value_of s fs ≡ value v
   unfolding text_of
   to_value props_none h = elim h [ ]
   to_value (props_more {a = a} {e = e} {d = d} {v = v} {fs = fs} x y n ps) here = value_here d.bytes (leaf KEY a e d) v fs refl
   to_value (props_more {a = a} {e = e} {d = d} {v = v} {fs = fs} x y n ps) (later h) = value_later s (leaf KEY a e d) v fs n (to_value ps h)
 
-  of_value : {fs : List Field} {v : Tree} → Props k fs → value_of s fs ≡ value v → Property s v (forest (fields fs))
+  pub of_value : {fs : List Field} {v : Tree} → Props k fs → value_of s fs ≡ value v → Property s v (forest (fields fs))
   unfolding value_of text_of
   of_value props_none h = absurd (no_value h refl)
   of_value {v = v} (props_more {a = a} {e = e} {d = d} {v = w} {fs = fs} x y n ps) h = by (same s d.bytes) (same_tells s d.bytes) h (λ g. of_value ps g)
@@ -55,26 +55,6 @@ module _ {k : ℕ} (s : List ℕ) where
       by true p g f = subst₂ (λ (l : List ℕ) (z : Tree). Property l z (more (leaf KEY a e d) (more w (forest (fields fs))))) (sym p) (same_value g) here
       by false p g f = later (f g)
 
-module _ {k : ℕ} (s : List ℕ) (t : Tree) (x : Sane (suc k) t) where
-  found_value : {v : Tree} → Finds s v t → value_of s (pairs t) ≡ value v
-  found_value {v} h = by x.shaped (sane_props x (finds_object h)) h
-    where
-      by : {t : Tree} → Shaped (suc k) t → Props k (pairs t) → Finds s v t → value_of s (pairs t) ≡ value v
-      by (shaped_leaf y) ps f = elim f [ ]
-      by (shaped_array y) ps f = elim f [ ]
-      by (shaped_object y) ps (finds p) = to_value s ps (subst (Property s v) (sym (pairs_forest y)) p)
-
-  value_found : {v : Tree} → is_object t ≡ true → value_of s (pairs t) ≡ value v → Finds s v t
-  value_found {v} o e = by x.shaped (sane_props x o) o e
-    where
-      by : {t : Tree} → Shaped (suc k) t → Props k (pairs t) → is_object t ≡ true → value_of s (pairs t) ≡ value v → Finds s v t
-      by (shaped_leaf y) ps o e = absurd (clash o refl)
-      by (shaped_array y) ps o e = absurd (clash o refl)
-      by (shaped_object y) ps o e = finds (subst (Property s v) (pairs_forest y) (of_value s ps e))
-
-  value_lacks : value_of s (pairs t) ≡ absent → Lacks s t
-  value_lacks e v h = no_value (found_value h) e
-
 -- THE RESULT r of two trees t and u, for the key s, spans aside
 pub data KeyOver (t u r : Tree) (s : List ℕ) : Type 0 where
   lower_only : (v : Tree) → Finds s v t → Lacks s u → Finds s (unspan v) r → KeyOver t u r s
@@ -83,60 +63,9 @@ pub data KeyOver (t u r : Tree) (s : List ℕ) : Type 0 where
   both_objects : (v w x : Tree) → Finds s v t → Finds s w u → is_object v ≡ true → is_object w ≡ true → overlay v w ≡ laid x → Finds s x r → KeyOver t u r s
   neither : Lacks s t → Lacks s u → Lacks s r → KeyOver t u r s
 
-module _ (k : ℕ) (t u : Tree) (x : Sane (suc k) t) (y : Sane (suc k) u) (o : is_object t ≡ true) (q : is_object u ≡ true) {r : Tree} (e : overlay t u ≡ laid r) where
-  result_value : (s : List ℕ) → value_of s (pairs r) ≡ merged (bare_value (value_of s (pairs t))) (bare_value (value_of s (pairs u)))
-  result_value s =
-      ap (λ (w : Tree). value_of s (pairs w)) (overlay_over t u e).1
-      ∙ (over_value s (unspan t) (unspan u) (unspan_object t ∙ o) (unspan_object u ∙ q) ∙ ap₂ merged (plain_value s t) (plain_value s u))
-
-  sane : Sane (suc k) r
-  sane = overlay_sane t u e x y
-
-  root : is_object r ≡ true
-  root = overlay_object t u e o q
-
-  result_found : (s : List ℕ) {a b : Value} {w : Tree} → value_of s (pairs t) ≡ a → value_of s (pairs u) ≡ b → merged (bare_value a) (bare_value b) ≡ value w → Finds s w r
-  result_found s p i h = value_found s r sane root (result_value s ∙ (ap₂ (λ (a b : Value). merged (bare_value a) (bare_value b)) p i ∙ h))
-
-  module _ (s : List ℕ) (v w : Tree) (p : value_of s (pairs t) ≡ value v) (i : value_of s (pairs u) ≡ value w) where
-    agree : Clash (unspan t) (unspan u) → ⊥
-    agree = tells_no (clashes (unspan t) (unspan u)) (overlay_over t u e).0 (clashes_tells (suc k) (unspan t) (unspan u) (sane_unspan t x) (sane_unspan u y))
-
-    below_agree : Clash (unspan v) (unspan w) → ⊥
-    below_agree c = agree (below s (unspan_object t ∙ o) (unspan_object u ∙ q) (plain_value s t ∙ ap bare_value p) (plain_value s u ∙ ap bare_value i) c)
-
-    below_laid : overlay v w ≡ laid (over (unspan v) (unspan w))
-    below_laid =
-        overlay_either v w
-        ∙ over_told k (unspan v) (unspan w) (sane_unspan v (props_value s (sane_props x o) p)) (sane_unspan w (props_value s (sane_props y q) i)) below_agree
-
-    -- two others, two objects, and never one of each
-    both_over : (a b : Bool) → is_object v ≡ a → is_object w ≡ b → KeyOver t u r s
-    both_over true true g h =
-        both_objects v w (over (unspan v) (unspan w)) (value_found s t x o p) (value_found s u y q i) g h below_laid (result_found s p i refl)
-    both_over false false g h =
-        both_others v w (value_found s t x o p) (value_found s u y q i) g h
-        (result_found s p i (ap value (over_other (unspan v) (unspan w) (unspan_object v ∙ g))))
-    both_over true false g h = absurd (below_agree (lower_object (unspan_object v ∙ g) (unspan_object w ∙ h)))
-    both_over false true g h = absurd (below_agree (upper_object (unspan_object v ∙ g) (unspan_object w ∙ h)))
-
-  key_over : (s : List ℕ) → KeyOver t u r s
-  key_over s = by (value_of s (pairs t)) (value_of s (pairs u)) refl refl
-    where
-      by : (a b : Value) → value_of s (pairs t) ≡ a → value_of s (pairs u) ≡ b → KeyOver t u r s
-      by (value v) (value w) p i = both_over s v w p i (is_object v) (is_object w) refl refl
-      by (value v) absent p i = lower_only v (value_found s t x o p) (value_lacks s u y i) (result_found s p i refl)
-      by absent (value w) p i = upper_only w (value_lacks s t x p) (value_found s u y q i) (result_found s p i refl)
-      by absent absent p i = neither (value_lacks s t x p) (value_lacks s u y i) (value_lacks s r sane (result_value s ∙ ap₂ (λ (a b : Value). merged (bare_value a) (bare_value b)) p i))
-
--- one value for a key
-pub finds_one : {k : ℕ} (t : Tree) → Sane k t → (s : List ℕ) {v w : Tree} → Finds s v t → Finds s w t → v ≡ w
-finds_one {k = zero} t x s h g = absurd (clash (finds_object h) (sane_other x))
-finds_one {k = suc k} t x s h g = same_value (sym (found_value s t x h) ∙ found_value s t x g)
-
 -- the value of a key is a tree as documents without repeated keys have it
 mutual
-  wider : {k : ℕ} {t : Tree} → Shaped k t → Shaped (suc k) t
+  pub wider : {k : ℕ} {t : Tree} → Shaped k t → Shaped (suc k) t
   wider (shaped_leaf x) = shaped_leaf x
   wider (shaped_array x) = shaped_array (wider_elements x)
   wider (shaped_object x) = shaped_object (wider_pairs x)
@@ -148,18 +77,3 @@ mutual
   wider_pairs : {k n : ℕ} {ts : Forest} → Pairs k n ts → Pairs (suc k) n ts
   wider_pairs pairs_none = pairs_none
   wider_pairs (pairs_more x y z) = pairs_more x (wider y) (wider_pairs z)
-
-pub finds_profile : {t v : Tree} (s : List ℕ) → ProfileTree t → Finds s v t → ProfileTree v
-finds_profile {t} {v} s x h = sane_tree v (by deepest (tree_sane x))
-  where
-    by : (k : ℕ) → Sane k t → Sane k v
-    by zero y = absurd (clash (finds_object h) (sane_other y))
-    by (suc k) y = let z = props_value s (sane_props y (finds_object h)) (found_value s t y h) in record { shaped = wider z.shaped; once = z.once }
-
--- THE LAW
-pub overlay_finds : (t u r : Tree) → ProfileTree t → ProfileTree u → is_object t ≡ true → is_object u ≡ true → overlay t u ≡ laid r → (s : List ℕ) → KeyOver t u r s
-overlay_finds t u r x y o q e = by deepest (tree_sane x) (tree_sane y)
-  where
-    by : (k : ℕ) → Sane k t → Sane k u → (s : List ℕ) → KeyOver t u r s
-    by zero i j = absurd (clash o (sane_other i))
-    by (suc k) i j = key_over k t u i j o q e

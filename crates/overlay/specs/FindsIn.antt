@@ -21,8 +21,8 @@ use Rattle.sound.specs.Members.{Sane}
 use Rattle.overlay.specs.Overlay.{is_object, Laid, laid, overlay}
 use Rattle.overlay.specs.Overlaid.{HoldsObject, Given, fits, clashed, rows, bytes, Overlaid, gives, bad_lower, bad_upper}
 use Rattle.overlay.specs.Profiles.{profile_tree, profile_sane}
-use Rattle.overlay.specs.Result.{overlay_object, overlay_sane}
-use Rattle.overlay.specs.Finds.{Property, here, later, Finds, finds, Lacks, KeyOver, lower_only, upper_only, both_others, both_objects, neither, finds_one, overlay_finds}
+
+use Rattle.overlay.specs.Finds.{Property, here, later, Finds, finds, Lacks, KeyOver, lower_only, upper_only, both_others, both_objects, neither}
 
 -- WHAT `find` ANSWERS for the key s in row 0 of the table of r, the overlay of t and u: the row of its value, or that there is none
 pub data FoundOver (t u r : Tree) (s : List ℕ) : Found → Type 0 where
@@ -38,18 +38,18 @@ pub record Listed (b : ℕ) (ts : Forest) : Type 0 where
   pub list : List Pair
   pub pairs : Pairs b ts list
 
-listed : {k n : ℕ} {ts : Forest} (b : ℕ) → shaped.Pairs k n ts → Listed b ts
+pub listed : {k n : ℕ} {ts : Forest} (b : ℕ) → shaped.Pairs k n ts → Listed b ts
 listed b shaped.pairs_none = record { list = []; pairs = no_pair }
 listed b (shaped.pairs_more {s = s} {v = v} x y z) =
     let l = listed (b + 1 + size v) z in
     record { list = pair s.bytes (b + 1) v ∷ l.list; pairs = one_pair l.pairs }
 
-holds_property : {b i : ℕ} {s : List ℕ} {v : Tree} {ts : Forest} {fs : List Pair} → Pairs b ts fs → Holds s i v fs → Property s v ts
+pub holds_property : {b i : ℕ} {s : List ℕ} {v : Tree} {ts : Forest} {fs : List Pair} → Pairs b ts fs → Holds s i v fs → Property s v ts
 holds_property {i = i} {s = s} {v = v} (no_pair {r = r}) x5 = elim x5 [ ]
 holds_property (one_pair x) held = here
 holds_property (one_pair x) (held_later h) = later (holds_property x h)
 
-property_holds : {b : ℕ} {s : List ℕ} {v : Tree} {ts : Forest} {fs : List Pair} → Pairs b ts fs → Property s v ts → (i : ℕ) × Holds s i v fs
+pub property_holds : {b : ℕ} {s : List ℕ} {v : Tree} {ts : Forest} {fs : List Pair} → Pairs b ts fs → Property s v ts → (i : ℕ) × Holds s i v fs
 property_holds {s = s} {v = v} (no_pair {r = r}) x5 = elim x5 [ ]
 property_holds (one_pair {r = r} x) here = (r + 1, held)
 property_holds (one_pair x) (later h) = let g = property_holds x h in (g.0, held_later g.1)
@@ -61,52 +61,8 @@ pub record Rooted (r : Tree) : Type 0 where
   pub to : {s : List ℕ} {i : ℕ} {v : Tree} → Holds s i v list → Finds s v r
   pub of : {s : List ℕ} {v : Tree} → Finds s v r → (i : ℕ) × Holds s i v list
 
-rooted : {k : ℕ} {r : Tree} → Shaped k r → is_object r ≡ true → Rooted r
-rooted (shaped_leaf x) o = absurd (clash o refl)
-rooted (shaped_array x) o = absurd (clash o refl)
-rooted (shaped_object {a = a} {e = e} {n = n} {ts = ts} x) o =
-    record { list = l.list; at = object_at own l.pairs; to = λ h. finds (holds_property l.pairs h); of = λ h. back h }
-  where
-    l : Listed 1 ts
-    l = listed 1 x
-
-    back : {s : List ℕ} {v : Tree} → Finds s v (node OBJECT a e n ts) → (i : ℕ) × Holds s i v l.list
-    back (finds p) = property_holds l.pairs p
-
-module _ (t u r : Tree) (s : List ℕ) (over : KeyOver t u r s) {k : ℕ} (sane : Sane k r) (root : Rooted r) where
-  at_row : (i : ℕ) (v : Tree) → Holds s i v root.list → FoundOver t u r s (At (record { 0 = i }))
-  at_row i v h = by over
-    where
-      row : {w : Tree} → Finds s w r → RowOf i w 0 r
-      row g = subst (λ (z : Tree). RowOf i z 0 r) (finds_one r sane s (root.to h) g) (value_row root.at h)
-
-      by : KeyOver t u r s → FoundOver t u r s (At (record { 0 = i }))
-      by (lower_only w p n g) = found_lower w p n (row g)
-      by (upper_only w n q g) = found_upper w n q (row g)
-      by (both_others a b p q i j g) = found_others a b p q i j (row g)
-      by (both_objects a b x p q i j e g) = found_objects a b x p q i j e (row g)
-      by (neither p q n) = absurd (n v (root.to h))
-
-  at_none : NoKey root.list s → FoundOver t u r s Missing
-  at_none z = by over
-    where
-      missing : {w : Tree} → Finds s w r → ⊥
-      missing {w} g = let h = root.of g in z h.0 (record { value = w; holds = h.1 })
-
-      by : KeyOver t u r s → FoundOver t u r s Missing
-      by (lower_only w p n g) = absurd (missing g)
-      by (upper_only w n q g) = absurd (missing g)
-      by (both_others a b p q i j g) = absurd (missing g)
-      by (both_objects a b x p q i j e g) = absurd (missing g)
-      by (neither p q n) = found_none p q
-
-  answered : (f : Found) → Answers f root.list s → FoundOver t u r s f
-  answered (At row) a = let z = (a.at {i = row.0}).0 refl in at_row row.0 z.value z.holds
-  answered Missing a = at_none (a.missing.0 refl)
-  answered BadRow a = absurd (a.sure refl)
-
 -- the table and the text room of the result
-laid_filled : (r : Tree) (table text : List ℕ) → width * size r ≤ words_in table → length (text_of r) ≤ bytes_in text
+pub laid_filled : (r : Tree) (table text : List ℕ) → width * size r ≤ words_in table → length (text_of r) ≤ bytes_in text
     → Filled r (size r) (rows_of unlined 0 0 0 r ++ drop (width * size r) table) (text_of r ++ drop (length (text_of r)) text)
 laid_filled r table text h k =
     let w = rows_of unlined 0 0 0 r in
@@ -131,32 +87,3 @@ pub record FoundIn (lower : List ℕ) (m : ℕ) (lowerText upper : List ℕ) (n 
   pub overlaid : overlay under above ≡ laid result
   pub filled : Filled result c table text
   pub found : (s : List ℕ) (f : Found) → questions.Finds table c text s 0 (questions.found_reply f) → FoundOver under above result s f
-
-module _ {lower : List ℕ} {m : ℕ} {lowerText upper : List ℕ} {n : ℕ} {upperText table text : List ℕ} where
-  found_given : {l : Laid} {c v s : ℕ} {table' text' : List ℕ} (t u : Tree) → HoldsObject lower m lowerText t → HoldsObject upper n upperText u → overlay t u ≡ l
-      → Given table text l c v s table' text' → c ≡ 0 → FoundIn lower m lowerText upper n upperText table' v text'
-  found_given t u p i e (fits r h k) z =
-      let x = overlay_sane t u e (profile_sane p.holds.profile) (profile_sane i.holds.profile) in
-      let root = rooted x.shaped (overlay_object t u e p.object i.object) in
-      let filled = laid_filled r table text h k in
-      record {
-        under = t;
-        above = u;
-        result = r;
-        under_held = p;
-        above_held = i;
-        overlaid = e;
-        filled = filled;
-        found =
-            λ s f g. answered t u r s (overlay_finds t u r (profile_tree p.holds.profile) (profile_tree i.holds.profile) p.object i.object e s) x root f
-            (answers f g (find_value filled x.once root.at s));
-      }
-  found_given t u p i e clashed z = absurd (omega arith)
-  found_given t u p i e (rows r h) z = absurd (omega arith)
-  found_given t u p i e (bytes r h k) z = absurd (omega arith)
-
-  pub overlay_found : {c v s : ℕ} {table' text' : List ℕ} → Overlaid lower m lowerText upper n upperText table text c v s table' text' → c ≡ 0
-      → FoundIn lower m lowerText upper n upperText table' v text'
-  overlay_found (gives t u p i g) z = found_given t u p i refl g z
-  overlay_found (bad_lower x) z = absurd (omega arith)
-  overlay_found (bad_upper x) z = absurd (omega arith)

@@ -6,10 +6,10 @@ use Rattle.language.specs.Tree.{Tree, leaf, Field, field, object_tree, text_of}
 use Rattle.sound.specs.Members.{Sane}
 use Rattle.overlay.specs.Overlay.{is_object, pairs, Value, value, absent, at, value_of, new_ones}
 use Rattle.overlay.specs.Over.{over}
-use Rattle.overlay.specs.Lists.{value_here, value_later, new_kept, new_left, new_append, topped, mended, merged, laid_pairs, laid_value, over_objects, over_pairs, over_others}
-use Rattle.overlay.specs.Objects.{Props, props_none, props_more, props_value, sane_props, sane_other}
+use Rattle.overlay.specs.Lists.{value_here, value_later, new_kept, new_left, new_append, topped, mended, merged, laid_pairs, laid_value, over_others}
+use Rattle.overlay.specs.Objects.{Props, props_none, props_more, props_value}
 use Rattle.overlay.specs.Clash.{Clash, upper_object, below}
-use Rattle.overlay.specs.Clashing.{over_root}
+
 
 -- PAIRS BEHIND PAIRS
 mended_append : (fs gs hs : List Field) → mended (fs ++ gs) hs ≡ mended fs hs ++ mended gs hs
@@ -42,7 +42,7 @@ new_new fs gs (field k w ∷ hs) = rw (laid_value (text_of k) fs gs, ← (new_ne
     by absent absent e = new_kept fs k w (new_ones gs hs) e
 
 -- the lowest's pairs, with two values over theirs, where those of each key may be grouped
-Groups : List Field → List Field → List Field → Type 0
+unfoldable pub Groups : List Field → List Field → List Field → Type 0
 Groups fs gs hs = (s : List ℕ) (a b c : Tree) → value_of s fs ≡ value a → value_of s gs ≡ value b → value_of s hs ≡ value c → over (over a b) c ≡ over a (over b c)
 
 topped_topped : (v : Tree) (x y : Value) → ((b c : Tree) → x ≡ value b → y ≡ value c → over (over v b) c ≡ over v (over b c)) → topped (topped v x) y ≡ topped v (merged x y)
@@ -62,7 +62,7 @@ mended_mended gs hs (props_more {a = a} {e = e} {d = d} {v = v} {fs = fs} x y n 
     (p ∙ ap (topped v) (sym (laid_value s gs hs)))
     (mended_mended gs hs ps (λ r u b c i j l. f r u b c (value_later r key v fs n i) j l))
 
-laid_grouped : {k : ℕ} (fs gs hs : List Field) → Props k fs → Groups fs gs hs → laid_pairs (laid_pairs fs gs) hs ≡ laid_pairs fs (laid_pairs gs hs)
+pub laid_grouped : {k : ℕ} (fs gs hs : List Field) → Props k fs → Groups fs gs hs → laid_pairs (laid_pairs fs gs) hs ≡ laid_pairs fs (laid_pairs gs hs)
 unfolding laid_pairs
 laid_grouped fs gs hs ps f =
     let a = mended fs (laid_pairs gs hs) in
@@ -80,7 +80,7 @@ pub record Agree (t u z : Tree) : Type 0 where
   pub upper_top : Clash u z → ⊥
 
 -- the values of a key that is in all three
-agree_below : (t u z : Tree) → is_object t ≡ true → is_object u ≡ true → is_object z ≡ true → Agree t u z → (s : List ℕ) (a b c : Tree) → value_of s (pairs t) ≡ value a
+pub agree_below : (t u z : Tree) → is_object t ≡ true → is_object u ≡ true → is_object z ≡ true → Agree t u z → (s : List ℕ) (a b c : Tree) → value_of s (pairs t) ≡ value a
     → value_of s (pairs u) ≡ value b → value_of s (pairs z) ≡ value c → Agree a b c
 agree_below t u z p q r g s a b c x y i =
     record {
@@ -89,28 +89,6 @@ agree_below t u z p q r g s a b c x y i =
       upper_top = λ d. g.upper_top (below s q r y i d);
     }
 
-objects_grouped : {k : ℕ} (t u z : Tree) → is_object t ≡ true → is_object u ≡ true → is_object z ≡ true → Props k (pairs t) → Groups (pairs t) (pairs u) (pairs z)
-    → over (over t u) z ≡ over t (over u z)
-objects_grouped t u z p q r ps f =
-    let e =
-    ap (λ (l : List Field). laid_pairs l (pairs z)) (over_pairs t u p q)
-    ∙ (laid_grouped (pairs t) (pairs u) (pairs z) ps f ∙ ap (laid_pairs (pairs t)) (sym (over_pairs u z q r))) in
-    over_objects (over t u) z (over_root t u ∙ q) r ∙ (ap (object_tree 0 0) e ∙ sym (over_objects t (over u z) p (over_root u z ∙ r)))
-
 -- another value on top answers
-top_other : (t u z : Tree) → is_object z ≡ false → over (over t u) z ≡ over t (over u z)
+pub top_other : (t u z : Tree) → is_object z ≡ false → over (over t u) z ≡ over t (over u z)
 top_other t u z r = over_others (over t u) z r ∙ (sym (over_others t z r) ∙ ap (over t) (sym (over_others u z r)))
-
-pub over_grouped : (k : ℕ) (t u z : Tree) → Sane k t → Sane k u → Sane k z → Agree t u z → over (over t u) z ≡ over t (over u z)
-unfolding Groups
-over_grouped zero t u z x y i g = top_other t u z (sane_other i)
-over_grouped (suc k) t u z x y i g = by (is_object t) (is_object u) (is_object z) refl refl refl (λ a b c. over_grouped k a b c)
-  where
-    by : (a b c : Bool) → is_object t ≡ a → is_object u ≡ b → is_object z ≡ c
-        → ((a b c : Tree) → Sane k a → Sane k b → Sane k c → Agree a b c → over (over a b) c ≡ over a (over b c)) → over (over t u) z ≡ over t (over u z)
-    by a b false p q r f = top_other t u z r
-    by a false true p q r f = absurd (g.upper_top (upper_object q r))
-    by false true true p q r f = absurd (g.lower_top (upper_object p r))
-    by true true true p q r f =
-        objects_grouped t u z p q r (sane_props x p)
-        (λ s a b c l m n. f a b c (props_value s (sane_props x p) l) (props_value s (sane_props y q) m) (props_value s (sane_props i r) n) (agree_below t u z p q r g s a b c l m n))

@@ -5,9 +5,9 @@ use Rattle.notation.specs.Class.{pick, or}
 use Rattle.language.specs.Tree.{Tree, Field, field, text_of}
 use Rattle.language.specs.Alike.{unspan}
 use Rattle.overlay.specs.Overlay.{is_object, pairs, same, Value, value, absent, at, value_of, new_ones, laid, overlay}
-use Rattle.overlay.specs.Lists.{mended, laid_pairs, over_pairs}
+use Rattle.overlay.specs.Lists.{mended, laid_pairs}
 use Rattle.overlay.specs.Unspanned.{unspan_text, unspan_object, bare, bare_pairs_lem}
-use Rattle.overlay.specs.Result.{overlay_over}
+
 
 -- the decoded bytes of the keys, in order
 unfoldable pub keys_in : List Field → List (List ℕ)
@@ -27,17 +27,17 @@ unfoldable pub new_keys : List (List ℕ) → List (List ℕ) → List (List ℕ
 new_keys ts [] = []
 new_keys ts (s ∷ ss) = pick (among s ts) (new_keys ts ss) (s ∷ new_keys ts ss)
 
-keys_append : (fs gs : List Field) → keys_in (fs ++ gs) ≡ keys_in fs ++ keys_in gs
+pub keys_append : (fs gs : List Field) → keys_in (fs ++ gs) ≡ keys_in fs ++ keys_in gs
 unfolding keys_in
 keys_append [] gs = refl
 keys_append (field k v ∷ fs) gs = ap (λ (l : List (List ℕ)). text_of k ∷ l) (keys_append fs gs)
 
-keys_mended : (fs gs : List Field) → keys_in (mended fs gs) ≡ keys_in fs
+pub keys_mended : (fs gs : List Field) → keys_in (mended fs gs) ≡ keys_in fs
 unfolding keys_in mended
 keys_mended [] gs = refl
 keys_mended (field k v ∷ fs) gs = ap (λ (l : List (List ℕ)). text_of k ∷ l) (keys_mended fs gs)
 
-keys_bare : (fs : List Field) → keys_in (bare fs) ≡ keys_in fs
+pub keys_bare : (fs : List Field) → keys_in (bare fs) ≡ keys_in fs
 unfolding keys_in bare
 keys_bare [] = refl
 keys_bare (field k v ∷ fs) = ap₂ (λ (s : List ℕ) (l : List (List ℕ)). s ∷ l) (unspan_text k) (keys_bare fs)
@@ -51,7 +51,7 @@ among_value s (field k v ∷ fs) = by (same s (text_of k)) (among_value s fs)
     by true e = refl
     by false e = e
 
-keys_new : (fs gs : List Field) → keys_in (new_ones fs gs) ≡ new_keys (keys_in fs) (keys_in gs)
+pub keys_new : (fs gs : List Field) → keys_in (new_ones fs gs) ≡ new_keys (keys_in fs) (keys_in gs)
 unfolding keys_in new_ones new_keys
 keys_new fs [] = refl
 keys_new fs (field k w ∷ gs) = rw (among_value (text_of k) fs, ← (keys_new fs gs)) (by (value_of (text_of k) fs))
@@ -60,16 +60,9 @@ keys_new fs (field k w ∷ gs) = rw (among_value (text_of k) fs, ← (keys_new f
     by (value v) = refl
     by absent = refl
 
-keys_laid : (fs gs : List Field) → keys_in (laid_pairs fs gs) ≡ keys_in fs ++ new_keys (keys_in fs) (keys_in gs)
+pub keys_laid : (fs gs : List Field) → keys_in (laid_pairs fs gs) ≡ keys_in fs ++ new_keys (keys_in fs) (keys_in gs)
 unfolding laid_pairs
 keys_laid fs gs = keys_append (mended fs gs) (new_ones fs gs) ∙ ap₂ ◌++◌ (keys_mended fs gs) (keys_new fs gs)
 
-keys_unspan : (t : Tree) → keys (unspan t) ≡ keys t
+pub keys_unspan : (t : Tree) → keys (unspan t) ≡ keys t
 keys_unspan t = ap keys_in (bare_pairs_lem t) ∙ keys_bare (pairs t)
-
--- THE LAW: "Keys keep the lower's order, then the upper's new ones"
-pub overlay_keys : (t u r : Tree) → is_object t ≡ true → is_object u ≡ true → overlay t u ≡ laid r → keys r ≡ keys t ++ new_keys (keys t) (keys u)
-overlay_keys t u r p q e =
-    ap keys (overlay_over t u e).1
-    ∙ (ap keys_in (over_pairs (unspan t) (unspan u) (unspan_object t ∙ p) (unspan_object u ∙ q))
-    ∙ (keys_laid (pairs (unspan t)) (pairs (unspan u)) ∙ ap₂ (λ (a b : List (List ℕ)). a ++ new_keys a b) (keys_unspan t) (keys_unspan u)))

@@ -18,7 +18,6 @@ pub mod Keys
 pub mod Finds
 pub mod FindsIn
 pub mod Bounds
-pub mod Clashing
 pub mod Grouped
 pub mod Grouping
 pub mod GroupVectors

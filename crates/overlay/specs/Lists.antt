@@ -160,31 +160,13 @@ pairs_object a e (field k v ∷ fs) = ap (λ (l : List Field). field k v ∷ l) 
 mutual
   unfolding pairs_of pairs_over mended
 
-  over_mended : (ts : Forest) (gs : List Field) → pairs_over ts gs ≡ mended (pairs_of ts) gs
+  pub over_mended : (ts : Forest) (gs : List Field) → pairs_over ts gs ≡ mended (pairs_of ts) gs
   over_mended none gs = refl
   over_mended (more k ts) gs = over_mended_of ts k gs
 
   over_mended_of : (ts : Forest) (k : Tree) (gs : List Field) → pair_over ts k gs ≡ mended (pair_of ts k) gs
   over_mended_of none k gs = refl
   over_mended_of (more v ts) k gs = ap (λ (l : List Field). field k (topped v (value_of (text_of k) gs)) ∷ l) (over_mended ts gs)
-
-pub over_objects : (t u : Tree) → is_object t ≡ true → is_object u ≡ true → over t u ≡ object_tree 0 0 (laid_pairs (pairs t) (pairs u))
-unfolding over laid_pairs
-over_objects (leaf k a e s) u p q = absurd (clash p refl)
-over_objects (node k a e c ts) u p q = rw (p, q, over_mended ts (pairs u))
-
--- .. with these pairs; what it has for a key
-pub over_pairs : (t u : Tree) → is_object t ≡ true → is_object u ≡ true → pairs (over t u) ≡ laid_pairs (pairs t) (pairs u)
-over_pairs t u p q = ap pairs (over_objects t u p q) ∙ pairs_object 0 0 (laid_pairs (pairs t) (pairs u))
-
-pub over_value : (s : List ℕ) (t u : Tree) → is_object t ≡ true → is_object u ≡ true → value_of s (pairs (over t u)) ≡ merged (value_of s (pairs t)) (value_of s (pairs u))
-over_value s t u p q = ap (value_of s) (over_pairs t u p q) ∙ laid_value s (pairs t) (pairs u)
-
--- two others, or one
-pub over_other : (t u : Tree) → is_object t ≡ false → over t u ≡ u
-unfolding over
-over_other (leaf k a e s) u p = refl
-over_other (node k a e c ts) u p = rw p
 
 pub over_others : (t u : Tree) → is_object u ≡ false → over t u ≡ u
 unfolding over

@@ -47,7 +47,7 @@ module _ {k : ℕ} where
       by true q h f = (a, subst (λ (l : List ℕ). Has l a (more (leaf KEY a z d) (more w ts))) (sym q) has_here)
       by false q h f = let r = f h in (r.0, has_later (has_later r.1))
 
-  pairs_props : {n : ℕ} {ts : Forest} → Pairs k n ts → Onces ts → Distinct ts → Props k (pairs_of ts)
+  pub pairs_props : {n : ℕ} {ts : Forest} → Pairs k n ts → Onces ts → Distinct ts → Props k (pairs_of ts)
   unfolding pairs_of
   pairs_props pairs_none o d = props_none
   pairs_props (pairs_more {s = s} {v = v} {ts = ts} x y ps) (onces_more p (onces_more q o)) d =
@@ -67,23 +67,6 @@ module _ {k : ℕ} where
   unfolding pairs_of
   pairs_count pairs_none = refl
   pairs_count (pairs_more x y ps) = ap suc (pairs_count ps)
-
-  pub sane_props : {t : Tree} → Sane (suc k) t → is_object t ≡ true → Props k (pairs t)
-  sane_props {t} s o = by s.shaped s.once o
-    where
-      by : {t : Tree} → Shaped (suc k) t → Once t → is_object t ≡ true → Props k (pairs t)
-      by (shaped_leaf x) u p = absurd (clash p refl)
-      by (shaped_array x) u p = absurd (clash p refl)
-      by (shaped_object x) u p = pairs_props x (once_onces u) (once_distinct u)
-
--- a tree without containers is no object
-pub sane_other : {t : Tree} → Sane 0 t → is_object t ≡ false
-sane_other {t} s = by s.shaped refl
-  where
-    by : {k : ℕ} {t : Tree} → Shaped k t → k ≡ 0 → is_object t ≡ false
-    by (shaped_leaf x) e = refl
-    by (shaped_array x) e = refl
-    by (shaped_object x) e = absurd (omega arith)
 
 -- AND BACK
 module _ {k : ℕ} where

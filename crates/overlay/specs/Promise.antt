@@ -14,10 +14,10 @@ use Rattle.overlay.specs.Overlay.{is_object, Laid, laid, overlay}
 use Rattle.overlay.specs.Overlaid.{gave_number, gave_first, gave_second, HoldsObject, Given, fits, clashed, rows, bytes, Overlaid, gives, bad_lower, bad_upper}
 use Rattle.overlay.specs.Unspanned.{unspan_object}
 use Rattle.overlay.specs.Profiles.{ProfileTree, profile_tree}
-use Rattle.overlay.specs.Result.{overlay_alike, overlay_bare, overlay_object, overlay_profile}
+
 
 -- ONE ANSWER, for what two trees give
-one_given : {table text : List ℕ} {l : Laid} {n v s n₂ v₂ s₂ : ℕ} {table' text' table'' text'' : List ℕ} → Given table text l n v s table' text' → Given table text l n₂ v₂ s₂ table'' text''
+pub one_given : {table text : List ℕ} {l : Laid} {n v s n₂ v₂ s₂ : ℕ} {table' text' table'' text'' : List ℕ} → Given table text l n v s table' text' → Given table text l n₂ v₂ s₂ table'' text''
     → (n ≡ n₂) × (v ≡ v₂) × (s ≡ s₂) × (table' ≡ table'') × (text' ≡ text'')
 one_given (fits t h k) (fits _ i j) = (refl, refl, refl, refl, refl)
 one_given (fits t h k) (rows _ i) = absurd (omega arith)
@@ -29,33 +29,6 @@ one_given (rows t h) (bytes _ i j) = absurd (omega arith)
 one_given (bytes t h k) (fits _ i j) = absurd (omega arith)
 one_given (bytes t h k) (rows _ i) = absurd (omega arith)
 one_given (bytes t h k) (bytes _ i j) = (refl, refl, refl, refl, refl)
-
-module _ {lower : List ℕ} {m : ℕ} {lowerText upper : List ℕ} {n : ℕ} {upperText : List ℕ} where
-  -- the tables hold one tree each, spans aside
-  same_given : (t t' u u' : Tree) → HoldsObject lower m lowerText t → HoldsObject lower m lowerText t' → HoldsObject upper n upperText u → HoldsObject upper n upperText u'
-      → overlay t u ≡ overlay t' u'
-  same_given t t' u u' p q i j = overlay_alike t t' u u' (sound_tree lower m lowerText t t' p.holds q.holds) (sound_tree upper n upperText u u' i.holds j.holds)
-
-  -- so the answer is that of any two trees that they hold
-  pub trees_overlay : {table text : List ℕ} {c v s : ℕ} {table' text' : List ℕ} (t u : Tree) → HoldsObject lower m lowerText t → HoldsObject upper n upperText u
-      → Overlaid lower m lowerText upper n upperText table text c v s table' text' → Given table text (overlay t u) c v s table' text'
-  trees_overlay {table} {text} {c} {v} {s} {table'} {text'} t u p i (gives t' u' q j g) =
-      subst (λ (l : Laid). Given table text l c v s table' text') (same_given t' t u' u q p j i) g
-  trees_overlay t u p i (bad_lower x) = absurd (x t p)
-  trees_overlay t u p i (bad_upper x) = absurd (x u i)
-
-  pub one_overlay : {table text : List ℕ} {c v s c₂ v₂ s₂ : ℕ} {table' text' table'' text'' : List ℕ} → Overlaid lower m lowerText upper n upperText table text c v s table' text'
-      → Overlaid lower m lowerText upper n upperText table text c₂ v₂ s₂ table'' text'' → (c ≡ c₂) × (v ≡ v₂) × (s ≡ s₂) × (table' ≡ table'') × (text' ≡ text'')
-  one_overlay {table} {text} {c₂ = c} {v₂ = v} {s₂ = s} {table'' = table''} {text'' = text''} (gives t u p i g) (gives t' u' q j h) =
-      one_given g (subst (λ (l : Laid). Given table text l c v s table'' text'') (sym (same_given t t' u u' p q i j)) h)
-  one_overlay (gives t u p i g) (bad_lower x) = absurd (x t p)
-  one_overlay (gives t u p i g) (bad_upper x) = absurd (x u i)
-  one_overlay (bad_lower x) (gives t u p i g) = absurd (x t p)
-  one_overlay (bad_lower x) (bad_lower y) = (refl, refl, refl, refl, refl)
-  one_overlay (bad_lower x) (bad_upper y) = (refl, refl, refl, refl, refl)
-  one_overlay (bad_upper x) (gives t u p i g) = absurd (x u i)
-  one_overlay (bad_upper x) (bad_lower y) = (refl, refl, refl, refl, refl)
-  one_overlay (bad_upper x) (bad_upper y) = (refl, refl, refl, refl, refl)
 
 -- .. and so the case of the enum
 pub one_case : (a b : Gave) → gave_number a ≡ gave_number b → gave_first a ≡ gave_first b → gave_second a ≡ gave_second b → a ≡ b
@@ -87,7 +60,7 @@ one_case (TooShort p) (TooShort i) e f g = ap TooShort f
 
 -- rows and text of a tree that a document has, spans aside, at the start of rooms
 module _ (r : Tree) (p : ProfileTree r) (table text : List ℕ) where
-  laid_holds : width * size r ≤ words_in table → length (text_of r) ≤ bytes_in text
+  pub laid_holds : width * size r ≤ words_in table → length (text_of r) ≤ bytes_in text
       → Holds (rows_of unlined 0 0 0 r ++ drop (width * size r) table) (size r) (text_of r ++ drop (length (text_of r)) text) p.tree
   laid_holds h k =
       let w = rows_of unlined 0 0 0 r in
@@ -108,35 +81,3 @@ pub record Laying (lower : List ℕ) (m : ℕ) (lowerText upper : List ℕ) (n :
   pub above_held : HoldsObject upper n upperText above
   pub overlaid : overlay under above ≡ laid (unspan tree)
   pub held : HoldsObject table c text tree
-
-module _ {lower : List ℕ} {m : ℕ} {lowerText upper : List ℕ} {n : ℕ} {upperText table text : List ℕ} where
-  holds_given : {l : Laid} {c v s : ℕ} {table' text' : List ℕ} (t u : Tree) → HoldsObject lower m lowerText t → HoldsObject upper n upperText u → overlay t u ≡ l
-      → Given table text l c v s table' text' → c ≡ 0 → Laying lower m lowerText upper n upperText table' v text'
-  holds_given t u p i e (fits r h k) z =
-      let o = overlay_profile t u e (profile_tree p.holds.profile) (profile_tree i.holds.profile) in
-      let a = sym o.alike ∙ overlay_bare t u e in
-      record {
-        under = t;
-        above = u;
-        tree = o.tree;
-        under_held = p;
-        above_held = i;
-        overlaid = e ∙ ap laid (sym a);
-        held =
-            record {
-              holds = laid_holds r o table text h k;
-              object = sym (unspan_object o.tree) ∙ (ap is_object a ∙ overlay_object t u e p.object i.object);
-            };
-      }
-  holds_given t u p i e clashed z = absurd (omega arith)
-  holds_given t u p i e (rows r h) z = absurd (omega arith)
-  holds_given t u p i e (bytes r h k) z = absurd (omega arith)
-
-  pub overlay_holds : {c v s : ℕ} {table' text' : List ℕ} → Overlaid lower m lowerText upper n upperText table text c v s table' text' → c ≡ 0
-      → Laying lower m lowerText upper n upperText table' v text'
-  overlay_holds (gives t u p i g) z = holds_given t u p i refl g z
-  overlay_holds (bad_lower x) z = absurd (omega arith)
-  overlay_holds (bad_upper x) z = absurd (omega arith)
-
-  pub overlay_sound : {c v s : ℕ} {table' text' : List ℕ} → Overlaid lower m lowerText upper n upperText table text c v s table' text' → c ≡ 0 → Sound table' v text'
-  overlay_sound x z = let l = overlay_holds x z in record { tree = l.tree; holds = l.held.holds }

@@ -130,12 +130,12 @@ bare_new fs (field k w ∷ gs) = rw (unspan_text k, bare_value_lem (text_of k) f
     by (value v) = refl
     by absent = refl
 
-bare_count : (fs : List Field) → count (bare fs) ≡ count fs
+pub bare_count : (fs : List Field) → count (bare fs) ≡ count fs
 unfolding bare
 bare_count [] = refl
 bare_count (field k v ∷ fs) = ap suc (bare_count fs)
 
-bare_forest : (fs : List Field) → forest (fields (bare fs)) ≡ unspans (forest (fields fs))
+pub bare_forest : (fs : List Field) → forest (fields (bare fs)) ≡ unspans (forest (fields fs))
 unfolding bare unspan
 bare_forest [] = refl
 bare_forest (field k v ∷ fs) = ap (λ (f : Forest). more (unspan k) (more (unspan v) f)) (bare_forest fs)
@@ -144,35 +144,14 @@ pub bare_object : (fs : List Field) → object_tree 0 0 (bare fs) ≡ unspan (ob
 unfolding unspan
 bare_object fs = ap₂ (node OBJECT 0 0) (bare_count fs) (bare_forest fs)
 
-unspan_pick : (x : Bool) (t u : Tree) → pick x (unspan t) (unspan u) ≡ unspan (pick x t u)
+pub unspan_pick : (x : Bool) (t u : Tree) → pick x (unspan t) (unspan u) ≡ unspan (pick x t u)
 unspan_pick true t u = refl
 unspan_pick false t u = refl
 
-over_value : (k v : Tree) (gs : List Field) → ((w : Tree) → over (unspan v) (unspan w) ≡ unspan (over v w))
+pub over_value : (k v : Tree) (gs : List Field) → ((w : Tree) → over (unspan v) (unspan w) ≡ unspan (over v w))
     → topped (unspan v) (value_of (text_of (unspan k)) (bare gs)) ≡ unspan (topped v (value_of (text_of k) gs))
 over_value k v gs f = rw (unspan_text k, bare_value_lem (text_of k) gs) (by (value_of (text_of k) gs))
   where
     by : (x : Value) → topped (unspan v) (bare_value x) ≡ unspan (topped v x)
     by (value w) = f w
     by absent = refl
-
--- THE LAW
-mutual
-  unfolding unspan bare over
-
-  pub over_unspan : (t u : Tree) → over (unspan t) (unspan u) ≡ unspan (over t u)
-  over_unspan (leaf k a e s) u = refl
-  over_unspan (node k a e c ts) u =
-      let x = pairs_over ts (pairs u) in
-      let y = new_ones (pairs_of ts) (pairs u) in
-      rw (unspan_object u, bare_pairs_lem u, bare_pairs_of ts, over_pairs ts (pairs u), bare_new (pairs_of ts) (pairs u), ← (bare_append x y), bare_object (x ++ y))
-      (unspan_pick (and (eqb k OBJECT) (is_object u)) (object_tree 0 0 (x ++ y)) u)
-
-  over_pairs : (ts : Forest) (gs : List Field) → pairs_over (unspans ts) (bare gs) ≡ bare (pairs_over ts gs)
-  over_pairs none gs = refl
-  over_pairs (more k ts) gs = over_pair ts k gs
-
-  over_pair : (ts : Forest) (k : Tree) (gs : List Field) → pair_over (unspans ts) (unspan k) (bare gs) ≡ bare (pair_over ts k gs)
-  over_pair none k gs = refl
-  over_pair (more v ts) k gs =
-      ap₂ (λ (w : Tree) (l : List Field). field (unspan k) w ∷ l) (over_value k v gs (λ w. over_unspan v w)) (over_pairs ts gs)

@@ -10,29 +10,29 @@ use Rattle.overlay.specs.Over.{clashes, clash_in, clash_of, over, pairs_over, pa
 use Rattle.overlay.specs.Unspanned.{unspan_text, bare, bare_value, unspan_object, bare_pairs_of, bare_pairs_lem, bare_value_lem, bare_append, bare_new, bare_object}
 
 -- what is given, without spans
-abbrev bare_tree : Laid → Laid
+abbrev pub bare_tree : Laid → Laid
 bare_tree l = onward l (λ t. laid (unspan t))
 
-abbrev bare_pairs : OrClash (List Field) → OrClash (List Field)
+abbrev pub bare_pairs : OrClash (List Field) → OrClash (List Field)
 bare_pairs l = onward l (λ fs. laid (bare fs))
 
 -- a pair and the others
-abbrev joined : Tree → Laid → OrClash (List Field) → OrClash (List Field)
+abbrev pub joined : Tree → Laid → OrClash (List Field) → OrClash (List Field)
 joined k l m = onward l (λ x. onward m (λ fs. laid (field k x ∷ fs)))
 
-bare_joined : (k : Tree) (l : Laid) (m : OrClash (List Field)) → bare_pairs (joined k l m) ≡ joined (unspan k) (bare_tree l) (bare_pairs m)
+pub bare_joined : (k : Tree) (l : Laid) (m : OrClash (List Field)) → bare_pairs (joined k l m) ≡ joined (unspan k) (bare_tree l) (bare_pairs m)
 unfolding bare
 bare_joined k (laid x) (laid fs) = refl
 bare_joined k (laid x) clash = refl
 bare_joined k clash m = refl
 
-either_joined : (k : Tree) (a b : Bool) (x : Tree) (fs : List Field) → joined k (pick a clash (laid x)) (pick b clash (laid fs)) ≡ pick (or a b) clash (laid (field k x ∷ fs))
+pub either_joined : (k : Tree) (a b : Bool) (x : Tree) (fs : List Field) → joined k (pick a clash (laid x)) (pick b clash (laid fs)) ≡ pick (or a b) clash (laid (field k x ∷ fs))
 either_joined k true b x fs = refl
 either_joined k false true x fs = refl
 either_joined k false false x fs = refl
 
 -- an object of the pairs and the new ones
-abbrev object : ℕ → ℕ → OrClash (List Field) → List Field → Laid
+abbrev pub object : ℕ → ℕ → OrClash (List Field) → List Field → Laid
 object a e l n = onward l (λ fs. laid (object_tree a e (fs ++ n)))
 
 bare_made : (a e : ℕ) (l : OrClash (List Field)) (n : List Field) → bare_tree (object a e l n) ≡ object 0 0 (bare_pairs l) (bare n)
@@ -45,56 +45,17 @@ either_made true fs n = refl
 either_made false fs n = refl
 
 -- the value of a key that is in one only, or in both
-value_either : (v : Tree) → ((w : Tree) → bare_tree (lay v w) ≡ clash_or_over (unspan v) (unspan w)) → (x : Value)
+pub value_either : (v : Tree) → ((w : Tree) → bare_tree (lay v w) ≡ clash_or_over (unspan v) (unspan w)) → (x : Value)
     → bare_tree (at (λ w. lay v w) (laid v) x) ≡ pick (at (λ w. clashes (unspan v) w) false (bare_value x)) clash (laid (at (λ w. over (unspan v) w) (unspan v) (bare_value x)))
 unfolding clash_or_over
 value_either v f (value w) = f w
 value_either v f absent = refl
 
 -- an object's pairs and the new ones
-made : (a e : ℕ) (ts : Forest) (gs : List Field) → bare_pairs (lay_pairs ts gs) ≡ pick (clash_in (unspans ts) (bare gs)) clash (laid (pairs_over (unspans ts) (bare gs)))
+pub made : (a e : ℕ) (ts : Forest) (gs : List Field) → bare_pairs (lay_pairs ts gs) ≡ pick (clash_in (unspans ts) (bare gs)) clash (laid (pairs_over (unspans ts) (bare gs)))
     → bare_tree (object a e (lay_pairs ts gs) (new_ones (pairs_of ts) gs))
     ≡ pick (clash_in (unspans ts) (bare gs)) clash (laid (object_tree 0 0 (pairs_over (unspans ts) (bare gs) ++ new_ones (pairs_of (unspans ts)) (bare gs))))
 made a e ts gs p =
     bare_made a e (lay_pairs ts gs) (new_ones (pairs_of ts) gs)
     ∙ (ap₂ (object 0 0) p (sym (bare_new (pairs_of ts) gs) ∙ ap (λ (l : List Field). new_ones l (bare gs)) (sym (bare_pairs_of ts)))
     ∙ either_made (clash_in (unspans ts) (bare gs)) (pairs_over (unspans ts) (bare gs)) (new_ones (pairs_of (unspans ts)) (bare gs)))
-
--- two objects, two others, or one of each
-either_meet : (u : Tree) (x y : Bool) (l : Laid) (b : Bool) (r : Tree) → bare_tree l ≡ pick b clash (laid r)
-    → bare_tree (meet x y l (laid u)) ≡ pick (pick x (pick y b true) y) clash (laid (pick (and x y) r (unspan u)))
-either_meet u true true l b r p = p
-either_meet u true false l b r p = refl
-either_meet u false true l b r p = refl
-either_meet u false false l b r p = refl
-
-mutual
-  unfolding unspan lay clashes over pairs_of bare clash_or_over
-
-  lay_either : (t u : Tree) → bare_tree (lay t u) ≡ clash_or_over (unspan t) (unspan u)
-  lay_either (leaf k a e s) u = rw (unspan_object u) (either_meet u false (is_object u) clash true u refl)
-  lay_either (node k a e c ts) u =
-      let gs = pairs u in
-      let us = unspans ts in
-      rw (unspan_object u, bare_pairs_lem u)
-      (either_meet u (eqb k OBJECT) (is_object u) (object a e (lay_pairs ts gs) (new_ones (pairs_of ts) gs)) (clash_in us (bare gs))
-      (object_tree 0 0 (pairs_over us (bare gs) ++ new_ones (pairs_of us) (bare gs))) (made a e ts gs (pairs_either ts gs)))
-
-  pairs_either : (ts : Forest) (gs : List Field) → bare_pairs (lay_pairs ts gs) ≡ pick (clash_in (unspans ts) (bare gs)) clash (laid (pairs_over (unspans ts) (bare gs)))
-  pairs_either none gs = refl
-  pairs_either (more k ts) gs = pair_either ts k gs
-
-  pair_either : (ts : Forest) (k : Tree) (gs : List Field)
-      → bare_pairs (lay_pair ts k gs) ≡ pick (clash_of (unspans ts) (unspan k) (bare gs)) clash (laid (pair_over (unspans ts) (unspan k) (bare gs)))
-  pair_either none k gs = refl
-  pair_either (more v ts) k gs =
-      rw (unspan_text k, bare_value_lem (text_of k) gs)
-      (bare_joined k (at (λ w. lay v w) (laid v) (value_of (text_of k) gs)) (lay_pairs ts gs)
-      ∙ (ap₂ (joined (unspan k)) (value_either v (λ w. lay_either v w) (value_of (text_of k) gs)) (pairs_either ts gs)
-      ∙ either_joined (unspan k) (at (λ w. clashes (unspan v) w) false (bare_value (value_of (text_of k) gs))) (clash_in (unspans ts) (bare gs))
-      (at (λ w. over (unspan v) w) (unspan v) (bare_value (value_of (text_of k) gs))) (pairs_over (unspans ts) (bare gs))))
-
--- THE LAW
-pub overlay_either : (t u : Tree) → overlay t u ≡ clash_or_over (unspan t) (unspan u)
-unfolding overlay
-overlay_either t u = lay_either t u

@@ -8,11 +8,11 @@ use Rattle.language.specs.Tree.{Tree, leaf, Field, field, text_of}
 use Rattle.sound.specs.Members.{Sane}
 use Rattle.overlay.specs.Overlay.{is_object, Value, value, absent, at, value_of, new_ones}
 use Rattle.overlay.specs.Over.{over}
-use Rattle.overlay.specs.Lists.{no_value, value_here, value_later, append_value, new_kept, new_left, new_known, new_absent, topped, mended, mended_value, laid_pairs, over_objects, over_other, over_others}
-use Rattle.overlay.specs.Objects.{Props, props_none, props_more, props_value, sane_props, sane_other, props_sane}
+use Rattle.overlay.specs.Lists.{no_value, value_here, value_later, append_value, new_kept, new_left, new_known, new_absent, topped, mended, mended_value, laid_pairs, over_others}
+use Rattle.overlay.specs.Objects.{Props, props_none, props_more, props_value, props_sane}
 
 -- pairs behind others, no key of which is equal to one of those
-props_behind : {k : ℕ} {fs gs : List Field} → Props k fs → Props k gs → ((s : List ℕ) (v : Tree) → value_of s fs ≡ value v → value_of s gs ≡ absent) → Props k (fs ++ gs)
+pub props_behind : {k : ℕ} {fs gs : List Field} → Props k fs → Props k gs → ((s : List ℕ) (v : Tree) → value_of s fs ≡ value v → value_of s gs ≡ absent) → Props k (fs ++ gs)
 unfolding text_of
 props_behind props_none qs f = qs
 props_behind {gs = gs} (props_more {a = a} {e = e} {d = d} {v = v} {fs = fs} x y n ps) qs f =
@@ -20,7 +20,7 @@ props_behind {gs = gs} (props_more {a = a} {e = e} {d = d} {v = v} {fs = fs} x y
     let g = f d.bytes v (value_here d.bytes key v fs refl) in
     props_more x y (append_value d.bytes fs gs ∙ (ap (at value (value_of d.bytes gs)) n ∙ g)) (props_behind ps qs (λ s w h. f s w (value_later s key v fs n h)))
 
-props_new : {k : ℕ} {gs : List Field} (fs : List Field) → Props k gs → Props k (new_ones fs gs)
+pub props_new : {k : ℕ} {gs : List Field} (fs : List Field) → Props k gs → Props k (new_ones fs gs)
 unfolding new_ones text_of
 props_new fs props_none = props_none
 props_new {k} fs (props_more {a = a} {e = e} {d = d} {v = w} {fs = gs} x y n qs) = by (value_of d.bytes fs) refl (props_new fs qs)
@@ -37,7 +37,7 @@ module _ (k : ℕ) (deeper : (t u : Tree) → Sane k t → Sane k u → Sane k (
       by (value w) p = deeper v w x (props_value s qs p)
       by absent p = x
 
-  props_mended : {fs gs : List Field} → Props k fs → Props k gs → Props k (mended fs gs)
+  pub props_mended : {fs gs : List Field} → Props k fs → Props k gs → Props k (mended fs gs)
   unfolding mended text_of
   props_mended props_none qs = props_none
   props_mended {gs = gs} (props_more {d = d} {v = v} {fs = fs} x y n ps) qs =
@@ -54,15 +54,3 @@ module _ (k : ℕ) (deeper : (t u : Tree) → Sane k t → Sane k u → Sane k (
       by : (s : List ℕ) (v : Tree) → value_of s (mended fs gs) ≡ value v → (z : Value) → value_of s fs ≡ z → value_of s (new_ones fs gs) ≡ absent
       by s v h (value w) p = new_known s fs gs p
       by s v h absent p = absurd (no_value h (mended_value s fs gs ∙ ap (at (λ u. value (topped u (value_of s gs))) absent) p))
-
-  both_sane : (t u : Tree) → Sane (suc k) t → Sane (suc k) u → is_object t ≡ true → is_object u ≡ true → Sane (suc k) (over t u)
-  both_sane t u x y p q = subst (Sane (suc k)) (sym (over_objects t u p q)) (props_sane 0 0 (props_laid (sane_props x p) (sane_props y q)))
-
-pub over_sane : (k : ℕ) (t u : Tree) → Sane k t → Sane k u → Sane k (over t u)
-over_sane zero t u x y = subst (Sane 0) (sym (over_other t u (sane_other x))) y
-over_sane (suc k) t u x y = by (is_object t) (is_object u) refl refl (λ v w i j. over_sane k v w i j)
-  where
-    by : (a b : Bool) → is_object t ≡ a → is_object u ≡ b → ((v w : Tree) → Sane k v → Sane k w → Sane k (over v w)) → Sane (suc k) (over t u)
-    by true true p q f = both_sane k f t u x y p q
-    by true false p q f = subst (Sane (suc k)) (sym (over_others t u q)) y
-    by false b p q f = subst (Sane (suc k)) (sym (over_other t u p)) y

@@ -9,7 +9,8 @@ use Rattle.language.specs.declared.Answer.TheVariants.{Accepted, Long, Char, Syn
 use Rattle.language.specs.Tree.{Tree}
 use Rattle.language.specs.Document.{Document}
 use Rattle.language.specs.Answered.{limit, deepest, LONG, number, value, second, third, Stops, Answered, long, stopped, Totals, untold}
-use Rattle.blocks.specs.Document.{verdict, exact}
+use Rattle.blocks.specs.Document.{verdict}
+use Rattle.blocks.proofs.DocumentLaws.{exact}
 use Rattle.judge.specs.Blamed.{Blamed}
 use Rattle.judge.specs.Contract.{Checked}
 

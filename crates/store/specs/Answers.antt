@@ -13,7 +13,7 @@ use Rattle.language.specs.Sound.{Holds, Sound}
 use Rattle.language.specs.Written.{Sounded, is_sound, unsound}
 use Rattle.shaped.specs.Holds.{profile_shaped, holds_at}
 use Rattle.stored.specs.Form.{head, widest, form}
-use Rattle.stored.specs.Stored.{Stores, stores, bad_row, rules}
+use Rattle.stored.specs.Stored.{Stores, stores, bad_row, needs}
 use Rattle.stored.proofs.AnsweringLaws.{holds_most, holds_short}
 use Rattle.fields.specs.Puts.{Puts}
 use Rattle.fields.specs.Rows.{kept_value}
@@ -113,7 +113,7 @@ module _ (table : List ℕ) (rows : ℕ) (text : List ℕ) (b : Bool) (h : Sound
         unfolding tree_is
         stored_short i =
             let c = count_is in
-            subst (λ q. Stores table rows text out TEXT q out) (sym c) (rules tree_is (yes_sound h e).holds (omega arith))
+            subst (λ q. Stores table rows text out TEXT q out) (sym c) (needs tree_is (yes_sound h e).holds (omega arith))
 
         pub stored_root : n ≤ r → Field table text (length out) 0 0
         unfolding tree_is

@@ -35,7 +35,8 @@ use Rattle.blocks.specs.Openers.{opener_r, nested_line_r}
 use Rattle.blocks.specs.Nested.{nested_here_r, item_r}
 use Rattle.blocks.specs.Root.{root_r}
 use Rattle.blocks.specs.Document.{head_r, whole_r, verdict}
-use Rattle.blocks.specs.Judged.{judge, Judged, judged}
+use Rattle.blocks.specs.Judged.{judge, Judged}
+use Rattle.blocks.proofs.JudgedLaws.{judged}
 use Rattle.repeats.specs.Flat.{named, flat, flats, Twice, twice_here, twice_later, In, in_here, in_later}
 use Rattle.repeats.specs.Repeating.{repeats_twice}
 use Rattle.integers.specs.Integer.{is_integer, integer, natural, counting, digits, digit, empty}

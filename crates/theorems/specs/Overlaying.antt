@@ -15,11 +15,17 @@ use Rattle.overlay.specs.Keys.{keys, new_keys}
 use Rattle.overlay.specs.Finds.{Finds, KeyOver}
 use Rattle.overlay.specs.FindsIn.{FoundIn}
 use Rattle.overlay.specs.Promise as promise
+use Rattle.overlay.proofs.PromiseLaws as promise_laws
 use Rattle.overlay.specs.Result as result
+use Rattle.overlay.proofs.ResultLaws as result_laws
 use Rattle.overlay.specs.Clashed as clashed
+use Rattle.overlay.proofs.ClashedLaws as clashed_laws
 use Rattle.overlay.specs.Keys as keys_of
+use Rattle.overlay.proofs.KeysLaws as keys_of_laws
 use Rattle.overlay.specs.Finds as trees
+use Rattle.overlay.proofs.FindsLaws as trees_laws
 use Rattle.overlay.specs.FindsIn as tables
+use Rattle.overlay.proofs.FindsInLaws as tables_laws
 use Rattle.theorems.specs.Proved.{known}
 
 -- ---- THE PROMISE, of `overlay` and of `yay_overlay`
@@ -27,23 +33,23 @@ module _ (lower : List ℕ) (m : ℕ) (lowerText upper : List ℕ) (n : ℕ) (up
   -- ONE OVERLAY: number, both values, and every word and byte of both targets; and so the case of the enum
   pub one_overlay : (c v s c₂ v₂ s₂ : ℕ) (table' text' table'' text'' : List ℕ) → Overlaid lower m lowerText upper n upperText table text c v s table' text'
       → Overlaid lower m lowerText upper n upperText table text c₂ v₂ s₂ table'' text'' → (c ≡ c₂) × (v ≡ v₂) × (s ≡ s₂) × (table' ≡ table'') × (text' ≡ text'')
-  one_overlay c v s c₂ v₂ s₂ table' text' table'' text'' x y = promise.one_overlay x y
+  one_overlay c v s c₂ v₂ s₂ table' text' table'' text'' x y = promise_laws.one_overlay x y
 
   pub one_gave : (a b : Gave) (table' text' table'' text'' : List ℕ) → Overlaid lower m lowerText upper n upperText table text (gave_number a) (gave_first a) (gave_second a) table' text'
       → Overlaid lower m lowerText upper n upperText table text (gave_number b) (gave_first b) (gave_second b) table'' text'' → a ≡ b
-  one_gave a b table' text' table'' text'' x y = let e = promise.one_overlay x y in promise.one_case a b e.0 e.1 e.2
+  one_gave a b table' text' table'' text'' x y = let e = promise_laws.one_overlay x y in promise.one_case a b e.0 e.1 e.2
 
   module _ (v s : ℕ) (table' text' : List ℕ) (x : Overlaid lower m lowerText upper n upperText table text 0 v s table' text') where
     -- OVERLAY SOUND: the result is a sound table, whose tree is the overlay of the two tables' trees, and its root an object
     pub overlay_sound : Sound table' v text'
-    overlay_sound = promise.overlay_sound x refl
+    overlay_sound = promise_laws.overlay_sound x refl
 
     pub overlay_holds : promise.Laying lower m lowerText upper n upperText table' v text'
-    overlay_holds = promise.overlay_holds x refl
+    overlay_holds = promise_laws.overlay_holds x refl
 
     -- FINDING A KEY in row 0 of the result
     pub overlay_found : FoundIn lower m lowerText upper n upperText table' v text'
-    overlay_found = tables.overlay_found x refl
+    overlay_found = tables_laws.overlay_found x refl
 
 -- FROM DOCUMENTS: of two that `read` accepts, whose roots are objects, the answer is that of the overlay of their trees
 pub documents_overlay : (doc table text table' text' : List ℕ) (n m : ℕ) (doc₂ table₂ text₂ table₃ text₃ : List ℕ) (n₂ m₂ : ℕ) (t u : Tree) (room rest room' rest' : List ℕ) (c v s : ℕ)
@@ -54,7 +60,7 @@ documents_overlay doc table text table' text' n m doc₂ table₂ text₂ table�
     let b = accepted_holds y refl in
     let e : a.tree ≡ t = known.one_tree deepest doc a.tree t a.reads.word r.word in
     let f : b.tree ≡ u = known.one_tree deepest doc₂ b.tree u b.reads.word q.word in
-    promise.trees_overlay t u
+    promise_laws.trees_overlay t u
     (record { holds = subst (λ (w : Tree). Holds table' n text' w) e a.holds; object = o })
     (record { holds = subst (λ (w : Tree). Holds table₃ n₂ text₃ w) f b.holds; object = p })
     z
@@ -62,25 +68,25 @@ documents_overlay doc table text table' text' n m doc₂ table₂ text₂ table�
 -- ---- THE TREES
 -- what an overlay gives is a tree of which these theorems speak, an object if both are, without spans; and the value of a key is such a tree
 pub overlay_profile : (t u r : Tree) → ProfileTree t → ProfileTree u → overlay t u ≡ laid r → ProfileTree r
-overlay_profile t u r x y e = result.overlay_profile t u e x y
+overlay_profile t u r x y e = result_laws.overlay_profile t u e x y
 
 pub overlay_object : (t u r : Tree) → is_object t ≡ true → is_object u ≡ true → overlay t u ≡ laid r → is_object r ≡ true
-overlay_object t u r o q e = result.overlay_object t u e o q
+overlay_object t u r o q e = result_laws.overlay_object t u e o q
 
 pub overlay_bare : (t u r : Tree) → overlay t u ≡ laid r → unspan r ≡ r
-overlay_bare t u r e = result.overlay_bare t u e
+overlay_bare t u r e = result_laws.overlay_bare t u e
 
 pub finds_profile : (s : List ℕ) (t v : Tree) → ProfileTree t → Finds s v t → ProfileTree v
-finds_profile s t v x h = trees.finds_profile s x h
+finds_profile s t v x h = trees_laws.finds_profile s x h
 
 -- OVERLAY CLASHES exactly if one object stands against one other value, at the roots or below the same keys
 pub overlay_clashes : (t u : Tree) → ProfileTree t → ProfileTree u → overlay t u ≡ clash ↔ Clash t u
-overlay_clashes = clashed.overlay_clashes
+overlay_clashes = clashed_laws.overlay_clashes
 
 -- OVERLAY KEYS: the lower's in their order, then the upper's new ones
 pub overlay_keys : (t u r : Tree) → is_object t ≡ true → is_object u ≡ true → overlay t u ≡ laid r → keys r ≡ keys t ++ new_keys (keys t) (keys u)
-overlay_keys = keys_of.overlay_keys
+overlay_keys = keys_of_laws.overlay_keys
 
 -- OVERLAY FINDS: of each key the upper's value, or the lower's where the upper has none, or the two laid over each other
 pub overlay_finds : (t u r : Tree) → ProfileTree t → ProfileTree u → is_object t ≡ true → is_object u ≡ true → overlay t u ≡ laid r → (s : List ℕ) → KeyOver t u r s
-overlay_finds = trees.overlay_finds
+overlay_finds = trees_laws.overlay_finds

@@ -15,6 +15,7 @@ use Rattle.integers.specs.Unique as integers
 use Rattle.exports.specs.Exports.{FoundAt, ComparedTo, TextAt}
 use Rattle.exports.specs.Unique as exports
 use Rattle.blocks.specs.Document as readers
+use Rattle.blocks.proofs.DocumentLaws as readers_laws
 use Rattle.blocks.specs.Clean as clean
 use Rattle.spans.specs.Keys.{keys_in}
 use Rattle.spans.specs.Placed.{Within, Child, Siblings, Inside}
@@ -34,11 +35,11 @@ use Rattle.promise.specs.Refusals as refusals
 use Rattle.promise.specs.LargerRooms as rooms
 
 pub known : unique.Known
-known = record { one_tree = readers.one_tree; allowed = clean.document_allowed }
+known = record { one_tree = readers_laws.one_tree; allowed = clean.document_allowed }
 
 -- ONE TREE: a document has one, whatever its nesting
 pub one_tree : (k : ℕ) (doc : List ℕ) (t u : Tree) → Document k doc t → Document k doc u → t ≡ u
-one_tree = readers.one_tree
+one_tree = readers_laws.one_tree
 
 -- ---- ONE ANSWER
 

@@ -1,5 +1,5 @@
 -- A CONTAINER IN STORED BYTES: the members between its head and its end, and what they make of it. Assumes nothing.
-use Rattle.std.specs.Prelude.{◌≡◌, refl, List, Bool, ℕ, suc, ◌+◌, ◌-◌, ◌≤◌, get_or}
+use Rattle.std.specs.Prelude.{◌≡◌, refl, List, Bool, ℕ, suc, ◌+◌, ◌≤◌, get_or}
 use Rattle.std.proofs.Common.{sym, subst, ◌∙◌, arith}
 use Rattle.std.proofs.Math.Path.{ap}
 use Rattle.std.proofs.Math.Bool.{true, false}

@@ -146,6 +146,7 @@ module _ (stored : List ℕ) where
     key_none n = none_alone (λ t q h l. by t q h)
       where
         by : (t : Tree) → IsKey t → At stored a (form t) → ⊥
+        by (node _ _ _ _ _) x7 h = elim x7 [ ]
         by (leaf k i j s) (is_a_key x) h = n (subst Scripted (sym (text_is ∙ field_slice (leaf k i j s) h (omega (arith, f.is, f.inside)))) x)
 
     pub scalar_stands : {k : ℕ} → Scalar (get_or stored a 0) text → Tests (One (Sane k)) a e (Good e 1)

@@ -1,7 +1,7 @@
 -- WHAT `write` PROMISES, from what `sound` and `house` do. Assumes nothing.
 use Rattle.std.specs.Prelude.{◌≡◌, refl, List, ◌++◌, Bool, true, false, ℕ, ◌+◌, ◌*◌, ◌≤◌, ◌<◌, length, drop}
 use Rattle.std.proofs.Math.Path.{sym}
-use Rattle.std.proofs.Common.{ap, subst, ◌∙◌, arith, rules as needs-of}
+use Rattle.std.proofs.Common.{ap, subst, ◌∙◌, arith, rules}
 use Rattle.std.proofs.lemmas.List.Edits.{sets-eq}
 use Rattle.notation.specs.Class.{pick}
 use Rattle.exact.specs.Class.{clash}
@@ -9,7 +9,7 @@ use Rattle.language.specs.Answered.{deepest, limit, LONG, TEXT, BADROW}
 use Rattle.language.specs.Lent.{bytes_in}
 use Rattle.language.specs.Sound.{Sound}
 use Rattle.language.specs.House.{house}
-use Rattle.language.specs.Written.{Sounded, is_sound, unsound, Written, fits, bad, long, rules}
+use Rattle.language.specs.Written.{Sounded, is_sound, unsound, Written, fits, bad, long, needs}
 use Rattle.shaped.specs.Holds.{profile_shaped, holds_at}
 use Rattle.writer.specs.Puts.{Puts}
 use Rattle.writer.specs.Lines.{Root}
@@ -60,7 +60,7 @@ module _ {table : List ℕ} {rows : ℕ} {text : List ℕ} where
     wrote_long l = long s.tree s.holds (omega (arith, count))
 
     pub wrote_short : {out : List ℕ} → n ≤ limit → bytes_in out < n → Written table rows text out TEXT n out
-    wrote_short {out} l m = subst (λ i. Written table rows text out TEXT i out) count (rules s.tree s.holds (omega (arith, count)) (omega (arith, count)))
+    wrote_short {out} l m = subst (λ i. Written table rows text out TEXT i out) count (needs s.tree s.holds (omega (arith, count)) (omega (arith, count)))
 
     -- .. or are written
     pub wrote_done : {m : ℕ} {out out' : List ℕ} → n ≤ limit → n ≤ bytes_in out → ((i : Root table text) → Puts (house i.tree) 0 m out out')
@@ -90,7 +90,7 @@ module _ (rows : ℕ) (text out : List ℕ) where
   pub roomy_yes : (m : ℕ) → m ≡ bytes_in out → rows ≤ 5000 → length text ≤ 50000 → 100 * rows + 10 * length text ≤ m → Roomy rows text out true
   roomy_yes m f k l h e = record { short = omega arith; fits = omega arith }
 
-pub ruleset rooming = (roomy_not, roomy_yes, needs-of)
+pub ruleset rooming = (roomy_not, roomy_yes, rules)
 
 -- ---- what `write` shows, once the test of soundness has answered b
 
@@ -123,4 +123,4 @@ module _ (table : List ℕ) (rows : ℕ) (text : List ℕ) (b : Bool) (h : Sound
         pub write_done : n ≤ m → (k : ℕ) (out' : List ℕ) → ((i : Root table text) → Puts (house i.tree) 0 k out out') → Written table rows text out 0 n out'
         write_done i k out' p = wrote_done (yes_sound h e) g l (omega arith) p
 
-pub ruleset writing = (write_bad, write_root, write_straight, write_long, write_short, write_done, needs-of)
+pub ruleset writing = (write_bad, write_root, write_straight, write_long, write_short, write_done, rules)

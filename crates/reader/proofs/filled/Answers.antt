@@ -16,7 +16,7 @@ returns-then-text-m c = record { answered = search (filled_bytes, rules); totals
 pub line_up-requires : goal.line_up-requires
 line_up-requires c =
     let asked = c.requires in
-    filled_ranked _ _ _ _ asked.0 c.args.first asked.1 _ _ c.if-table-n.false _ _ c.pass.ensures.1.0
+    filled_ranked _ _ _ _ asked.0 c.args.first asked.1 _ _ c.if-table-n.false _ _ c.pass.ensures.filled
 
 pub returns : goal.returns
 returns c = record { answered = search (filled_all, rules); totals = search (filled_total, rules) }

@@ -18,24 +18,13 @@ pub returns-then-bytes_lent-n : goal.returns-then-bytes_lent-n
 returns-then-bytes_lent-n c = search storing
 
 pub field-requires : goal.field-requires
-field-requires c =
-    let room = c.before in
-    let lent = room.before in
-    let counted = lent.before.before in
-    let told = counted.before in
-    stored_root _ _ _ _ told.before.sound.ensures told.if1.true _ counted.needed.ensures told.before.before.before.before.before.args.out.now _ lent.bytes-lent.ensures room.if2.false
+field-requires c = stored_root _ _ _ _ c.sound.ensures c.if-sound.true _ c.needed-n.ensures c.args.out.now _ c.bytes_lent.ensures c.if-bytes_lent-n.false
 
 pub shape_of-out-then-sound : goal.shape_of-out-then-sound
 shape_of-out-then-sound c = search storing
 
 pub returns-then-sound : goal.returns-then-sound
-returns-then-sound c =
-    let done = c.before.before in
-    let room = done.before.before in
-    let lent = room.before in
-    let counted = lent.before.before in
-    let told = counted.before in
-    stored_done _ _ _ _ told.before.sound.ensures told.if1.true _ counted.needed.ensures _ _ lent.bytes-lent.ensures room.if2.false _ _ done.field.ensures
+returns-then-sound c = stored_done _ _ _ _ c.sound.ensures c.if-sound.true _ c.needed-n.ensures _ _ c.bytes_lent.ensures c.if-bytes_lent-n.false _ _ c.field.ensures
 
 pub returns : goal.returns
 returns c = search storing

@@ -1,6 +1,7 @@
 -- `text_of` copies a content, run after run.
-use Rattle.wide.specs.Copies.{Copying, copying_seen, copying}
+use Rattle.wide.specs.Copies.{Copying, copying_seen, copying_inside, copying_room, copying}
 use Prim.Native.Nat.{◌-◌}
+use Rattle.std.proofs.Common.{arith}
 use Rattle.wide.proofs.text_of.Goals as goal
 
 pub loop-i-init : goal.loop-i-init
@@ -19,7 +20,12 @@ pub overflow_add-x : goal.overflow_add-x
 overflow_add-x c = search copying
 
 pub part-requires : goal.part-requires
-part-requires c = search copying
+part-requires c =
+    let h = c.loop-i.invariant in
+    let l = c.loop-i-test.true in
+    let r = c.run-r.ensures in
+    let room = copying_room h l r in
+    (omega arith, copying_inside h l r, omega (arith, room))
 
 pub overflow_add-i : goal.overflow_add-i
 overflow_add-i c = search copying

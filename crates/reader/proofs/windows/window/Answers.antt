@@ -1,5 +1,6 @@
 -- `window` tells the first repeated key of two halves of the log. Assumes nothing.
-use Rattle.reader.specs.Windows.{asking}
+use Rattle.std.proofs.Common.{refl, sym}
+use Rattle.reader.specs.Windows.{asking, asking_prefix}
 use Rattle.reader.proofs.windows.window.Goals as goal
 
 pub overflow_add-i : goal.overflow_add-i
@@ -40,3 +41,6 @@ shape_of-keys-in-Nowhere c = search asking
 
 pub returns-in-Nowhere : goal.returns-in-Nowhere
 returns-in-Nowhere c = search asking
+
+pub slice_bounds-first_again-end-2 : goal.slice_bounds-first_again-end-2
+slice_bounds-first_again-end-2 c = sym (asking_prefix _ _ _ _ _ c.requires _ refl _ c.emptied.ensures _ c.check.ensures.logged)

@@ -1,7 +1,5 @@
 -- `chained_behind` seeks the keys behind the window in its chains. The loop's invariant: one is there exactly if one from here on is.
-use Prim.Native.Nat.{◌-◌}
-use Rattle.distinct.specs.Window.{Touched}
-use Rattle.distinct.specs.Windows.{Going, trailing}
+use Rattle.distinct.specs.Windows.{trailing}
 use Rattle.uncut.proofs.KeyLaws.{open_keyed, placing}
 use Rattle.uncut.proofs.after.chained_behind.Goals as goal
 

@@ -1,7 +1,5 @@
 -- `ranked_behind` seeks the keys behind the window in its order. The loop's invariant: one is there exactly if one from here on is.
-use Prim.Native.Nat.{◌-◌}
-use Rattle.distinct.specs.Window.{Touched}
-use Rattle.distinct.specs.Windows.{Going, trailing}
+use Rattle.distinct.specs.Windows.{trailing}
 use Rattle.uncut.proofs.KeyLaws.{open_keyed, placing}
 use Rattle.uncut.proofs.after.ranked_behind.Goals as goal
 

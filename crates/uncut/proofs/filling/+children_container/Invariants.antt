@@ -3,7 +3,7 @@ use mathlib.Core.Path.{◌≡◌}
 use lib.ListN.{length}
 use Rattle.uncut.specs.Filling.{FillAll}
 use Rattle.uncut.specs.Children.{Left}
-use Prim.Native.Nat.{ℕ, ◌+◌, ◌-◌, ◌*◌, ◌≤◌}
+use Prim.Native.Nat.{◌+◌, ◌-◌, ◌*◌, ◌≤◌}
 use Rattle.uncut.proofs.filling.+children_container.Given as goal
 
 abbrev pub invariant-children-loop-at : goal.invariant-children-loop-at

@@ -1,7 +1,5 @@
 -- `among` tells whether a key has the text of another. The loop's invariant: one has it exactly if one from here on has.
-use Prim.Native.Nat.{◌-◌}
-use Rattle.distinct.specs.Roads.{Among}
-use Rattle.distinct.specs.Windows.{Going, seeking}
+use Rattle.distinct.specs.Windows.{seeking}
 use Rattle.uncut.proofs.KeyLaws.{placing}
 use Rattle.uncut.proofs.once.among.Goals as goal
 

@@ -1,7 +1,5 @@
 -- `pairwise` tells whether no two keys have one text. The loop's invariant: none have exactly if none from here on have.
-use Prim.Native.Nat.{◌-◌}
-use Rattle.distinct.specs.Roads.{Apart}
-use Rattle.distinct.specs.Windows.{Going, sifting}
+use Rattle.distinct.specs.Windows.{sifting}
 use Rattle.uncut.proofs.KeyLaws.{placing}
 use Rattle.uncut.proofs.once.pairwise.Goals as goal
 

@@ -1,6 +1,5 @@
 -- The cycle of values and containers meets its contracts. The allowance falls from a container to what is inside it; in the loop, the bytes that are left fall.
-use Rattle.uncut.proofs.CycleLaws.{childing, going, containing, tagging, pairing, fielding, Going}
-use Prim.Native.Nat.{ℕ, ◌-◌}
+use Rattle.uncut.proofs.CycleLaws.{childing, going, containing, tagging, pairing, fielding}
 use Rattle.uncut.proofs.tested.+child_children_container_member_of_kind_pair_value.Goals as goal
 
 pub child-pair-requires : goal.child-pair-requires

@@ -1,6 +1,6 @@
 -- The cycle of values and containers meets its contracts. The allowance falls from a container to what is inside it; in the loop, the bytes that are left fall.
 use Rattle.uncut.proofs.CycleLaws.{Going}
-use Prim.Native.Nat.{ℕ, ◌+◌, ◌-◌, ◌*◌}
+use Prim.Native.Nat.{◌+◌, ◌-◌, ◌*◌}
 use Rattle.uncut.proofs.tested.+child_children_container_member_of_kind_pair_value.Given as goal
 
 abbrev pub invariant-children-loop-at : goal.invariant-children-loop-at

@@ -1,8 +1,7 @@
 -- `enter` puts keys into a window and its chains as they are passed. The loop's invariant: the first n stand there, none has the text of an earlier one, and the others are those from p on.
-use Prim.Native.Nat.{◌-◌}
 use borrow.Author.Rules.{rules}
 use Rattle.distinct.specs.Windows.{gathering}
-use Rattle.distinct.specs.Entering.{Entering, enter_first, enter_full, enter_over, enter_chaining, enter_met, enter_more}
+use Rattle.distinct.specs.Entering.{enter_first, enter_full, enter_over, enter_chaining, enter_met, enter_more}
 use Rattle.uncut.proofs.KeyLaws.{value_inside, value_few, key_part, next_told, text_told, keying, open_keyed, open_falls}
 use Rattle.uncut.proofs.windows.enter.Goals as goal
 

@@ -1,6 +1,5 @@
 -- `gather` fills a window with the places of keys' texts. The loop's invariant: the first n stand there, and the others are those from p on.
-use Prim.Native.Nat.{◌-◌}
-use Rattle.distinct.specs.Windows.{Gathering, gathering}
+use Rattle.distinct.specs.Windows.{gathering}
 use Rattle.uncut.proofs.KeyLaws.{keying, open_keyed, placing}
 use Rattle.uncut.proofs.windows.gather.Goals as goal
 

@@ -1,7 +1,5 @@
 -- `windows` tells whether no two keys have one text. The loop's invariant: none have exactly if none from here on have.
-use Prim.Native.Nat.{◌-◌}
-use Rattle.distinct.specs.Roads.{Apart}
-use Rattle.distinct.specs.Windows.{Going, onwards}
+use Rattle.distinct.specs.Windows.{onwards}
 use Rattle.uncut.proofs.KeyLaws.{placing}
 use Rattle.uncut.proofs.windows.windows.Goals as goal
 

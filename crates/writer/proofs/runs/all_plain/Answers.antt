@@ -1,10 +1,10 @@
 -- `all_plain` tells plain bytes, so many. The loop's invariant: n of the i bytes from `at` on are plain.
-use mathlib.Core.Logic.{⊎_elim}
 use Prim.Native.Nat.{◌-◌}
 use Rattle.characters.specs.Plains.{double}
 use Rattle.writer.specs.Runs.{Counted, counted_none, counted_more, counted_less, counted_all}
 use native.Mathlib.Omega.{arith}
 use Rattle.writer.proofs.runs.all_plain.Goals as goal
+use Rattle.writer.proofs.runs.all_plain.Goals.{then-is_plain, else-is_plain}
 
 pub loop-i-init : goal.loop-i-init
 loop-i-init c = (counted_none _ _ (omega arith), omega arith)
@@ -18,8 +18,13 @@ overflow_add-n c = omega (arith, c.loop-i.invariant.0.few)
 pub loop-i-preserved : goal.loop-i-preserved
 loop-i-preserved c =
     let l = c.loop-i in
-    let p = c.is_plain in
-    (⊎_elim (λ w. counted_more _ _ l.invariant.0 p.ensures (omega arith) w.0.taken w.1) (λ w. counted_less _ _ l.invariant.0 w.1) c.if-is_plain.branch, omega arith)
+    let p = c.is_plain in (
+      elim c.if-is_plain.branch [
+        | then-is_plain w ↦ counted_more _ _ l.invariant.0 p.ensures (omega arith) w.if-is_plain.true w.n-is
+        | else-is_plain w ↦ counted_less _ _ l.invariant.0 w.n-is
+      ],
+      omega arith,
+    )
 
 pub returns : goal.returns
 returns c = λ h. let l = c.loop-i in counted_all _ _ l.invariant.0 (omega arith) h

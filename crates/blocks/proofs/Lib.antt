@@ -1,0 +1,17 @@
+pub mod ArrayLaws
+pub mod DeeperLaws
+pub mod DocumentLaws
+pub mod FirstLaws
+pub mod JudgedLaws
+pub mod KeyLookLaws
+pub mod LeadLaws
+pub mod LinesLaws
+pub mod LookLaws
+pub mod NestedLaws
+pub mod OpenersLaws
+pub mod OrLaws
+pub mod PropertyLaws
+pub mod RestLaws
+pub mod RootLaws
+pub mod StraightLaws
+pub mod ValueLineLaws

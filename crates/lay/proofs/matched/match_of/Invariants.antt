@@ -1,0 +1,12 @@
+-- `match_of` finds the row of a key's match: each turn, one key less is left.
+use Rattle.lay.specs.Matching.{Seek, Seeking}
+use Rattle.sound.specs.Keys.{text_at}
+use Rattle.overlay.specs.Overlay.{pairs_of}
+use Prim.Native.Nat.{◌-◌, ◌≤◌}
+use Rattle.lay.proofs.matched.match_of.Given as goal
+
+abbrev pub invariant-loop-r : goal.invariant-loop-r
+invariant-loop-r l = ((h : Seek l.other l.words l.from l.stop) → Seeking l.other l.words (text_at l.table l.text l.q) l.from l.stop (pairs_of h.trees) l.r) × (l.from ≤ l.r)
+
+abbrev pub decreases-loop-r : goal.decreases-loop-r
+decreases-loop-r l = l.stop - l.r

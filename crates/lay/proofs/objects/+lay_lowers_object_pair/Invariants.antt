@@ -1,0 +1,27 @@
+-- The cycle of one value over another meets its contracts: the containers that may still stand one inside another become fewer, and in the loop the keys that are left.
+use Prim.Native.Nat.{ℕ}
+use Rattle.lay.specs.Laying.{Lowers}
+use Rattle.lay.specs.Lowering.{Going}
+use mathlib.Core.Path.{◌≡◌}
+use lib.ListN.{length, get_or}
+use Rattle.language.specs.Tree.{width}
+use Prim.Native.Nat.{◌+◌, ◌-◌, ◌*◌, ◌≤◌}
+use Rattle.lay.proofs.objects.+lay_lowers_object_pair.Given as goal
+
+abbrev pub invariant-lowers-loop-q : goal.invariant-lowers-loop-q
+invariant-lowers-loop-q l = ((h : Lowers l.lower l.lower_text l.r l.upper l.upper_text l.s l.allow l.initial.y) → (e : l.stop ≡ get_or l.lower (width * l.r + 6) 0) → Going l.lower l.lower_text l.r l.upper l.upper_text l.s l.allow l.initial.y h l.stop e l.parent l.q l.y l.initial.rows l.rows l.initial.room l.room l.marks l.n l.i) × (length l.rows ≡ length l.initial.rows) × (length l.room ≡ length l.initial.room) × (length l.marks ≡ length l.initial.marks) × (l.n ≤ l.most) × (l.i ≤ l.n) × (l.most + 16 * l.allow ≤ length l.initial.marks)
+
+abbrev pub decreases-lowers-loop-q : goal.decreases-lowers-loop-q
+decreases-lowers-loop-q l = l.stop - l.q
+
+abbrev pub decreases-lay : goal.decreases-lay
+decreases-lay l = 4 * l.allow + 2
+
+abbrev pub decreases-lowers : goal.decreases-lowers
+decreases-lowers l = 4 * l.allow + 4
+
+abbrev pub decreases-object : goal.decreases-object
+decreases-object l = 4 * l.allow + 1
+
+abbrev pub decreases-pair : goal.decreases-pair
+decreases-pair l = 4 * l.allow + 3

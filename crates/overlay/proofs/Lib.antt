@@ -1,0 +1,17 @@
+pub mod BoundsLaws
+pub mod ClashLaws
+pub mod ClashedLaws
+pub mod ClashingLaws
+pub mod FindsLaws
+pub mod FindsInLaws
+pub mod GroupedLaws
+pub mod GroupingLaws
+pub mod KeysLaws
+pub mod ListsLaws
+pub mod ObjectsLaws
+pub mod PromiseLaws
+pub mod ResultLaws
+pub mod UnchangedLaws
+pub mod UnspannedLaws
+pub mod WalkedLaws
+pub mod WholeLaws
