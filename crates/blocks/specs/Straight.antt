@@ -16,7 +16,6 @@ use Rattle.blocks.specs.Array.{array_r, bullet_r}
 use Rattle.blocks.specs.Lead.{lead_r, Leads}
 use Rattle.blocks.specs.Openers.{opener_r, nested_line_r}
 use Rattle.blocks.specs.Nested.{nested_here_r, nested_r, item_r}
-
 use Rattle.blocks.specs.Root.{root_r}
 
 pub merge_right : {X : Type 0} (o : Out X) (q : ℕ) → q ≤ reach o → merge o (bad q) ≡ o

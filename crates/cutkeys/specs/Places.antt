@@ -9,7 +9,7 @@ use Rattle.language.specs.Kind.{pick}
 use Rattle.stored.specs.Form.{tagged, head, widest, PART, cut}
 use Rattle.stored.specs.Parts.{widest_is, Parts, end, part, parts, heads, heads_short}
 use Rattle.stored.proofs.PartsLaws.{cut_short, cut_long, cut_length}
-use Rattle.stored.specs.Bytes.{At, at_left, at_right, at_byte, at_as, at-slice, at_inside}
+use Rattle.stored.specs.Bytes.{At, at_left, at_right, at_byte, at_as, at_inside}
 use Rattle.views.specs.Joined.{within, within_content}
 use Rattle.views.specs.Extents.{length_of, Whole}
 

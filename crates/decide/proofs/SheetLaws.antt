@@ -2,7 +2,7 @@
 use mathlib.Core.Path.{◌≡◌, refl, sym, ap, subst, ◌∙◌}
 use mathlib.Core.Bool.{Bool, true, false}
 use mathlib.Core.List.{List}
-use Prim.Native.Nat.{ℕ, ◌+◌, ◌*◌, ◌≤◌, ◌<◌}
+use Prim.Native.Nat.{ℕ}
 use native.Mathlib.Omega.{arith}
 use lib.ListN.{length}
 use lib.Dec.{eqb}
@@ -11,8 +11,7 @@ use borrow.Author.Tests.{eqb-true, eqb-false}
 use Rattle.exact.specs.Tells.{Tells, tells_yes, tells_no}
 use Rattle.notation.specs.Class.{pick}
 use Rattle.language.specs.declared.Row.{Row}
-use Rattle.language.specs.Kind.{BYTES, OBJECT}
-use Rattle.language.specs.Tree.{width}
+use Rattle.language.specs.Kind.{OBJECT}
 use Rattle.language.specs.Answered.{BADROW}
 use Rattle.language.specs.Sound.{Sound}
 use Rattle.language.specs.Written.{Sounded}
@@ -23,7 +22,6 @@ use Rattle.questions.specs.Walk.{found_reply, Finds}
 use Rattle.sound.specs.Members.{some_size}
 use Rattle.upgrade.specs.Sheet.{VERSION, FLOOR, IMAGE}
 use Rattle.upgrade.specs.Decides as D
-use Rattle.upgrade.specs.declared.Decision.{Decision}
 use Rattle.upgrade.specs.declared.Decision.TheVariants.{Install, Keep, Blocked, BadSheet, BadInstalled}
 use Rattle.decide.specs.declared.sheets.Sheet.{Sheet}
 use Rattle.decide.specs.declared.sheets.Sheet.TheVariants.{Rows, Other}

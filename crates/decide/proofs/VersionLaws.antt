@@ -4,13 +4,10 @@ use mathlib.Core.Bool.{Bool, true, false}
 use mathlib.Core.List.{List}
 use Prim.Native.Nat.{ℕ, suc, ◌+◌, ◌*◌, ◌-◌, ◌≤◌, ◌<◌}
 use native.Mathlib.Omega.{arith}
-use native.Mathlib.Nat.{add-zero}
-use lib.ListN.{length}
 use lib.Dec.{ltb}
 use borrow.Author.Rules.{rules}
 use borrow.Author.Tests.{ltb-true, ltb-false}
 use Rattle.exact.specs.Tells.{Tells, tells_yes, tells_no}
-use Rattle.language.specs.Kind.{INTEGER, ARRAY}
 use Rattle.language.specs.Tree.{width}
 use Rattle.language.specs.Lent.{words_in}
 use Rattle.questions.specs.Text.{text_of}
@@ -20,7 +17,7 @@ use Rattle.integers.specs.Order.{compared_verdict, compared}
 use Rattle.integers.specs.Sized.{Says}
 use Rattle.upgrade.specs.Version.{most}
 use Rattle.upgrade.specs.Order as order
-use Rattle.decide.specs.Rows.{kind_at, count_at, Whole, Inside, zero_text, zero_natural, value_of, natural_greater, natural_equal, natural_less, natural_not, naturals_say, NaturalRow, NaturalRows, VersionRow, place_text, number_at}
+use Rattle.decide.specs.Rows.{kind_at, count_at, Whole, Inside, zero_text, value_of, natural_greater, natural_equal, natural_less, natural_not, naturals_say, NaturalRow, NaturalRows, VersionRow, place_text, number_at}
 use Rattle.decide.specs.Contract.{Versions, AboveRow}
 use Rattle.decide.specs.Deciding.{place_natural, place_there, place_missing, above_here, below_here, level_all}
 

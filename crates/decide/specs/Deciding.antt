@@ -1,6 +1,6 @@
 -- FROM ROWS TO THE DECISION: each answer of the code, told by its rows, is the promised one. Assumes nothing.
 use mathlib.Core.Path.{◌≡◌, sym, ap, ◌∙◌}
-use Rattle.std.specs.Prelude.{Bool, List, ℕ, suc, ◌+◌, ◌≤◌, ◌<◌}
+use Rattle.std.specs.Prelude.{Bool, List, ℕ, ◌+◌, ◌≤◌, ◌<◌}
 use Rattle.std.proofs.Math.Bool.{true, false}
 use Rattle.std.proofs.Common.{arith, ltb-true, ltb-false, lt-ltb, le-ltb}
 use Rattle.std.proofs.Math.Dec.{ltb}
@@ -10,10 +10,10 @@ use Rattle.language.specs.Written.{Sounded, is_sound, unsound}
 use Rattle.language.specs.Answered.{BADROW}
 use Rattle.questions.specs.Text.{text_of}
 use Rattle.upgrade.specs.Version.{place, Higher, Above, most}
-use Rattle.upgrade.specs.Order.{Equal, equal_more, higher_once, equal_not_higher}
+use Rattle.upgrade.specs.Order.{Equal, higher_once, equal_not_higher}
 use Rattle.upgrade.specs.Sheet.{VERSION, FLOOR, IMAGE}
 use Rattle.upgrade.specs.Decides.{BADSHEET, BADINST, INSTALL, KEEP, BLOCKED, SheetIn, Decides, installs, keeps, blocks, decides, bad_sheet, bad_installed}
-use Rattle.decide.specs.Rows.{count_at, Natural, zero_text, zero_natural, value_of, NaturalRow, NaturalRows, VersionRow, ImageRow, place_text, number_at}
+use Rattle.decide.specs.Rows.{count_at, Natural, zero_text, zero_natural, value_of, VersionRow, ImageRow, place_text, number_at}
 use Rattle.decide.specs.Contract.{InstalledRow, Object, Sought, SheetRows, AboveRow}
 use Rattle.decide.specs.Sheets.{row_installed, installed_row, rows_sheet, sheet_shown}
 

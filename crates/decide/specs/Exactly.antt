@@ -1,5 +1,5 @@
 -- EXACTLY THREE KEYS: an object without repeated keys that has the three of a sheet has no other exactly if its count is 3. Assumes nothing.
-use Rattle.std.specs.Prelude.{◌≡◌, refl, ◌⊎◌, List, ℕ, zero, suc, ◌+◌, length, get_or}
+use Rattle.std.specs.Prelude.{◌≡◌, refl, ◌⊎◌, List, ℕ, suc, ◌+◌, length, get_or}
 use Rattle.std.proofs.Common.{sym, ap, subst, ◌∙◌, inl, inr, arith}
 use Rattle.language.specs.Kind.{KEY}
 use Rattle.language.specs.Tree.{Decoded, Tree, leaf, Forest, none, more, has_later, Repeated, again, beside}

@@ -1,17 +1,17 @@
 -- FINDING IN THE ROOT: where an object stands in the rows, `find` answers the row of the value under the key, or that there is none. Assumes nothing.
-use Rattle.std.specs.Prelude.{◌≡◌, true, false, List, ℕ, suc, ◌+◌, ◌*◌, ◌≤◌, ◌<◌, length, eqb}
+use Rattle.std.specs.Prelude.{◌≡◌, true, List, ℕ, ◌+◌, ◌*◌, ◌≤◌, ◌<◌, length, eqb}
 use Rattle.std.proofs.Math.Path.{refl}
-use Rattle.std.proofs.Common.{sym, ap, subst, ◌∙◌, lt-ltb, le-leb}
+use Rattle.std.proofs.Common.{sym, subst, ◌∙◌, lt-ltb, le-leb}
 use native.Mathlib.Omega.{arith}
 use Rattle.language.specs.Kind.{OBJECT, KEY}
-use Rattle.language.specs.Tree.{Decoded, Tree, leaf, node, Forest, none, more, width, size, sizes, text_of}
+use Rattle.language.specs.Tree.{Decoded, Tree, leaf, node, Forest, more, width, size, sizes, text_of}
 use Rattle.language.specs.Lent.{words_in}
 use Rattle.exact.specs.Class.{clash}
 use Rattle.questions.specs.Number.{NONE}
-use Rattle.questions.specs.Table.{word, good}
+use Rattle.questions.specs.Table.{word}
 use Rattle.questions.specs.Text.{part}
 use Rattle.questions.specs.Walk.{Reply, answer, refusal, paired, onward, Walk, ends, breaks, matches, strays, goes, object, Finds, refused, walked}
-use Rattle.shaped.specs.Shaped.{Shaped, shaped_object, Pairs, pairs_none, pairs_more}
+use Rattle.shaped.specs.Shaped.{Shaped, Pairs, pairs_none, pairs_more}
 use Rattle.shaped.specs.RowsAt.{RowsAt, ForestAt, leaf_row, node_row, node_forest, first_at, rest_at, next_at}
 use Rattle.sound.specs.Members.{no_scalar_key, some_size}
 use Rattle.upgrade.specs.Sheet.{Under, under_here, under_later}

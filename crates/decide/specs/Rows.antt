@@ -1,6 +1,6 @@
 -- VERSIONS AND IMAGES IN ROWS: what the code tests of a row and of the texts that the questions answer, and the number of each place. The promise does not rest on these. Assumes nothing.
 use mathlib.Core.Path.{◌≡◌, refl, sym, ap, subst, ◌∙◌}
-use Rattle.std.specs.Prelude.{Bool, true, false, List, [], ◌∷◌, ℕ, ◌+◌, ◌*◌, ◌≤◌, ◌<◌, length, get_or, ltb, ℤ, pos, negsuc, ◌<ℤ◌}
+use Rattle.std.specs.Prelude.{true, List, [], ◌∷◌, ℕ, ◌+◌, ◌*◌, ◌≤◌, ◌<◌, length, get_or, ltb, ℤ, pos, negsuc, ◌<ℤ◌}
 use Rattle.std.proofs.Common.{arith, ltb→lt}
 use Rattle.notation.specs.Class.{pick}
 use Rattle.language.specs.Kind.{INTEGER, BYTES, ARRAY}

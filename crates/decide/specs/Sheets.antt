@@ -1,23 +1,21 @@
 -- SHEETS AND INSTALLED VERSIONS BY THEIR ROWS: what the code finds in a sound table is what its tree has, and back. Assumes nothing.
-use Rattle.std.specs.Prelude.{◌≡◌, refl, List, true, ℕ, suc, ◌+◌, ◌*◌, ◌≤◌, ◌<◌}
-use Rattle.std.proofs.Common.{sym, ap, ◌∙◌, arith}
+use Rattle.std.specs.Prelude.{◌≡◌, List, true, ℕ, ◌+◌, ◌<◌}
+use Rattle.std.proofs.Common.{sym, ◌∙◌, arith}
 use Rattle.std.proofs.Math.Path.{subst}
 use Rattle.language.specs.Kind.{ARRAY, OBJECT, BYTES}
-use Rattle.language.specs.Tree.{Tree, leaf, node, Forest, width, size, sizes, Once, inside}
-use Rattle.language.specs.Lent.{words_in}
+use Rattle.language.specs.Tree.{Tree, node, Forest, size, sizes, inside}
 use Rattle.language.specs.Answered.{deepest}
 use Rattle.language.specs.Sound.{Holds, Sound}
-use Rattle.questions.specs.Number.{NONE}
-use Rattle.questions.specs.Walk.{Reply, answer, refusal}
+use Rattle.questions.specs.Walk.{Reply}
 use Rattle.shaped.specs.Shaped.{Shaped, shaped_leaf, shaped_array, shaped_object, Pairs}
-use Rattle.shaped.specs.RowsAt.{RowsAt, leaf_row, node_row, kind_at_lem}
+use Rattle.shaped.specs.RowsAt.{RowsAt, leaf_row, node_row}
 use Rattle.shaped.specs.Holds.{profile_shaped, holds_at}
 use Rattle.upgrade.specs.Version.{Version, place}
-use Rattle.upgrade.specs.Sheet.{Under, VERSION, FLOOR, IMAGE, Named, Image, Sheet, sheet}
+use Rattle.upgrade.specs.Sheet.{Under, VERSION, FLOOR, IMAGE, Image, Sheet, sheet}
 use Rattle.upgrade.specs.Unique.{under_one}
 use Rattle.upgrade.specs.Decides.{SheetIn, InstalledIn}
 use Rattle.decide.specs.Rows.{kind_at, count_at, Inside, VersionRow, ImageRow, number_at}
-use Rattle.decide.specs.Trees.{Stands, Reads, version_reads, Versioned, row_version, image_row, row_image, no_container}
+use Rattle.decide.specs.Trees.{Stands, version_reads, row_version, image_row, row_image, no_container}
 use Rattle.decide.specs.Found.{Seen, seen, unseen, find_seen}
 use Rattle.decide.specs.Exactly.{pairs_alone, three_named, named_three}
 use Rattle.decide.specs.Contract.{InstalledRow, Object, object, Sought, ImageUnder, image, SheetRows}

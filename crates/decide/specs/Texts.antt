@@ -1,12 +1,11 @@
 -- THE ROWS OF LEAVES, AS THE QUESTIONS SEE THEM: where a leaf with a text stands in a row, the row is readable, and its text is the leaf's. Assumes nothing.
-use Rattle.std.specs.Prelude.{◌≡◌, refl, Bool, true, false, ◌&&◌, List, [], ℕ, ◌+◌, ◌-◌, ◌*◌, ◌≤◌, ◌<◌, take, drop, leb}
+use Rattle.std.specs.Prelude.{◌≡◌, Bool, true, false, ◌&&◌, List, ℕ, ◌+◌, ◌-◌, ◌*◌, ◌≤◌, ◌<◌, leb}
 use Rattle.std.proofs.Math.Path.{ap}
-use Rattle.std.proofs.Common.{subst, ◌∙◌, lt-ltb, le-leb}
+use Rattle.std.proofs.Common.{lt-ltb, le-leb}
 use native.Mathlib.Omega.{arith}
 use Rattle.std.proofs.Math.ListN.{length, get_or}
-use Rattle.notation.specs.Class.{pick}
 use Rattle.language.specs.Kind.{TRUE, has_text}
-use Rattle.language.specs.Tree.{Decoded, Tree, leaf, width}
+use Rattle.language.specs.Tree.{Decoded, leaf, width}
 use Rattle.language.specs.Lent.{words_in, bytes_in}
 use Rattle.questions.specs.Table.{word, good, readable}
 use Rattle.questions.specs.Text.{part, text_of}

@@ -10,7 +10,7 @@ use Rattle.std.proofs.Math.Dec.{ltb}
 use borrow.Author.Tests.{ltb-true, ltb-false}
 use Rattle.notation.specs.Class.{pick}
 use Rattle.language.specs.Kind.{INTEGER, BYTES, ARRAY}
-use Rattle.language.specs.Tree.{Decoded, Tree, leaf, node, Forest, none, more, width, size, sizes, text_of}
+use Rattle.language.specs.Tree.{Decoded, Tree, leaf, node, Forest, more, width, size, sizes, text_of}
 use Rattle.language.specs.Lent.{words_in}
 use Rattle.questions.specs.Text as questions
 use Rattle.integers.specs.Integer.{integer}
@@ -19,7 +19,7 @@ use Rattle.shaped.specs.RowsAt.{RowsAt, ForestAt, leaf_row, node_row, node_fores
 use Rattle.upgrade.specs.Version.{Numbers, no_number, one_number, Version, version, most, place}
 use Rattle.upgrade.specs.Order.{place_past}
 use Rattle.upgrade.specs.Sheet.{Image, image}
-use Rattle.decide.specs.Rows.{kind_at, count_at, Natural, zero_text, value_of, value_one, zero_value, NaturalRow, NaturalRows, VersionRow, ImageRow, place_text, number_at}
+use Rattle.decide.specs.Rows.{count_at, zero_text, value_of, value_one, zero_value, NaturalRow, NaturalRows, VersionRow, ImageRow, place_text, number_at}
 use Rattle.decide.specs.Texts.{leaf_answers}
 
 integer_text : {k : ℕ} {s : List ℕ} → k ≡ INTEGER → Scalar k s → Rattle.integers.specs.Integer.is_integer s ≡ true

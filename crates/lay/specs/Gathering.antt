@@ -1,11 +1,11 @@
 -- A WINDOW OF KEYS of an object, by the places of their texts (`Gathered`): each has a text of its own, and marks of theirs are marks of the object's pairs. Assumes nothing.
-use Rattle.std.specs.Prelude.{◌≡◌, refl, List, ◌∷◌, ℕ, ◌+◌, ◌-◌, ◌*◌, ◌≤◌, ◌<◌, length, get_or, set}
+use Rattle.std.specs.Prelude.{◌≡◌, List, ℕ, ◌+◌, ◌-◌, ◌*◌, ◌≤◌, ◌<◌, length, get_or, set}
 use Rattle.std.proofs.Common.{sym, subst, subst₂, ◌∙◌, arith, length-set, get_or-set_same, get_or-set_other, rules}
 use Rattle.std.proofs.Math.Decide.{ℕ_discrete}
-use Rattle.language.specs.Tree.{Forest, Field, field, text_of, width}
+use Rattle.language.specs.Tree.{Forest, Field, text_of, width}
 use Rattle.distinct.specs.Names.{spelt, Held, Sits, Twice, twice_none, twice_more}
 use Rattle.distinct.specs.Window.{held_none, held_more, spelt_set, spelt_last}
-use Rattle.sound.specs.Keys.{from_at, to_at, text_at}
+use Rattle.sound.specs.Keys.{from_at, to_at}
 use Rattle.sound.specs.Standing.{size_some}
 use Rattle.overlay.specs.Overlay.{pairs_of, absent, value_of}
 use Rattle.overlay.specs.Lists.{no_value, value_here, value_there}

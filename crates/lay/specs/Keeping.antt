@@ -1,12 +1,11 @@
 -- A KEY OR A VALUE KEPT, with all that is below it: what the code of a row and of the rows below it asks, and how it keeps its promise row by row. Assumes nothing.
-use Rattle.std.specs.Prelude.{◌≡◌, refl, List, [], ◌∷◌, ◌++◌, Bool, true, false, get_or, leb}
+use Rattle.std.specs.Prelude.{◌≡◌, refl, List, [], ◌++◌, true, false, get_or, leb}
 use Rattle.std.proofs.Math.Path.{sym, ap, ap₂, subst}
 use Rattle.std.proofs.Common.{◌∙◌, length-append, rules}
 use Prim.Native.Nat.{ℕ, suc, ◌+◌, ◌-◌, ◌*◌, ◌≤◌, ◌<◌}
 use native.Mathlib.Omega.{arith}
 use Rattle.std.proofs.Math.ListN.{length}
 use Rattle.std.proofs.Math.Seq.{sets, slice}
-use Rattle.notation.specs.Class.{pick}
 use Rattle.exact.specs.Class.{clash}
 use Rattle.language.specs.Kind.{TRUE, has_text}
 use Rattle.language.specs.Tree.{Tree, leaf, node, Forest, none, more, Decoded, width, unlined, size, sizes, text_of, texts_of, row_list}
@@ -20,7 +19,7 @@ use Rattle.shaped.specs.Beside.{beside, beside_size, beside_text}
 use Rattle.overlay.specs.Unspanned.{unspan_twice}
 use Rattle.sound.specs.Standing.{Kept, kept_key, kept_value, Kepts, kepts_none, kepts_more, elements_kept, pairs_kept, size_some, sizes_some, At, Along, word_in, kind_word, next_word, node_along}
 use Rattle.lay.specs.declared.Spot.{Spot}
-use Rattle.lay.specs.Targets.{ceiling, Stored, stored_none, stored_then, stored_as, stored_head, alone, head_row, own_text, below, head_size, own_length, alone_size, alone_text}
+use Rattle.lay.specs.Targets.{ceiling, Stored, stored_none, stored_then, stored_as, stored_head, alone, head_row, own_text, below, head_size, own_length}
 
 -- how many rows and what text trees have is the same without spans
 pub bare_size : (t : Tree) → size (unspan t) ≡ size t

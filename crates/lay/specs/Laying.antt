@@ -1,32 +1,27 @@
 -- ONE VALUE OVER ANOTHER, AND ONE OBJECT OVER ANOTHER: what the code asks and promises, and how it keeps its promise pair by pair. Assumes nothing.
-use Rattle.std.specs.Prelude.{◌≡◌, refl, List, [], ◌∷◌, ◌++◌, Bool, true, ℕ, suc, ◌+◌, ◌-◌, ◌*◌, ◌≤◌, ◌<◌, length, get_or, take, drop, eqb}
-use Rattle.std.proofs.Common.{sym, ap, ap₂, subst, ◌∙◌, append_assoc, append-nil, arith, length-append}
+use Rattle.std.specs.Prelude.{◌≡◌, refl, List, [], ◌∷◌, ◌++◌, Bool, true, ℕ, ◌+◌, ◌*◌, ◌≤◌, ◌<◌, length, get_or, eqb}
+use Rattle.std.proofs.Common.{sym, ap, subst, ◌∙◌, arith, length-append}
 use Rattle.std.proofs.Math.Bool.{false}
-use Rattle.notation.specs.Class.{or}
-use Rattle.exact.specs.Class.{clash}
-use Rattle.language.specs.Kind.{OBJECT}
-use Rattle.language.specs.Tree.{Tree, leaf, node, Forest, none, more, Field, field, fields, forest, count, object_tree, width, unlined, size, sizes, text_of, texts_of, row_list}
+use Rattle.language.specs.Tree.{Tree, Forest, more, Field, field, fields, forest, count, width, size, sizes, text_of, texts_of}
 use Rattle.language.specs.Alike.{unspan, unspans}
 use Rattle.spans.specs.Formed.{kind_of}
 use Rattle.shaped.specs.Beside.{beside, beside_size, beside_text}
 use Rattle.sound.specs.Members.{Sane}
-use Rattle.sound.specs.Keys.{beyond}
-use Rattle.sound.specs.Standing.{Kept, kept_value, size_some, At, Along, kind_word, next_word, word_in}
-use Rattle.overlay.specs.Overlay.{is_object, pairs_of, pairs, Value, value, absent, at, value_of, new_ones}
+use Rattle.sound.specs.Standing.{Kept, kept_value, At, kind_word, word_in}
+use Rattle.overlay.specs.Overlay.{is_object, pairs, Value, value, absent, at, value_of, new_ones}
 use Rattle.overlay.specs.Over.{clashes, over}
-use Rattle.overlay.specs.Lists.{topped, mended, laid_pairs, over_others, no_value, new_kept, new_left}
-use Rattle.overlay.proofs.ListsLaws.{over_objects, over_other}
-use Rattle.overlay.specs.Objects.{Props, props_value, same_value}
-use Rattle.overlay.proofs.ObjectsLaws.{sane_props}
+use Rattle.overlay.specs.Lists.{topped, mended}
+use Rattle.overlay.proofs.ListsLaws.{over_other}
+use Rattle.overlay.specs.Objects.{Props, props_value}
 use Rattle.overlay.specs.Clash.{clashing}
-use Rattle.overlay.proofs.ClashLaws.{clashes_objects, clashes_one, clashes_other}
+use Rattle.overlay.proofs.ClashLaws.{clashes_one, clashes_other}
 use Rattle.lay.specs.declared.Spot.{Spot}
 use Rattle.lay.specs.declared.Grown.{Grown}
 use Rattle.lay.specs.declared.Lay.{Lay}
 use Rattle.lay.specs.declared.Lay.TheVariants.{Done, Clash}
-use Rattle.lay.specs.Targets.{ceiling, Stored, stored_none, stored_then, stored_as, stored_node, alone, alone_size, alone_text}
-use Rattle.lay.specs.Keeping.{Keep, bare_size, bare_text, beside_none, beside_beside}
-use Rattle.lay.specs.Matching.{Stand, Pair, stand_first, stand_none, Object, Inside, inside, Mark, mark_none, mark_some, Marks, marks_end, marks_more, Match, Matched}
+use Rattle.lay.specs.Targets.{ceiling, Stored, stored_then, stored_as, alone, alone_size, alone_text}
+use Rattle.lay.specs.Keeping.{Keep, bare_size, bare_text}
+use Rattle.lay.specs.Matching.{Object, Mark, mark_none, mark_some}
 
 -- the trees of pairs, without spans, as they are stored
 abbrev pub bares : List Field → Forest

@@ -1,7 +1,7 @@
 -- THE LOWER'S PAIRS, one after another, each with what the upper has for its key; then the upper's new ones; and the object of both. Assumes nothing.
-use Rattle.std.specs.Prelude.{◌≡◌, Bool, true, false, ℕ, zero, suc, ◌+◌, ◌-◌, ◌*◌, ◌≤◌, ◌<◌, length, take, drop}
+use Rattle.std.specs.Prelude.{◌≡◌, Bool, ℕ, zero, suc, ◌+◌, ◌-◌, ◌*◌, ◌≤◌, ◌<◌, length}
 use Rattle.std.proofs.Math.Path.{refl, sym, ap, ap₂, subst}
-use Rattle.std.proofs.Common.{◌∙◌, length-append}
+use Rattle.std.proofs.Common.{◌∙◌}
 use mathlib.Core.List.{List, [], ◌∷◌, ◌++◌, append_assoc, append-nil}
 use native.Mathlib.Omega.{arith}
 use Rattle.std.proofs.Math.ListN.{get_or}
@@ -9,18 +9,16 @@ use Rattle.std.proofs.lemmas.List.Edits.{sets}
 use Rattle.notation.specs.Class.{or}
 use Rattle.exact.specs.Class.{clash}
 use Rattle.language.specs.Kind.{OBJECT}
-use Rattle.language.specs.Tree.{Tree, leaf, node, Forest, none, more, Field, field, fields, forest, count, object_tree, width, unlined, size, sizes, text_of, texts_of, row_list}
+use Rattle.language.specs.Tree.{Tree, node, Forest, none, Field, field, count, width, unlined, size, sizes, text_of, row_list}
 use Rattle.language.specs.Alike.{unspan, unspans}
 use Rattle.shaped.specs.Beside.{beside}
-use Rattle.shaped.specs.Shaped.{Shaped, Pairs}
 use Rattle.sound.specs.Members.{Sane}
-use Rattle.sound.specs.Keys.{beyond}
-use Rattle.sound.specs.Standing.{Kept, kept_value, size_some, At, Along, next_word, word_in}
+use Rattle.sound.specs.Standing.{Kept, kept_value, size_some, At, next_word, word_in}
 use Rattle.overlay.specs.Overlay.{is_object, pairs_of, pairs, Value, value, absent, value_of, new_ones}
-use Rattle.overlay.specs.Over.{clashes, over}
+use Rattle.overlay.specs.Over.{over}
 use Rattle.overlay.specs.Lists.{topped, mended, laid_pairs, new_kept, new_left, new_append}
 use Rattle.overlay.proofs.ListsLaws.{over_objects}
-use Rattle.overlay.specs.Objects.{Props, pairs_count}
+use Rattle.overlay.specs.Objects.{pairs_count}
 use Rattle.overlay.proofs.ObjectsLaws.{sane_props, sane_other}
 use Rattle.overlay.specs.Clash.{clashing}
 use Rattle.overlay.proofs.ClashLaws.{clashes_objects}
@@ -30,8 +28,8 @@ use Rattle.lay.specs.declared.Lay.{Lay}
 use Rattle.lay.specs.declared.Lay.TheVariants.{Done, Clash}
 use Rattle.lay.specs.Targets.{ceiling, Stored, stored_none, stored_then, stored_as, stored_node, alone, alone_size, alone_text, head_size, own_length}
 use Rattle.lay.specs.Keeping.{Keep}
-use Rattle.lay.specs.Matching.{Stand, Pair, stand_first, stand_none, Object, Inside, inside, Mark, Marks, marks_end, Match, Refill, Refilled, marks_first, marks_agree}
-use Rattle.lay.specs.Laying.{bares, bares_append, Fits, fits_as, fits_first, fits_behind, fits_keep, bares_pair, Two, Lays, lays_over, lays_clash, Objects, Both, Lowers, Lowered, lowered, lowered_clash, lowered_done, lowered_clashed, News, Grew, spot, Topping, Tops, tops_done, tops_clashed, clash_at, There, marked_there, marked_missing}
+use Rattle.lay.specs.Matching.{Stand, Pair, stand_first, stand_none, inside, Mark, Marks, marks_end, Refill, Refilled, marks_first, marks_agree}
+use Rattle.lay.specs.Laying.{bares, bares_append, Fits, fits_as, fits_first, fits_behind, fits_keep, bares_pair, Lays, lays_over, lays_clash, Objects, Both, Lowers, Lowered, lowered, lowered_clash, lowered_done, lowered_clashed, News, Grew, spot, Topping, Tops, tops_done, tops_clashed, clash_at, marked_there, marked_missing}
 
 pub count_append : (us vs : List Field) → count (us ++ vs) ≡ count us + count vs
 count_append [] vs = omega arith

@@ -2,12 +2,12 @@
 use mathlib.Core.Path.{◌≡◌, refl, sym, ap, subst, subst₂, ◌∙◌}
 use mathlib.Core.List.{List, [], ◌∷◌, ◌++◌}
 use Rattle.std.specs.Prelude.{Bool, true, false, ℕ, zero, suc, ◌+◌, ◌-◌, ◌*◌, ◌≤◌, ◌<◌, get_or, set, take, drop}
-use Rattle.std.proofs.Common.{arith, length-drop, get_or-set_same, get_or-set_other, length-take-le, rules}
+use Rattle.std.proofs.Common.{arith, length-drop, get_or-set_same, get_or-set_other, length-take-le}
 use Rattle.std.proofs.Math.ListN.{length}
 use Rattle.std.proofs.Math.Seq.{slice}
 use Rattle.exact.specs.Tells.{Tells, tells_yes, tells_no}
 use Rattle.language.specs.Kind.{KEY}
-use Rattle.language.specs.Tree.{Tree, leaf, node, Forest, none, more, Decoded, Field, field, width, size, sizes, text_of}
+use Rattle.language.specs.Tree.{Tree, leaf, Forest, none, more, Decoded, Field, field, width, size, sizes, text_of}
 use Rattle.shaped.specs.RowsAt.{ForestAt, first_at, rest_at, next_at, leaf_row}
 use Rattle.shaped.specs.Leaves.{part_is, part_fits}
 use Rattle.shaped.specs.Shaped.{Pairs, pairs_none, pairs_more, shaped_leaf, shaped_array, shaped_object}
@@ -15,9 +15,9 @@ use Rattle.sound.specs.Members.{Sane}
 use Rattle.sound.specs.Keys.{text_at, beyond}
 use Rattle.sound.specs.Pairwise.{Named}
 use Rattle.sound.specs.Standing.{Kept, kept_key, size_some, sizes_some, At, Along, next_word, node_along}
-use Rattle.overlay.specs.Overlay.{is_object, pairs_of, pairs, Value, value, absent, value_of}
+use Rattle.overlay.specs.Overlay.{is_object, pairs_of, pairs, value, absent, value_of}
 use Rattle.overlay.specs.Lists.{value_here, value_there}
-use Rattle.overlay.specs.Objects.{Props, props_none, props_more}
+use Rattle.overlay.specs.Objects.{Props, props_more}
 use Rattle.overlay.proofs.ObjectsLaws.{sane_props}
 use Rattle.exact.specs.Class.{clash}
 use Rattle.lay.specs.Targets.{ceiling}

@@ -1,10 +1,10 @@
 -- A WINDOW OF KEYS, each with a mark, and another object whose keys are sought in it one after another (`Halves`): whichever way they are sought, each key of the window has its match at the end. Assumes nothing.
 use Rattle.std.specs.Prelude.{◌≡◌, refl, List, [], ◌∷◌, ℕ, ◌+◌, ◌≤◌, ◌<◌, length, get_or, set}
-use Rattle.std.proofs.Common.{sym, ap, subst, subst₂, ◌∙◌, arith, get_or-set_same, get_or-set_other}
+use Rattle.std.proofs.Common.{sym, ap, subst, ◌∙◌, arith, get_or-set_same, get_or-set_other}
 use native.Mathlib.Decide.{ℕ_discrete}
 use Rattle.language.specs.Tree.{Tree, Field, field, size, text_of}
 use Rattle.sound.specs.Standing.{At}
-use Rattle.distinct.specs.Names.{spelt, Held, Sits, sits_at, Twice}
+use Rattle.distinct.specs.Names.{spelt, Sits, sits_at, Twice}
 use Rattle.overlay.specs.Overlay.{value, absent, value_of}
 use Rattle.overlay.specs.Lists.{no_value, value_here, value_there}
 use Rattle.lay.specs.Targets.{ceiling}

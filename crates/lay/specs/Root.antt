@@ -1,22 +1,20 @@
 -- THE WHOLE OVERLAY: two sound tables whose roots are objects, what is counted, and what is answered. Assumes nothing.
 use Rattle.std.specs.Prelude.{◌≡◌, refl, List, ◌++◌, Bool, true, false, ℕ, ◌+◌, ◌*◌, ◌/◌, ◌≤◌, ◌<◌, length, get_or, drop, eqb}
-use Rattle.std.proofs.Common.{sym, ap, subst, ◌∙◌, append-nil, arith, eqb-true, eq-eqb}
+use Rattle.std.proofs.Common.{sym, ap, subst, ◌∙◌, append-nil, arith}
 use Rattle.std.proofs.lemmas.List.Edits.{sets, sets-eq}
 use Rattle.notation.specs.Class.{pick}
 use Rattle.exact.specs.Class.{clash}
 use Rattle.exact.specs.Tells.{Tells, tells_yes, tells_no}
-use Rattle.language.specs.Tree.{Tree, width, unlined, size, sizes, text_of, texts_of, rows_of, rowss}
+use Rattle.language.specs.Tree.{Tree, width, unlined, size, text_of, texts_of, rows_of, rowss}
 use Rattle.language.specs.Alike.{unspan}
 use Rattle.language.specs.Answered.{deepest, ROWS, TEXT, BADROW}
-use Rattle.language.specs.Lent.{lent, words_in, bytes_in}
+use Rattle.language.specs.Lent.{words_in, bytes_in}
 use Rattle.language.specs.Sound.{Holds, Sound}
 use Rattle.language.specs.Written.{Sounded, is_sound, unsound}
 use Rattle.rooms.specs.Forest.{length_rows}
 use Rattle.shaped.specs.Holds.{holds_at}
 use Rattle.shaped.specs.Bare.{alike_at}
-use Rattle.spans.specs.Formed.{kind_of}
-use Rattle.sound.specs.Standing.{At, kind_word, word_in, size_some}
-use Rattle.sound.specs.Members.{Sane}
+use Rattle.sound.specs.Standing.{At, kind_word, word_in}
 use Rattle.overlay.specs.Overlay.{is_object, Laid, laid, overlay}
 use Rattle.overlay.specs.Over.{clashes, over}
 use Rattle.overlay.specs.Overlaid.{CLASH, HoldsObject, Given, fits, clashed, rows, bytes, Overlaid, gives, bad_lower, bad_upper}
@@ -28,9 +26,9 @@ use Rattle.overlay.proofs.BoundsLaws.{over_rows, over_text}
 use Rattle.lay.specs.declared.Spot.{Spot}
 use Rattle.lay.specs.declared.Lay.{Lay}
 use Rattle.lay.specs.declared.Lay.TheVariants.{Done, Clash}
-use Rattle.lay.specs.Targets.{ceiling, Stored, alone, alone_size, alone_text}
+use Rattle.lay.specs.Targets.{Stored, alone, alone_size, alone_text}
 use Rattle.lay.specs.Keeping.{bare_size, bare_text}
-use Rattle.lay.specs.Laying.{Fits, Two, Lays, lays_over, lays_clash, lays_done, lays_clashed, Objects, object_kind}
+use Rattle.lay.specs.Laying.{Lays, lays_over, lays_clash, Objects, object_kind}
 
 -- where the targets begin
 abbrev pub origin : Spot

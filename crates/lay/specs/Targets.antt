@@ -1,11 +1,10 @@
 -- TREES STORED IN THE TARGETS (`Stored`), one behind another. A store past a target's end changes nothing. Assumes nothing.
 use Rattle.std.specs.Prelude.{◌≡◌, List, [], ◌∷◌, ◌++◌, ℕ, zero, suc, ◌+◌, ◌-◌, ◌*◌, ◌≤◌, ◌<◌, length, set, take, drop}
 use Rattle.std.proofs.Math.Path.{refl}
-use Rattle.std.proofs.Common.{sym, ap, subst, ◌∙◌, append_assoc, append-nil, add-zero, arith, length-append, length-drop, drop-drop}
+use Rattle.std.proofs.Common.{sym, ap, subst, ◌∙◌, append_assoc, append-nil, arith, length-append, length-drop, drop-drop}
 use Rattle.std.proofs.lemmas.List.Edits.{sets}
 use Rattle.std.proofs.Math.Seq.{drop-length, take-length}
-use Rattle.language.specs.Tree.{unescaped, Decoded, Tree, leaf, node, Forest, none, more, width, unlined, size, sizes, text_of, texts_of, row_list, leaf_row, rows_of, rowss}
-use Rattle.language.specs.Alike.{unspan, unspans}
+use Rattle.language.specs.Tree.{Tree, leaf, node, Forest, none, more, width, unlined, size, sizes, text_of, texts_of, row_list, leaf_row, rows_of, rowss}
 use Rattle.rooms.specs.Stores.{sets_append, row_behind}
 use Rattle.rooms.specs.Forest.{length_rowss}
 use Rattle.shaped.specs.Beside.{beside, beside_size, beside_text}

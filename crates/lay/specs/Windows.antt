@@ -4,7 +4,7 @@ use Rattle.std.specs.Prelude.{refl, List, Bool, true, false, ℕ, ◌+◌, ◌-�
 use Rattle.std.proofs.Common.{sym, ap, subst, ◌∙◌, length-set, rules}
 use native.Mathlib.Omega.{arith}
 use Rattle.exact.specs.Class.{clash}
-use Rattle.language.specs.Tree.{Forest, text_of, width}
+use Rattle.language.specs.Tree.{Forest, width}
 use Rattle.repeats.specs.declared.Walk.{Walk}
 use Rattle.repeats.specs.declared.Walk.TheVariants.{Past}
 use Rattle.distinct.specs.declared.Sought.{Sought}

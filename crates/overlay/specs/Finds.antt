@@ -18,9 +18,7 @@ use Rattle.overlay.specs.Over.{clashes, over}
 use Rattle.overlay.specs.Lists.{same_tells, no_value, value_here, value_later, merged}
 use Rattle.overlay.specs.Objects.{Props, props_none, props_more, same_value, props_value, pairs_forest}
 use Rattle.overlay.specs.Unspanned.{bare_value, plain_value, unspan_object, sane_unspan}
-
 use Rattle.overlay.specs.Profiles.{ProfileTree, tree_sane, sane_tree}
-
 use Rattle.overlay.specs.Clash.{Clash, lower_object, upper_object, below}
 
 -- an object's children: one of its pairs has the key s, with the value v

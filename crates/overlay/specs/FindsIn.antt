@@ -21,7 +21,6 @@ use Rattle.sound.specs.Members.{Sane}
 use Rattle.overlay.specs.Overlay.{is_object, Laid, laid, overlay}
 use Rattle.overlay.specs.Overlaid.{HoldsObject, Given, fits, clashed, rows, bytes, Overlaid, gives, bad_lower, bad_upper}
 use Rattle.overlay.specs.Profiles.{profile_tree, profile_sane}
-
 use Rattle.overlay.specs.Finds.{Property, here, later, Finds, finds, Lacks, KeyOver, lower_only, upper_only, both_others, both_objects, neither}
 
 -- WHAT `find` ANSWERS for the key s in row 0 of the table of r, the overlay of t and u: the row of its value, or that there is none

@@ -10,7 +10,6 @@ use Rattle.overlay.specs.Lists.{value_here, value_later, new_kept, new_left, new
 use Rattle.overlay.specs.Objects.{Props, props_none, props_more, props_value}
 use Rattle.overlay.specs.Clash.{Clash, upper_object, below}
 
-
 -- PAIRS BEHIND PAIRS
 mended_append : (fs gs hs : List Field) → mended (fs ++ gs) hs ≡ mended fs hs ++ mended gs hs
 unfolding mended

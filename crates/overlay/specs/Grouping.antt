@@ -8,14 +8,9 @@ use Rattle.exact.specs.Tells.{Tells}
 use Rattle.sound.specs.Members.{Sane}
 use Rattle.overlay.specs.Overlay.{Laid, laid, clash, onward, overlay}
 use Rattle.overlay.specs.Over.{clashes, over, clash_or_over}
-
 use Rattle.overlay.specs.Unspanned.{sane_unspan}
-
 use Rattle.overlay.specs.Profiles.{ProfileTree, tree_sane}
-
 use Rattle.overlay.specs.Clash.{Clash, clash_sym}
-
-
 
 -- the site over what fleet and region give; what region and site give over the fleet. "A grouping clashes if either of its steps does"
 abbrev pub lower_two_first : Tree → Tree → Tree → Laid

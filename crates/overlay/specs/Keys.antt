@@ -8,7 +8,6 @@ use Rattle.overlay.specs.Overlay.{is_object, pairs, same, Value, value, absent, 
 use Rattle.overlay.specs.Lists.{mended, laid_pairs}
 use Rattle.overlay.specs.Unspanned.{unspan_text, unspan_object, bare, bare_pairs_lem}
 
-
 -- the decoded bytes of the keys, in order
 unfoldable pub keys_in : List Field → List (List ℕ)
 keys_in [] = []

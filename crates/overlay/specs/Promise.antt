@@ -15,7 +15,6 @@ use Rattle.overlay.specs.Overlaid.{gave_number, gave_first, gave_second, HoldsOb
 use Rattle.overlay.specs.Unspanned.{unspan_object}
 use Rattle.overlay.specs.Profiles.{ProfileTree, profile_tree}
 
-
 -- ONE ANSWER, for what two trees give
 pub one_given : {table text : List ℕ} {l : Laid} {n v s n₂ v₂ s₂ : ℕ} {table' text' table'' text'' : List ℕ} → Given table text l n v s table' text' → Given table text l n₂ v₂ s₂ table'' text''
     → (n ≡ n₂) × (v ≡ v₂) × (s ≡ s₂) × (table' ≡ table'') × (text' ≡ text'')

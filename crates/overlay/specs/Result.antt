@@ -6,10 +6,7 @@ use Rattle.language.specs.Alike.{unspan, Alike}
 use Rattle.sound.specs.Members.{Sane}
 use Rattle.overlay.specs.Overlay.{is_object, Laid, laid, clash, overlay}
 use Rattle.overlay.specs.Over.{clashes, over, clash_or_over}
-
-
 use Rattle.overlay.specs.Unspanned.{unspan_twice, unspan_object, sane_unspan}
-
 use Rattle.overlay.specs.Profiles.{ProfileTree, tree_sane, sane_tree}
 
 -- A TREE OR A CLASH

@@ -15,7 +15,6 @@ use Rattle.overlay.specs.Over.{over, clash_or_over}
 use Rattle.overlay.specs.Lists.{no_value, value_here, value_later, new_left, topped, mended, laid_pairs}
 use Rattle.overlay.specs.Objects.{Props, props_none, props_more, same_value, pairs_forest, pairs_count, props_sane}
 use Rattle.overlay.specs.Unspanned.{unspan_object, sane_unspan, bare, bare_pairs_lem, bare_append, bare_object}
-
 use Rattle.overlay.specs.Profiles.{ProfileTree, tree_sane}
 use Rattle.overlay.specs.Clash.{Clash, lower_object, upper_object, below, clash_sym}
 

@@ -4,7 +4,7 @@ use Rattle.std.proofs.Common.{sym, ap, subst, ◌∙◌, append-nil, zero-add, s
 use Rattle.std.proofs.Math.Seq.{take-nil, drop-nil}
 use Rattle.language.specs.Tree.{count}
 use Rattle.language.specs.Answered.{limit}
-use Rattle.notes.specs.Flat.{Named, named}
+use Rattle.notes.specs.Flat.{Named}
 use Rattle.notes.specs.Lie.{Keys, keys_more}
 use Rattle.repeats.specs.Flat.{In, in_here, in_later, in_right, Twice, twice_here, twice_later, twice_left, Split, in_first, in_second, across, twice_split}
 use Rattle.repeats.specs.Later.{LeastOf}

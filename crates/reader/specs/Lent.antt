@@ -13,8 +13,7 @@ use Rattle.language.specs.Document.{Document}
 use Rattle.spans.proofs.DocumentLaws.{few_rows}
 use Rattle.repeats.specs.declared.Repeat.{Repeat}
 use Rattle.repeats.specs.declared.Repeat.TheVariants.{At, Nowhere}
-use Rattle.notes.specs.Flat.{Named, flat}
-use Rattle.notes.specs.Lie.{Keys}
+use Rattle.notes.specs.Flat.{flat}
 use Rattle.places.specs.Places.{Placed}
 use Rattle.places.specs.Log.{Holds, Told, Windowed, windowed_plain, room_first, holds_whole, holds_placed, holds_told, names_tree}
 use Rattle.exact.specs.Verdict.{acc}

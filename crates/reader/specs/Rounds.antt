@@ -1,5 +1,5 @@
 -- ROUNDS OF SIEVING: after each, the filter keeps every key that comes twice; so the first that is named twice among those that pass is the first of all. Assumes nothing.
-use Rattle.std.specs.Prelude.{◌≡◌, refl, List, [], true, ◌⊎◌, ℕ, ◌+◌, ◌-◌, ◌*◌, ◌/◌, ◌%◌, ◌≤◌, ◌<◌, length, get_or, set, replicate}
+use Rattle.std.specs.Prelude.{◌≡◌, refl, List, [], true, ◌⊎◌, ℕ, ◌+◌, ◌/◌, ◌≤◌, ◌<◌, length, get_or, set, replicate}
 use Rattle.std.proofs.Common.{sym, ap, subst, ◌∙◌, inl, inr, arith, length-set, get_or-set_same, get_or-set_other, rules}
 use Rattle.std.proofs.Math.Decide.{ℕ_discrete}
 use Rattle.notes.specs.Lie.{Keys}
@@ -12,15 +12,13 @@ use Rattle.blocks.specs.Document.{verdict}
 use Rattle.notes.specs.Flat.{Named, flat}
 use Rattle.notes.specs.Notes.{Kept}
 use Rattle.notes.specs.Handed.{mode, round, key_class, passing}
-use Rattle.spelt.specs.Hash.{hash_of}
-use Rattle.sieve.specs.Bits.{digit, On}
-use Rattle.sieve.specs.Sieve.{hits, top, broken, list_at, lists, again, filter, large, class_low, Mark, Sieved, Has, Double}
+use Rattle.sieve.specs.Bits.{On}
+use Rattle.sieve.specs.Sieve.{hits, broken, list_at, again, filter, large, class_low, Sieved}
 use Rattle.repeats.specs.declared.Repeat.{Repeat}
 use Rattle.repeats.specs.declared.Repeat.TheVariants.{Nowhere}
-use Rattle.repeats.specs.Flat.{Twice}
 use Rattle.repeats.specs.Later.{Names, names_map, zeros}
 use Rattle.places.specs.Chosen.{some_twice}
-use Rattle.places.specs.Sifted.{sift, sift_some, Both, both_double, Claims, twice_sifted, twice_both, took_sown}
+use Rattle.places.specs.Sifted.{sift_some, Both, both_double, Claims, twice_sifted, twice_both, took_sown}
 use Rattle.places.specs.Log.{names_tree}
 use Rattle.judge.specs.Contract.{Logged}
 use Rattle.reader.specs.Windows.{keys_of, keys_of_lem, list_of, Roomed, roomed_on, Filed, Doubled}

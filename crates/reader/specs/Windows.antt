@@ -1,25 +1,25 @@
 -- KEYS IN WINDOWS: where every two halves of the log were looked through, up to one with a key named twice, the first such key of the document is known. Assumes nothing.
-use Rattle.std.specs.Prelude.{◌≡◌, refl, List, [], ◌++◌, ◌⊎◌, ℕ, ◌+◌, ◌-◌, ◌*◌, ◌%◌, ◌≤◌, ◌<◌, length, take, drop, get_or, set}
+use Rattle.std.specs.Prelude.{◌≡◌, refl, List, [], ◌++◌, ◌⊎◌, ℕ, ◌+◌, ◌-◌, ◌%◌, ◌≤◌, ◌<◌, length, take, drop, get_or, set}
 use Rattle.std.proofs.Common.{sym, ap, subst, ◌∙◌, inl, inr, arith, length-set, take-append-drop, get_or-set_same, get_or-set_other, get_or-take, length-take-le, rules}
 use Rattle.exact.specs.Verdict.{Res, acc, stop}
-use Rattle.language.specs.Tree.{Tree, count, Repeats}
+use Rattle.language.specs.Tree.{Tree, count}
 use Rattle.language.specs.Answered.{limit, deepest}
 use Rattle.blocks.specs.Document.{verdict}
-use Rattle.notes.specs.Flat.{Named, named, flat}
+use Rattle.notes.specs.Flat.{Named, flat}
 use Rattle.notes.specs.Lie.{Keys}
 use Rattle.notes.specs.Notes.{Kept}
 use Rattle.repeats.specs.declared.Repeat.{Repeat}
 use Rattle.repeats.specs.declared.Repeat.TheVariants.{At, Nowhere}
 use Rattle.repeats.specs.Flat.{In, in_left, in_right, in_split, Twice, twice_left, twice_right, Split, in_first, in_second, across, twice_split}
 use Rattle.repeats.specs.Later.{Names, LeastOf}
-use Rattle.places.specs.Places.{Placed, most_keys}
+use Rattle.places.specs.Places.{Placed}
 use Rattle.places.specs.Chosen.{windows, some_keys}
 use Rattle.places.specs.Words.{Room}
 use Rattle.sieve.specs.Sieve.{large}
 use Rattle.notes.specs.Noted.{noteds}
 use Rattle.notes.specs.Handed.{log, mode}
 use Rattle.places.specs.Sifted.{sift, sift_some, SameFilter, same_sift, Listed, took_listed}
-use Rattle.places.specs.Log.{Told, Windowed, windowed, holds_placed, holds_told, keys_count, names_tree}
+use Rattle.places.specs.Log.{Told, Windowed, windowed, holds_placed, holds_told, keys_count}
 use Rattle.judge.specs.Contract.{Logged}
 use Rattle.reader.specs.Cuts.{twice_across, take-add, take_whole, drops_count, twice_low, prefix_least}
 

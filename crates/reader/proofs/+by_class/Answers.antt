@@ -1,7 +1,6 @@
 -- `by_class` answers as the class that it comes to does; the class rises, to 4 at most.
 use Rattle.reader.specs.Filling.{tried_answer, tried_again, tried_total, classes}
 use borrow.Author.Rules.{rules}
-use Prim.Native.Nat.{ℕ, ◌-◌}
 use Rattle.reader.proofs.+by_class.Goals as goal
 
 pub of_few_bytes-requires : goal.of_few_bytes-requires

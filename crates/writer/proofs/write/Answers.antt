@@ -43,12 +43,7 @@ shape_of-out-then-sound c = search writing
 
 pub returns-then-sound : goal.returns-then-sound
 returns-then-sound c =
-    let done = c.before.before in
-    let room = done.before.before in
-    let short = room.before.before.before in
-    let counted = short.before in
-    let told = counted.before.before.before.before in
-    write_done _ _ _ _ told.before.sound.ensures told.if1.true _ counted.count.ensures _ _ room.before.bytes-lent.ensures short.if3.false room.if4.false _ _ done.house2.ensures
+    write_done _ _ _ _ c.sound.ensures c.if-sound.true _ c.count-n.ensures _ _ c.bytes_lent.ensures c.if-n-gt-LIMIT.false c.if-bytes_lent-n.false _ _ c.house-then-sound.ensures
 
 pub returns : goal.returns
 returns c = search writing

@@ -1,6 +1,5 @@
 -- `above` tells the version above. The loop's invariant: the places before the i-th are equal.
-use Rattle.decide.proofs.VersionLaws.{heights, Level}
-use Prim.Native.Nat.{◌-◌}
+use Rattle.decide.proofs.VersionLaws.{heights}
 use Rattle.decide.proofs.versions.above.Goals as goal
 
 pub loop-i-init : goal.loop-i-init

@@ -1,6 +1,5 @@
 -- `are_naturals` tells so many such rows. The loop's invariant: those before the i-th are such.
-use Rattle.decide.proofs.VersionLaws.{coming, Come}
-use Prim.Native.Nat.{◌-◌}
+use Rattle.decide.proofs.VersionLaws.{coming}
 use Rattle.decide.proofs.versions.are_naturals.Goals as goal
 
 pub loop-i-init : goal.loop-i-init

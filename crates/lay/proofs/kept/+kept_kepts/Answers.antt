@@ -1,10 +1,8 @@
 -- The cycle of a row and those below it meets its contracts: the rows below become fewer, and in the loop those that are left.
-use Prim.Native.Nat.{ℕ}
-use Rattle.lay.specs.Keeping.{Keeps, Left, head_next_word, head_ahead, head_row_lem, kept_inner, kept_all, left_start, left_end, turn_word, turn_ahead, turn_keep, turn_again}
+use Rattle.lay.specs.Keeping.{head_next_word, head_ahead, head_row_lem, kept_inner, kept_all, left_start, left_end, turn_word, turn_ahead, turn_keep, turn_again}
 use mathlib.Core.Path.{refl}
 use native.Mathlib.Omega.{arith}
 use borrow.Author.Rules.{rules}
-use Prim.Native.Nat.{◌-◌}
 use Rattle.lay.proofs.kept.+kept_kepts.Goals as goal
 
 pub kept-head-x-requires : goal.kept-head-x-requires

@@ -1,5 +1,4 @@
 -- The cycle of a row and those below it meets its contracts: the rows below become fewer, and in the loop those that are left.
-use Prim.Native.Nat.{ℕ}
 use Rattle.lay.specs.Keeping.{Keeps, Left}
 use mathlib.Core.Path.{◌≡◌}
 use lib.ListN.{length, get_or}

@@ -1,9 +1,8 @@
 -- `few_matches` marks the keys of an object one after another: each turn, one key less is left.
-use Rattle.lay.specs.Matching.{Match, Filling, match_word, match_seek, match_mark, fill_start, fill_end, fill_named, fill_word, fill_ahead, fill_on}
+use Rattle.lay.specs.Matching.{match_word, match_seek, match_mark, fill_start, fill_end, fill_named, fill_word, fill_ahead, fill_on}
 use mathlib.Core.Path.{refl}
 use lib.ListN.{length-set}
 use native.Mathlib.Omega.{arith}
-use Prim.Native.Nat.{◌-◌}
 use Rattle.lay.proofs.matched.few_matches.Goals as goal
 
 pub word-stop-requires : goal.word-stop-requires

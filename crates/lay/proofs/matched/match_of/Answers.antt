@@ -1,7 +1,6 @@
 -- `match_of` finds the row of a key's match: each turn, one key less is left.
-use Rattle.lay.specs.Matching.{Seek, Seeking, seek_start, seek_end, seek_named, seek_word, seek_ahead, seek_found, seek_on}
+use Rattle.lay.specs.Matching.{seek_start, seek_end, seek_named, seek_word, seek_ahead, seek_found, seek_on}
 use native.Mathlib.Omega.{arith}
-use Prim.Native.Nat.{◌-◌}
 use Rattle.lay.proofs.matched.match_of.Goals as goal
 
 pub loop-r-init : goal.loop-r-init

@@ -1,12 +1,10 @@
 -- The cycle of one value over another meets its contracts: the containers that may still stand one inside another become fewer, and in the loop the keys that are left.
-use Prim.Native.Nat.{ℕ}
-use Rattle.lay.specs.Laying.{Lowers, lay_lower_word, lay_upper_word, lay_objects, lay_object_told, lay_one, lay_other, lay_keep, lay_kept, pair_key, pair_there, pair_next, pair_alone, pair_kept, pair_two, pair_laid}
-use Rattle.lay.specs.Lowering.{Going, lowers_word, lowers_first, going_start, going_end, going_refill, going_word, going_next, going_ahead, going_topping, going_clash, going_on, object_word, object_some, object_room, object_lowers, object_clash, object_news, object_count, object_next, object_done}
+use Rattle.lay.specs.Laying.{lay_lower_word, lay_upper_word, lay_objects, lay_object_told, lay_one, lay_other, lay_keep, lay_kept, pair_key, pair_there, pair_next, pair_alone, pair_kept, pair_two, pair_laid}
+use Rattle.lay.specs.Lowering.{lowers_word, lowers_first, going_start, going_end, going_refill, going_word, going_next, going_ahead, going_topping, going_clash, going_on, object_word, object_some, object_room, object_lowers, object_clash, object_news, object_count, object_next, object_done}
 use Rattle.lay.specs.Matching.{lent_agree, refilled_room, refilled_few}
 use mathlib.Core.Path.{refl, ◌∙◌}
 use native.Mathlib.Omega.{arith}
 use borrow.Author.Rules.{rules}
-use Prim.Native.Nat.{◌-◌}
 use Rattle.lay.proofs.objects.+lay_lowers_object_pair.Goals as goal
 
 pub lay-word-requires : goal.lay-word-requires

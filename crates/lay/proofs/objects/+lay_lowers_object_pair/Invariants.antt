@@ -1,5 +1,4 @@
 -- The cycle of one value over another meets its contracts: the containers that may still stand one inside another become fewer, and in the loop the keys that are left.
-use Prim.Native.Nat.{ℕ}
 use Rattle.lay.specs.Laying.{Lowers}
 use Rattle.lay.specs.Lowering.{Going}
 use mathlib.Core.Path.{◌≡◌}

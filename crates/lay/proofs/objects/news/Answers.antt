@@ -1,10 +1,8 @@
 -- `news` stores the upper's new pairs: each turn, one key less is left.
-use Rattle.lay.specs.Laying.{News}
-use Rattle.lay.specs.Lowering.{Newing, news_word, news_first, newing_start, newing_end, newing_refill, newing_word, newing_next, newing_ahead, newing_adding, newing_on}
+use Rattle.lay.specs.Lowering.{news_word, news_first, newing_start, newing_end, newing_refill, newing_word, newing_next, newing_ahead, newing_adding, newing_on}
 use mathlib.Core.Path.{refl}
 use borrow.Author.Rules.{rules}
 use native.Mathlib.Omega.{arith}
-use Prim.Native.Nat.{◌-◌}
 use Rattle.lay.proofs.objects.news.Goals as goal
 
 pub word-stop-requires : goal.word-stop-requires

@@ -1,7 +1,7 @@
 use Rattle.rooms.specs.Stores.{copy_turn, copy_done}
 use native.Mathlib.Omega.{arith}
 use mathlib.Core.Path.{◌≡◌, refl, ◌∙◌}
-use Prim.Native.Nat.{ℕ, ◌+◌, ◌-◌}
+use Prim.Native.Nat.{◌+◌, ◌-◌}
 use lib.Seq.{sets, slice}
 use Rattle.lay.proofs.stores.copy_part.Goals as goal
 

@@ -1,7 +1,7 @@
 -- `copy_whole` stores a run of the document's bytes, all of which have room.
 use native.Mathlib.Omega.{arith}
 use mathlib.Core.Path.{◌≡◌, refl}
-use Prim.Native.Nat.{ℕ, ◌+◌, ◌-◌}
+use Prim.Native.Nat.{◌+◌, ◌-◌}
 use lib.ListN.{length-set}
 use Rattle.rooms.specs.Stores.{copy_turn, copy_done}
 use Rattle.lay.proofs.stores.copy_whole.Goals as goal

@@ -1,6 +1,6 @@
 -- `copy_whole` stores a run of the document's bytes, all of which have room.
 use mathlib.Core.Path.{◌≡◌}
-use Prim.Native.Nat.{ℕ, ◌+◌, ◌-◌, ◌≤◌}
+use Prim.Native.Nat.{◌+◌, ◌-◌, ◌≤◌}
 use lib.ListN.{length}
 use lib.Seq.{sets, slice}
 use Rattle.lay.proofs.stores.copy_whole.Given as goal

@@ -1,8 +1,7 @@
 -- `clear` takes back the first marks. The loop's invariant: those passed are 0.
-use Prim.Native.Nat.{◌-◌}
 use native.Mathlib.Omega.{arith}
 use borrow.Author.Rules.{rules}
-use Rattle.lay.specs.Gathering.{Zeros, zeros_first, zeros_more, zeros_done}
+use Rattle.lay.specs.Gathering.{zeros_first, zeros_more, zeros_done}
 use Rattle.lay.proofs.windows.clear.Goals as goal
 
 pub loop-i-init : goal.loop-i-init

@@ -1,7 +1,6 @@
 -- `gather` fills a window with the texts of keys. The loop's invariant: the first n stand there, and the others are those from r on.
 use mathlib.Core.Path.{refl}
-use Prim.Native.Nat.{◌-◌}
-use Rattle.lay.specs.Gathering.{Gathers, gather_value, gathers}
+use Rattle.lay.specs.Gathering.{gather_value, gathers}
 use Rattle.lay.proofs.windows.gather.Goals as goal
 
 pub loop-r-init : goal.loop-r-init

@@ -1,8 +1,8 @@
 -- `probed` seeks each key of the other object in the window. The loop's invariant: each key of the window has its match among those sought, or none there.
 use mathlib.Core.Path.{refl}
-use Prim.Native.Nat.{◌-◌, ◌<◌}
+use Prim.Native.Nat.{◌<◌}
 use lib.ListN.{length}
-use Rattle.lay.specs.Windows.{Probing, probe_mark, probe_value, probing}
+use Rattle.lay.specs.Windows.{probe_mark, probe_value, probing}
 use borrow.Author.Rules.{rules}
 use Rattle.lay.proofs.windows.probed.Goals as goal
 

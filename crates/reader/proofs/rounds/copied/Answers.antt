@@ -1,6 +1,5 @@
 -- `copied` makes a filter of the bits found again. Assumes nothing.
-use Prim.Native.Nat.{◌-◌}
-use Rattle.reader.specs.Rounds.{Copied, copying}
+use Rattle.reader.specs.Rounds.{copying}
 use Rattle.reader.proofs.rounds.copied.Goals as goal
 
 pub loop-i-init : goal.loop-i-init

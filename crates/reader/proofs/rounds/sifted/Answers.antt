@@ -1,6 +1,5 @@
 -- `sifted` is as it promises. Assumes nothing.
-use Prim.Native.Nat.{◌-◌}
-use Rattle.reader.specs.Rounds.{Swept, sifting}
+use Rattle.reader.specs.Rounds.{sifting}
 use borrow.Author.Rules.{rules}
 use Rattle.reader.proofs.rounds.sifted.Goals as goal
 

@@ -1,6 +1,5 @@
 -- `wiped` empties the sieve. Assumes nothing.
-use Prim.Native.Nat.{◌-◌}
-use Rattle.reader.specs.Rounds.{Wiped, wiping}
+use Rattle.reader.specs.Rounds.{wiping}
 use Rattle.reader.proofs.rounds.wiped.Goals as goal
 
 pub loop-i-init : goal.loop-i-init

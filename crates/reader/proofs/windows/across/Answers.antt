@@ -1,6 +1,5 @@
 -- `across` looks half a log of keys through beside every half before it. Assumes nothing.
-use Prim.Native.Nat.{◌-◌}
-use Rattle.reader.specs.Windows.{Crossing, crossing}
+use Rattle.reader.specs.Windows.{crossing}
 use Rattle.reader.proofs.windows.across.Goals as goal
 
 pub loop-i-init : goal.loop-i-init

@@ -1,6 +1,5 @@
 -- `behind` goes on by half a log of keys until one has a repeated key, or none are left. Assumes nothing.
-use Prim.Native.Nat.{◌-◌}
-use Rattle.reader.specs.Windows.{Sweeping, behind_on, going}
+use Rattle.reader.specs.Windows.{behind_on, going}
 use borrow.Author.Rules.{rules}
 use Rattle.reader.proofs.windows.behind.Goals as goal
 
