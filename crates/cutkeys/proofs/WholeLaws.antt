@@ -1,7 +1,7 @@
 -- Laws of the keys that stand whole, found one behind another, as `search` takes them. Assumes nothing.
-use mathlib.Core.Path.{◌≡◌, refl, sym, ap, subst, ◌∙◌}
+use mathlib.Core.Path.{◌≡◌, sym, ap, subst, ◌∙◌}
 use mathlib.Core.List.{List}
-use Prim.Native.Nat.{ℕ, ◌+◌, ◌-◌, ◌≤◌, ◌<◌}
+use Prim.Native.Nat.{ℕ, ◌-◌, ◌≤◌, ◌<◌}
 use native.Mathlib.Omega.{arith}
 use lib.ListN.{length}
 use lib.Seq.{slice}
@@ -17,16 +17,16 @@ use Rattle.distinct.specs.Chains.{SitsTold}
 use Rattle.distinct.specs.Ranks.{Finds}
 use Rattle.distinct.specs.Roads.{Road, comes_first}
 use Rattle.distinct.specs.Window.{Rooms}
-use Rattle.distinct.specs.Windows.{Open, open_next, open_good, open_less, Room, Going, Gathering, gather_first, Windowed, onward_less}
+use Rattle.distinct.specs.Windows.{Open, open_next, open_less, Room, Going, Gathering, gather_first, Windowed, onward_less}
 use Rattle.distinct.specs.Entering.{Entering, enter_first}
 use Rattle.views.specs.Views.{viewed}
 use Rattle.cutkeys.specs.declared.keys.Found.{Found}
 use Rattle.cutkeys.specs.Places.{text_at, beyond}
 use Rattle.cutkeys.specs.Kept.{first_of, kept_open, whole_open, first_fixed}
-use Rattle.cutkeys.specs.Keys.{Keyed, all_keys}
+use Rattle.cutkeys.specs.Keys.{all_keys}
 use Rattle.cutkeys.specs.Whole.{whole_at, whole_keys}
 use Rattle.cutkeys.specs.Runs.{Run, run_none}
-use Rattle.cutkeys.specs.Found.{Spoken, Seen', Seeks}
+use Rattle.cutkeys.specs.Found.{Seen', Seeks}
 
 module _ (stored starts : List ℕ) (d stop : ℕ) where
   abbrev D : Road

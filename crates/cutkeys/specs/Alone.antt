@@ -1,13 +1,13 @@
 -- KEYS THAT ARE APART: no two of all have one text exactly if no two of those kept have, and none of the others has that of another key (`Alone`). Assumes nothing.
-use Rattle.std.specs.Prelude.{◌≡◌, Bool, ℕ, ◌+◌, ◌≤◌, ◌<◌}
+use Rattle.std.specs.Prelude.{◌≡◌, Bool, ℕ, ◌≤◌, ◌<◌}
 use Rattle.std.proofs.Math.Path.{refl}
 use Rattle.std.proofs.Common.{sym, ap, subst, ◌∙◌, arith}
 use mathlib.Core.List.{List, [], ◌∷◌}
 use Rattle.std.proofs.Math.Bool.{true, false}
 use Rattle.exact.specs.Tells.{Tells}
 use Rattle.language.specs.Kind.{pick}
-use Rattle.distinct.specs.Roads.{Road, Walks, walks_end, walks_on, walks_le, walks_next, Among, among_here, among_later, Apart, apart_none, apart_more, apart_rest, Comes, comes_on, comes_here, comes_never, comes_end, comes_none, ApartTold}
-use Rattle.distinct.specs.Windows.{Open, Going, open_next}
+use Rattle.distinct.specs.Roads.{Road, Walks, walks_end, walks_on, walks_next, Among, among_here, among_later, Apart, apart_none, apart_more, apart_rest, Comes, comes_on, comes_here, comes_never, comes_end, comes_none, ApartTold}
+use Rattle.distinct.specs.Windows.{Going, open_next}
 use Rattle.cutkeys.specs.Kept.{kept, first_of, kept_road, walks_to}
 
 -- p is one of these

@@ -1,11 +1,11 @@
 -- THE KEYS OF AN OBJECT WHOSE CONTENT IS CUT, one behind another by their places (`all_keys`): no two have one text exactly if the object's keys are distinct (`keys_apart`). Assumes nothing.
-use Rattle.std.specs.Prelude.{◌≡◌, List, [], ◌∷◌, ◌++◌, Bool, true, false, ℕ, ◌+◌, ◌≤◌, ◌<◌, length}
+use Rattle.std.specs.Prelude.{◌≡◌, List, ◌++◌, Bool, true, false, ℕ, ◌+◌, ◌≤◌, ◌<◌, length}
 use Rattle.std.proofs.Math.Path.{refl, sym}
-use Rattle.std.proofs.Common.{ap, subst, ◌∙◌, arith}
+use Rattle.std.proofs.Common.{arith}
 use Rattle.std.proofs.Math.ListN.{length-append}
 use Rattle.language.specs.Lent.{lent}
 use Rattle.language.specs.Kind.{KEY}
-use Rattle.language.specs.Tree.{Decoded, Tree, leaf, Forest, none, more}
+use Rattle.language.specs.Tree.{Decoded, Tree, leaf, Forest, more}
 use Rattle.shaped.specs.Shaped.{Shaped, Pairs, pairs_none, pairs_more}
 use Rattle.stored.specs.Form.{PART, tag, cut, content, forms, form}
 use Rattle.stored.specs.Bytes.{At, at_left, at_right, at_place}

@@ -1,17 +1,16 @@
 -- FIELDS OF A CONTENT BY THEIR HEADS: the bytes that the content of the field at a place has (`size_of`), the place behind it (`end_of`), and the content (`text_at`), as the heads of its parts tell them. Assumes nothing.
-use Rattle.std.specs.Prelude.{◌≡◌, List, [], ◌∷◌, ◌++◌, ℕ, zero, suc, ◌+◌, ◌-◌, ◌*◌, ◌/◌, ◌%◌, ◌≤◌, ◌<◌, eqb, get_or, take, drop}
+use Rattle.std.specs.Prelude.{◌≡◌, List, ℕ, zero, suc, ◌+◌, ◌≤◌, ◌<◌, eqb, get_or, take, drop}
 use Rattle.std.proofs.Math.Path.{refl, ap}
-use Rattle.std.proofs.Common.{sym, subst, ◌∙◌, arith, take_at, length-take-le, eq-eqb, ne_eqb}
+use Rattle.std.proofs.Common.{sym, ◌∙◌, arith, take_at, length-take-le, eq-eqb, ne_eqb}
 use Rattle.std.proofs.Math.Decide.{dec_le}
 use Rattle.std.proofs.Math.ListN.{length, length-append, length-drop}
-use Rattle.std.proofs.Math.Seq.{slice}
 use Rattle.language.specs.Kind.{pick}
-use Rattle.stored.specs.Form.{tagged, head, widest, PART, cut}
-use Rattle.stored.specs.Parts.{widest_is, Parts, end, part, parts, heads, heads_short}
+use Rattle.stored.specs.Form.{tagged, widest, PART, cut}
+use Rattle.stored.specs.Parts.{widest_is, Parts, end, part, parts, heads}
 use Rattle.stored.proofs.PartsLaws.{cut_short, cut_long, cut_length}
-use Rattle.stored.specs.Bytes.{At, at_left, at_right, at_byte, at_as, at_inside}
+use Rattle.stored.specs.Bytes.{At, at_left, at_right, at_byte, at_as}
 use Rattle.views.specs.Joined.{within, within_content}
-use Rattle.views.specs.Extents.{length_of, Whole}
+use Rattle.views.specs.Extents.{length_of}
 
 -- the bytes in fields from a place on, up to the first that is no part's; the first number is how many there may be
 unfoldable pub sizes : List ℕ → ℕ → ℕ → ℕ

@@ -1,7 +1,7 @@
 -- KEYS THAT STAND WHOLE in the stored bytes (`whole_at`): places grow by one a byte at least (`place_grows`), so that a text whose last byte stands no farther than its bytes need stands there one behind another (`whole_text`). Assumes nothing.
-use Rattle.std.specs.Prelude.{◌≡◌, List, [], ◌∷◌, Bool, true, false, ℕ, zero, suc, ◌+◌, ◌-◌, ◌*◌, ◌/◌, ◌%◌, ◌≤◌, ◌<◌, leb, eqb, length, get_or, take, drop}
+use Rattle.std.specs.Prelude.{◌≡◌, List, [], ◌∷◌, Bool, true, false, ℕ, zero, suc, ◌+◌, ◌-◌, ◌/◌, ◌%◌, ◌≤◌, ◌<◌, leb, eqb, length, get_or, take, drop}
 use Rattle.std.proofs.Math.Path.{refl}
-use Rattle.std.proofs.Common.{sym, ap, ap₂, subst, ◌∙◌, arith, drop-drop, Fits, leb-true, leb-false, le-leb, eqb-true, eq-eqb, ne_eqb}
+use Rattle.std.proofs.Common.{sym, ap, ap₂, ◌∙◌, arith, drop-drop, Fits, le-leb, eqb-true, eq-eqb}
 use Rattle.std.proofs.Math.Decide.{dec_le}
 use Rattle.std.proofs.Math.Seq.{slice}
 use Rattle.std.specs.Int.{w64}
@@ -9,17 +9,17 @@ use Rattle.std.proofs.lemmas.Bool.{lt-leb}
 use Rattle.exact.specs.Class.{clash}
 use Rattle.language.specs.Lent.{lent}
 use Rattle.language.specs.Kind.{pick}
-use Rattle.stored.specs.Form.{tagged, head, widest, inside, cut}
+use Rattle.stored.specs.Form.{widest, inside}
 use Rattle.stored.specs.Parts.{widest_is}
 use Rattle.stored.proofs.PartsLaws.{cut_short, cut_length}
 use Rattle.stored.specs.Bytes.{At, at_as, at_right, at_slice}
 use Rattle.distinct.specs.Names.{Part}
 use Rattle.distinct.specs.Roads.{Road}
-use Rattle.views.specs.Views.{viewed, place_of, view_place, view_less, Seen, Reached, run_slice}
+use Rattle.views.specs.Views.{viewed, place_of, view_place, Seen, Reached, run_slice}
 use Rattle.cutkeys.specs.declared.keys.Named.{Named}
-use Rattle.cutkeys.specs.Places.{size_of, end_of, text_at, size_of_lem, end_of_lem, text_of}
-use Rattle.cutkeys.specs.Keys.{Stands, Framed, Keyed, all_keys}
-use Rattle.cutkeys.specs.Kept.{kept_road, first_of}
+use Rattle.cutkeys.specs.Places.{size_of, text_at, size_of_lem, text_of}
+use Rattle.cutkeys.specs.Keys.{Stands, Framed, all_keys}
+use Rattle.cutkeys.specs.Kept.{kept_road}
 
 -- PLACES GROW
 pub place_grows : (starts : List ℕ) (d i k : ℕ) → place_of starts d i + k ≤ place_of starts d (i + k)

@@ -12,7 +12,7 @@ use Rattle.language.specs.Lent.{lent, bytes_in}
 use Rattle.language.specs.Sound.{Holds, Sound}
 use Rattle.language.specs.Written.{Sounded, is_sound, unsound}
 use Rattle.shaped.specs.Holds.{profile_shaped, holds_at}
-use Rattle.stored.specs.Form.{head, widest, form}
+use Rattle.stored.specs.Form.{head, form}
 use Rattle.stored.specs.Stored.{Stores, stores, bad_row, needs}
 use Rattle.stored.proofs.AnsweringLaws.{holds_most, holds_short}
 use Rattle.fields.specs.Puts.{Puts}

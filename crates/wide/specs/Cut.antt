@@ -1,12 +1,11 @@
 -- A FIELD IN PARTS, OR CUT: what `extent` tells of it, and of the content in the view inside, makes a key, a scalar or a container of it, or shows that no tree stands there. Assumes nothing.
-use Rattle.std.specs.Prelude.{◌≡◌, Bool, true, false, ℕ, suc, ◌+◌, ◌≤◌, ◌<◌, take}
+use Rattle.std.specs.Prelude.{◌≡◌, Bool, true, false, ℕ, suc, ◌+◌, ◌≤◌, take}
 use Rattle.std.proofs.Math.Path.{refl, sym, ap, ap₂}
 use Rattle.std.proofs.Common.{subst, ◌∙◌, arith, take_at}
-use mathlib.Core.List.{List, [], ◌++◌}
+use mathlib.Core.List.{List}
 use Rattle.std.proofs.Math.ListN.{length}
-use Rattle.language.specs.Kind.{ARRAY, OBJECT, KEY}
-use Rattle.language.specs.Tree.{unescaped, Tree, leaf, node, Forest, none, more, size, text_of, Once}
-use Rattle.shaped.specs.Shaped.{Scripted, Scalar, is_null, is_false, is_true, is_an_integer, is_float, is_string, is_bytes, Shaped, shaped_leaf, shaped_array, shaped_object}
+use Rattle.language.specs.Tree.{unescaped, Tree, leaf, node, Forest, size, text_of, Once}
+use Rattle.shaped.specs.Shaped.{Scripted, Scalar, Shaped, shaped_leaf, shaped_array, shaped_object}
 use Rattle.shaped.specs.Once.{alike_once}
 use Rattle.stored.specs.Form.{PART, tag, cut, content, forms, form}
 use Rattle.stored.specs.Parts.{Fields}

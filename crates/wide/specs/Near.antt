@@ -1,5 +1,5 @@
 -- THE BYTES OF A CONTENT BEFORE THE NEAREST CUT (`Nearby`): they stand in the stored bytes one behind another. Assumes nothing.
-use Rattle.std.specs.Prelude.{◌≡◌, refl, List, ℕ, ◌+◌, ◌-◌, ◌≤◌, ◌<◌, length}
+use Rattle.std.specs.Prelude.{◌≡◌, List, ℕ, ◌+◌, ◌-◌, ◌≤◌, ◌<◌, length}
 use Rattle.std.proofs.Common.{sym, ap, ◌∙◌, arith, ext_get_or, rules}
 use Rattle.std.proofs.Math.Seq.{slice, length-slice}
 use Rattle.views.specs.Views.{viewed, place_of, Seen, Reached, run_slice}

@@ -1,12 +1,12 @@
 -- WHAT TESTING A CONTENT TELLS (`Tests`): the members whose fields stand from a place on, with the place behind them and the count of their rows and text bytes, or that none stand there. Assumes nothing.
-use Rattle.std.specs.Prelude.{◌≡◌, List, ◌++◌, false, ℕ, ◌+◌, ◌*◌, ◌≤◌}
+use Rattle.std.specs.Prelude.{◌≡◌, List, ◌++◌, false, ℕ, ◌+◌, ◌≤◌}
 use Rattle.std.proofs.Math.Path.{refl, ap}
-use Rattle.std.proofs.Common.{sym, subst, ◌∙◌, append-nil, arith}
+use Rattle.std.proofs.Common.{sym, ◌∙◌, append-nil, arith}
 use Rattle.std.proofs.Math.Bool.{true}
 use Rattle.std.proofs.Math.ListN.{length, length-append}
 use Rattle.language.specs.Kind.{KEY}
-use Rattle.language.specs.Tree.{Decoded, Tree, leaf, node, Forest, none, more, size, sizes, text_of, texts_of}
-use Rattle.stored.specs.Form.{PART, tag, cut, content, forms, form}
+use Rattle.language.specs.Tree.{Tree, leaf, Forest, none, more, size, sizes, text_of, texts_of}
+use Rattle.stored.specs.Form.{PART, cut, content, forms, form}
 use Rattle.stored.specs.Parts.{Fields}
 use Rattle.stored.proofs.PartsLaws.{cut_apart}
 use Rattle.stored.specs.Bytes.{At, at_left, at_right, at_join, at_as, at_place}

@@ -1,5 +1,5 @@
 -- A WALK OVER THE MEMBERS OF A CONTAINER in a content (`Passed`): whatever members stand there begin with those passed (`rest_of`). Assumes nothing.
-use Rattle.std.specs.Prelude.{◌≡◌, List, ◌++◌, Bool, true, false, ℕ, ◌+◌, ◌≤◌, ◌<◌}
+use Rattle.std.specs.Prelude.{◌≡◌, List, ◌++◌, Bool, ℕ, ◌+◌, ◌≤◌, ◌<◌}
 use Rattle.std.proofs.Math.Path.{refl}
 use Rattle.std.proofs.Common.{sym, ap, ◌∙◌, append_assoc, length-append}
 use native.Mathlib.Omega.{arith}

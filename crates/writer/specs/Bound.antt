@@ -9,7 +9,7 @@ use Rattle.language.specs.BlockText.{spaces}
 use Rattle.language.specs.Lines.{tail}
 use Rattle.language.specs.House.{hexletter, hexes, letter, shown, value_at, shown_text, quoted, bareable, hex_pairs, scalar_text, is_key, is_none, between, inline, inlines, one_line, flat, is_array, value, item, block, items, properties, house}
 use Rattle.shaped.specs.Shaped.{Shaped, shaped_leaf, shaped_array, shaped_object, Elements, elements_none, elements_more, Pairs, pairs_none, pairs_more}
-use Rattle.writer.specs.Puts.{ceiling, length_spaces}
+use Rattle.writer.specs.Puts.{length_spaces}
 use Rattle.writer.specs.Leaves.{length_pairs}
 use Rattle.house.specs.Leaves.{no_key}
 use Rattle.writer.specs.Flat.{size_some}

@@ -8,13 +8,12 @@ use Rattle.std.proofs.Math.Seq.{slice}
 use Rattle.std.proofs.lemmas.Bool.{lt-leb}
 use Rattle.notation.specs.Class.{pick}
 use Rattle.exact.specs.Place.{slice_at}
-use Rattle.language.specs.Kind.{TRUE, KEY}
-use Rattle.language.specs.Tree.{Tree, leaf, node, Forest, none, more, Decoded, width, size, sizes}
-use Rattle.language.specs.House.{between, scalar_text, inline, inlines}
+use Rattle.language.specs.Kind.{TRUE}
+use Rattle.language.specs.Tree.{Tree, leaf, Forest, Decoded, width}
+use Rattle.language.specs.House.{scalar_text, inline, inlines}
 use Rattle.spans.specs.Formed.{kind_of}
-use Rattle.shaped.specs.RowsAt.{RowsAt, ForestAt, node_forest, kind_at_lem, next_at}
 use Rattle.shaped.specs.Leaves.{word_row, part_row, part_is, part_fits}
-use Rattle.shaped.specs.Shaped.{Scripted, Scalar, is_null, is_false, is_true, is_an_integer, is_float, is_string, is_bytes, Shaped, shaped_leaf, shaped_array, shaped_object, Elements, elements_none, elements_more, Pairs, pairs_none, pairs_more}
+use Rattle.shaped.specs.Shaped.{Scripted, Scalar, is_null, is_false, is_true, is_an_integer, is_float, is_string, is_bytes, shaped_leaf, shaped_array, shaped_object}
 pub use Rattle.sound.specs.Standing.{Kept, kept_key, kept_value, Kepts, kepts_none, kepts_more, elements_kept, pairs_kept, size_some, sizes_some, At, Along, word_in, kind_word, next_word, node_along}
 use Rattle.writer.specs.Puts.{ceiling, Puts, puts_none, puts_as, puts_then}
 use Rattle.writer.specs.Leaves.{Spelt}

@@ -9,7 +9,7 @@ use Rattle.std.proofs.Math.Seq.{slice, length-slice, drop-length}
 use Rattle.notation.specs.Class.{pick, and, is}
 use Rattle.exact.specs.Place.{run}
 use Rattle.characters.specs.Plains.{RunTo}
-use Rattle.language.specs.Characters.{utf8, character}
+use Rattle.language.specs.Characters.{utf8}
 use Rattle.language.specs.Scalars.{null_word, true_word, false_word}
 use Rattle.language.specs.Strings.{keybyte}
 use Rattle.language.specs.House.{hexletter, shown, shown_text, quoted, keybytes, bareable, hex_pairs, scalar_text}

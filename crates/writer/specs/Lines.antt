@@ -2,7 +2,7 @@
 use Rattle.std.specs.Prelude.{◌≡◌, refl, List, [], ◌∷◌, ◌++◌, Bool, true, false, ℕ, suc, ◌+◌, ◌-◌, ◌*◌, ◌≤◌, ◌<◌, length, get_or, drop, eqb}
 use Rattle.std.proofs.Common.{sym, ap, subst, ◌∙◌, length-append, eq-eqb, ne_eqb}
 use native.Mathlib.Omega.{arith}
-use Rattle.notation.specs.Class.{pick, or}
+use Rattle.notation.specs.Class.{pick}
 use Rattle.exact.specs.Class.{clash, or_right}
 use Rattle.language.specs.Tree.{Tree, leaf, node, Forest, none, more, width, size, sizes}
 use Rattle.language.specs.BlockText.{spaces}

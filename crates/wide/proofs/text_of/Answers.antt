@@ -1,6 +1,5 @@
 -- `text_of` copies a content, run after run.
-use Rattle.wide.specs.Copies.{Copying, copying_seen, copying_inside, copying_room, copying}
-use Prim.Native.Nat.{◌-◌}
+use Rattle.wide.specs.Copies.{copying_seen, copying_inside, copying_room, copying}
 use Rattle.std.proofs.Common.{arith}
 use Rattle.wide.proofs.text_of.Goals as goal
 

@@ -1,9 +1,6 @@
 -- `chained_behind` seeks the keys behind the window in its chains. The loop's invariant: one is there exactly if one from here on is.
-use Prim.Native.Nat.{◌-◌}
 use borrow.Author.Rules.{rules}
-use Rattle.distinct.specs.Window.{Touched}
-use Rattle.distinct.specs.Windows.{Going, trailed_past, trailing}
-use Rattle.cutkeys.specs.Found.{Seen'}
+use Rattle.distinct.specs.Windows.{trailed_past, trailing}
 use Rattle.cutkeys.proofs.WholeLaws.{found_part, found_open, found_next, found_sits, finding}
 use Rattle.cutkeys.proofs.after.chained_behind.Goals as goal
 

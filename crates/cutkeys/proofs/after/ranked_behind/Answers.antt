@@ -1,9 +1,6 @@
 -- `ranked_behind` seeks the keys behind the window in its order. The loop's invariant: one is there exactly if one from here on is.
-use Prim.Native.Nat.{◌-◌}
 use borrow.Author.Rules.{rules}
-use Rattle.distinct.specs.Window.{Touched}
-use Rattle.distinct.specs.Windows.{Going, trailed_there, trailed_gap, trailing}
-use Rattle.cutkeys.specs.Found.{Seen'}
+use Rattle.distinct.specs.Windows.{trailed_there, trailed_gap, trailing}
 use Rattle.cutkeys.proofs.WholeLaws.{found_open, found_next, found_finds, finding}
 use Rattle.cutkeys.proofs.after.ranked_behind.Goals as goal
 

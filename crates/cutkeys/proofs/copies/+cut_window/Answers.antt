@@ -1,7 +1,6 @@
 -- `cut_window` answers as the place that it comes to does; the place rises, to the end at most.
 use Rattle.cutkeys.specs.CutsWindow.{window_less, onward}
 use native.Mathlib.Omega.{arith}
-use Prim.Native.Nat.{ℕ, ◌-◌}
 use Rattle.cutkeys.proofs.copies.+cut_window.Goals as goal
 
 pub seek_short-p-requires : goal.seek_short-p-requires
@@ -18,10 +17,9 @@ returns-then-p-at t c = search onward
 
 pub cut_window-requires : goal.cut_window-requires
 cut_window-requires t c =
-    let s = c.before.before.before.before in
     let k = c.seek_short-p in
-    let l = window_less _ _ _ _ s.args.at s.requires.1.1 k.result k.ensures c.if-p-at.false c.if-stop-p.false in
-    (omega (arith, l, s.requires.0), (s.requires.1.0, search onward))
+    let l = window_less _ _ _ _ c.args.at c.requires.1 k.result k.ensures c.if-p-at.false c.if-stop-p.false in
+    (omega (arith, l, c.decreases), (c.requires.0, search onward))
 
 pub returns : goal.returns
 returns t c = search onward

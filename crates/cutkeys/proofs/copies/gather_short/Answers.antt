@@ -1,7 +1,5 @@
 -- `gather_short` copies the texts of short keys that are cut. The loop's invariant: the first n stand in the room before x, and the others are those from k on.
-use Prim.Native.Nat.{◌-◌}
-use Rattle.cutkeys.specs.Shorts.{SeenShort}
-use Rattle.cutkeys.specs.Copies.{Copying, copying_open, copying_more, copying}
+use Rattle.cutkeys.specs.Copies.{copying_open, copying_more, copying}
 use Rattle.cutkeys.proofs.copies.gather_short.Goals as goal
 
 pub seek_short-k-requires : goal.seek_short-k-requires

@@ -1,7 +1,5 @@
 -- `seek_short` passes keys that stand whole or are long. The loop's invariant: the first short one that is cut is the first from p on, and the key there stands where it is said to.
-use Prim.Native.Nat.{◌-◌}
-use Rattle.cutkeys.specs.Runs.{Run}
-use Rattle.cutkeys.specs.Shorts.{SeekingShort, shorting}
+use Rattle.cutkeys.specs.Shorts.{shorting}
 use Rattle.cutkeys.proofs.copies.seek_short.Goals as goal
 
 pub loop-p-init : goal.loop-p-init

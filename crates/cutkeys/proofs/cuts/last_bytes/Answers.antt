@@ -1,7 +1,6 @@
 -- `last_bytes` copies them one by one. The loop's invariant: the first i stand in the room.
-use Prim.Native.Nat.{◌-◌}
 use native.Mathlib.Omega.{arith}
-use Rattle.cutkeys.specs.CutsEnds.{Tail, tail_more, tailing}
+use Rattle.cutkeys.specs.CutsEnds.{tail_more, tailing}
 use Rattle.cutkeys.proofs.cuts.last_bytes.Goals as goal
 
 pub loop-i-init : goal.loop-i-init

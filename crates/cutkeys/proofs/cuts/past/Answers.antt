@@ -1,6 +1,5 @@
 -- `past` passes keys whose texts differ. The loop's invariant: those before i do.
-use Prim.Native.Nat.{◌-◌}
-use Rattle.cutkeys.specs.CutsPast.{Passes, passing}
+use Rattle.cutkeys.specs.CutsPast.{passing}
 use Rattle.cutkeys.proofs.cuts.past.Goals as goal
 
 pub loop-i-init : goal.loop-i-init

@@ -1,8 +1,5 @@
 -- `rest_apart` seeks each key that is cut and not in the window. The loop's invariant: all are alone exactly if those from p on are, and the one at p stands where it is said to.
-use Prim.Native.Nat.{◌-◌}
-use Rattle.distinct.specs.Windows.{Going}
-use Rattle.cutkeys.specs.Runs.{Run}
-use Rattle.cutkeys.specs.CutsWindow.{RestAlone, resting}
+use Rattle.cutkeys.specs.CutsWindow.{resting}
 use Rattle.cutkeys.proofs.cuts.rest_apart.Goals as goal
 
 pub loop-p-init : goal.loop-p-init

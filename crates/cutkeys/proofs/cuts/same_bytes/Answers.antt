@@ -1,6 +1,5 @@
 -- `same_bytes` compares runs of both contents. The loop's invariant: the first i bytes are the same.
-use Prim.Native.Nat.{◌-◌}
-use Rattle.cutkeys.specs.CutsSame.{Alike, likening}
+use Rattle.cutkeys.specs.CutsSame.{alike_few, alike_few_two, alike_part, alike_part_two, alike_more, alike_not, likening}
 use Rattle.cutkeys.proofs.cuts.same_bytes.Goals as goal
 
 pub loop-i-init : goal.loop-i-init
@@ -16,13 +15,13 @@ pub run-s-requires : goal.run-s-requires
 run-s-requires c = search likening
 
 pub overflow_add-p : goal.overflow_add-p
-overflow_add-p c = search likening
+overflow_add-p c = alike_few _ _ _ _ _ _ c.loop-i.invariant c.loop-i-test.true _ _ _ _ c.run-r.ensures c.run-s.ensures
 
 pub overflow_add-q : goal.overflow_add-q
-overflow_add-q c = search likening
+overflow_add-q c = alike_few_two _ _ _ _ _ _ c.loop-i.invariant c.loop-i-test.true _ _ _ _ c.run-r.ensures c.run-s.ensures
 
 pub same_text-requires : goal.same_text-requires
-same_text-requires c = search likening
+same_text-requires c = (alike_part _ _ _ _ _ _ c.loop-i.invariant c.loop-i-test.true _ _ _ _ c.run-r.ensures c.run-s.ensures, alike_part_two _ _ _ _ _ _ c.loop-i.invariant c.loop-i-test.true _ _ _ _ c.run-r.ensures c.run-s.ensures)
 
 pub overflow_add-i : goal.overflow_add-i
 overflow_add-i c = search likening
@@ -31,10 +30,10 @@ pub loop-i-smaller : goal.loop-i-smaller
 loop-i-smaller c = search likening
 
 pub loop-i-preserved : goal.loop-i-preserved
-loop-i-preserved c = search likening
+loop-i-preserved c = alike_more _ _ _ _ _ _ c.loop-i.invariant c.loop-i-test.true _ _ _ _ c.run-r.ensures c.run-s.ensures _ c.same_text.ensures c.if-same_text.true
 
 pub returns-else-same_text : goal.returns-else-same_text
-returns-else-same_text c = search likening
+returns-else-same_text c = alike_not _ _ _ _ _ _ c.loop-i.invariant c.loop-i-test.true _ _ _ _ c.run-r.ensures c.run-s.ensures _ c.same_text.ensures c.if-same_text.false
 
 pub returns : goal.returns
 returns c = search likening

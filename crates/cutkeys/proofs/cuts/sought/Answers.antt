@@ -1,6 +1,5 @@
 -- `sought` holds the text against the keys that are not passed. The loop's invariant: another key has it exactly if one from q on has.
-use Prim.Native.Nat.{◌-◌}
-use Rattle.cutkeys.specs.CutsSought.{Hunts, soughts}
+use Rattle.cutkeys.specs.CutsSought.{soughts}
 use Rattle.cutkeys.proofs.cuts.sought.Goals as goal
 
 pub skip-q-requires : goal.skip-q-requires

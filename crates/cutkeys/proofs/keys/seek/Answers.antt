@@ -1,7 +1,5 @@
 -- `seek` passes keys that are cut. The loop's invariant: the first whole key from here on is the first of all, and the one here stands where it is said to.
-use Prim.Native.Nat.{◌-◌}
-use Rattle.cutkeys.specs.Runs.{Run}
-use Rattle.cutkeys.specs.Found.{Seeking, seeking}
+use Rattle.cutkeys.specs.Found.{seeking}
 use Rattle.cutkeys.proofs.keys.seek.Goals as goal
 
 pub loop-p-init : goal.loop-p-init

@@ -1,5 +1,5 @@
 -- `by_class` answers as the class that it comes to does; the class rises, to 2 at most.
-use Prim.Native.Nat.{ℕ, ◌-◌}
+use Prim.Native.Nat.{◌-◌}
 use Rattle.cutkeys.proofs.windows.+by_class.Given as goal
 
 abbrev pub decreases-by_class : goal.decreases-by_class

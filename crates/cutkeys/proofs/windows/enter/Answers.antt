@@ -1,9 +1,7 @@
 -- `enter` puts keys into a window and its chains as they are passed. The loop's invariant: the first n stand there, none has the text of an earlier one, and the others are those from k on.
-use Prim.Native.Nat.{◌-◌}
 use borrow.Author.Rules.{rules}
 use Rattle.distinct.specs.Windows.{gather_few}
-use Rattle.distinct.specs.Entering.{Entering, enter_full, enter_over, enter_chaining, enter_met, enter_more}
-use Rattle.cutkeys.specs.Found.{Seen'}
+use Rattle.distinct.specs.Entering.{enter_full, enter_over, enter_chaining, enter_met, enter_more}
 use Rattle.cutkeys.proofs.WholeLaws.{found_part, found_text, found_next, found_less, finding}
 use Rattle.cutkeys.proofs.windows.enter.Goals as goal
 

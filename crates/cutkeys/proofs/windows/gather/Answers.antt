@@ -1,7 +1,5 @@
 -- `gather` fills a window with the places of keys' texts. The loop's invariant: the first n stand there, and the others are those from k on.
-use Prim.Native.Nat.{◌-◌}
-use Rattle.distinct.specs.Windows.{Gathering, gather_more, gathering}
-use Rattle.cutkeys.specs.Found.{Seen'}
+use Rattle.distinct.specs.Windows.{gather_more, gathering}
 use Rattle.cutkeys.proofs.WholeLaws.{found_part, found_text, found_open, found_next, finding}
 use Rattle.cutkeys.proofs.windows.gather.Goals as goal
 

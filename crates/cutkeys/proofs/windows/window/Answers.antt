@@ -14,7 +14,7 @@ chained_behind-requires c =
     let y = c.enter in
     let z = c.in-In.is in
     let D = whole_keys a.stored.now a.starts.now a.d a.stop in
-    (entered_in D a.stored.now y.new.1.1.1.0 y.new.1.1.1.1.0 y.new.1.1.1.1.1.0 y.new.1.1.1.1.1.1.0 a.from y.result y.ensures _ _ z, entered_open D a.stored.now y.new.1.1.1.0 y.new.1.1.1.1.0 y.new.1.1.1.1.1.0 y.new.1.1.1.1.1.1.0 a.from y.result y.ensures _ _ z)
+    (entered_in D a.stored.now y.new.froms y.new.tos y.new.heads y.new.links a.from y.result y.ensures _ _ z, entered_open D a.stored.now y.new.froms y.new.tos y.new.heads y.new.links a.from y.result y.ensures _ _ z)
 
 pub ranked_window-requires-in-Long-chained_behind : goal.ranked_window-requires-in-Long-chained_behind
 ranked_window-requires-in-Long-chained_behind c =
@@ -35,7 +35,7 @@ returns-in-Met c =
     let z = c.in-In.is in
     let D = whole_keys a.stored.now a.starts.now a.d a.stop in
     let b = c.chained_behind in
-    entered_met D a.stored.now y.new.1.1.1.0 y.new.1.1.1.1.0 y.new.1.1.1.1.1.0 y.new.1.1.1.1.1.1.0 a.from y.result y.ensures _ _ z b.result b.ensures (search rules)
+    entered_met D a.stored.now y.new.froms y.new.tos y.new.heads y.new.links a.from y.result y.ensures _ _ z b.result b.ensures (search rules)
 
 pub returns-in-Past : goal.returns-in-Past
 returns-in-Past c =
@@ -44,7 +44,7 @@ returns-in-Past c =
     let z = c.in-In.is in
     let D = whole_keys a.stored.now a.starts.now a.d a.stop in
     let b = c.chained_behind in
-    entered_past D a.stored.now y.new.1.1.1.0 y.new.1.1.1.1.0 y.new.1.1.1.1.1.0 y.new.1.1.1.1.1.1.0 a.from y.result y.ensures _ _ z b.result b.ensures c.requires.1 (search rules)
+    entered_past D a.stored.now y.new.froms y.new.tos y.new.heads y.new.links a.from y.result y.ensures _ _ z b.result b.ensures c.requires.1 (search rules)
 
 pub returns-in-Long-chained_behind : goal.returns-in-Long-chained_behind
 returns-in-Long-chained_behind c = search (entered_twice, rules)

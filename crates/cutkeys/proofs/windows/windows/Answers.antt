@@ -1,7 +1,5 @@
 -- `windows` tells whether no two keys that stand whole have one text. The loop's invariant: none have exactly if none from here on have.
-use Prim.Native.Nat.{◌-◌}
-use Rattle.distinct.specs.Roads.{Apart}
-use Rattle.distinct.specs.Windows.{Going, onwards}
+use Rattle.distinct.specs.Windows.{onwards}
 use Rattle.cutkeys.specs.Runs.{run_none}
 use Rattle.cutkeys.proofs.WholeLaws.{windows_first, window_falls}
 use Rattle.cutkeys.proofs.windows.windows.Goals as goal

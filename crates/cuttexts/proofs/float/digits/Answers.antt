@@ -1,6 +1,4 @@
 -- `digits` passes the digits that stand there. The loop's invariant: digits alone stand before the place.
-use Prim.Native.Nat.{◌-◌}
-use Rattle.texts.specs.Runs.{Coming}
 use Rattle.cuttexts.specs.Digits.{digiting}
 use Rattle.cuttexts.proofs.float.digits.Goals as goal
 

@@ -1,6 +1,5 @@
 -- `near_digits` passes digits. The loop's invariant: digits alone stand before the place.
-use Prim.Native.Nat.{◌-◌}
-use Rattle.cuttexts.specs.Digits.{Digital, digital}
+use Rattle.cuttexts.specs.Digits.{digital}
 use Rattle.cuttexts.proofs.float.near_digits.Goals as goal
 
 pub loop-i-init : goal.loop-i-init

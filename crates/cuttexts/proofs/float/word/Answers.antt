@@ -1,7 +1,6 @@
 -- `word` tells whether the word is left. The loop's invariant: so many bytes are those of the word. Assumes nothing.
-use Prim.Native.Nat.{◌-◌}
 use native.Mathlib.Omega.{arith}
-use Rattle.cuttexts.specs.Contents.{Alike, alike_more, contents}
+use Rattle.cuttexts.specs.Contents.{alike_more, contents}
 use Rattle.cuttexts.proofs.float.word.Goals as goal
 
 pub overflow_sub-n : goal.overflow_sub-n

@@ -1,7 +1,5 @@
 -- `is_script` tells UTF-8 of scalar values. The loop's invariant: whole characters stand before the place. Assumes nothing.
-use Prim.Native.Nat.{◌-◌}
 use native.Mathlib.Omega.{arith}
-use Rattle.texts.specs.Script.{Behind}
 use Rattle.cuttexts.specs.Whole.{content_few, script_few, scripting}
 use Rattle.cuttexts.proofs.script.is_script.Goals as goal
 

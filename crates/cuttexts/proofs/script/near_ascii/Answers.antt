@@ -1,6 +1,5 @@
 -- `near_ascii` passes bytes below 128. The loop's invariant: they are whole characters.
-use Prim.Native.Nat.{◌-◌}
-use Rattle.cuttexts.specs.Whole.{Plainly, plains}
+use Rattle.cuttexts.specs.Whole.{plains}
 use Rattle.cuttexts.proofs.script.near_ascii.Goals as goal
 
 pub loop-i-init : goal.loop-i-init

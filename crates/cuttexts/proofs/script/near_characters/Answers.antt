@@ -1,6 +1,5 @@
 -- `near_characters` passes whole characters. The loop's invariant: they stand before the place whatever follows the run. Assumes nothing.
-use Prim.Native.Nat.{◌-◌}
-use Rattle.cuttexts.specs.Whole.{Whole, wholes}
+use Rattle.cuttexts.specs.Whole.{wholes}
 use Rattle.cuttexts.proofs.script.near_characters.Goals as goal
 
 pub near_ascii-i-requires : goal.near_ascii-i-requires

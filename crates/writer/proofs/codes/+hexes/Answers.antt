@@ -1,7 +1,6 @@
 -- `hexes` writes the hex digits of a number; they become fewer.
 use Rattle.writer.specs.Codes.{hexing}
 use borrow.Author.Rules.{rules}
-use Prim.Native.Nat.{ℕ}
 use Rattle.writer.proofs.codes.+hexes.Goals as goal
 
 pub returns-then-n-eq0 : goal.returns-then-n-eq0

@@ -1,5 +1,4 @@
 -- `hexes` writes the hex digits of a number; they become fewer.
-use Prim.Native.Nat.{ℕ}
 use Rattle.writer.proofs.codes.+hexes.Given as goal
 
 abbrev pub decreases-hexes : goal.decreases-hexes

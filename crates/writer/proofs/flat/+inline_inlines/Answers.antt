@@ -1,10 +1,9 @@
 -- The cycle of a row and its children on one line meets its contracts: the rows below become fewer, and in the loop those that are left.
 use mathlib.Core.Path.{refl}
-use Rattle.writer.specs.Flat.{Inlines, word_in, next_word, size_some, array_inner, array_closing, array_closed, object_inner, object_closing, object_closed, leaf_rises, leaf_inside, leaf_spelt, leaf_puts}
-use Rattle.writer.specs.Children.{Left, left_start, left_end, turn_inline, turn_word, turn_ahead, turn_room, turn_again}
+use Rattle.writer.specs.Flat.{word_in, next_word, size_some, array_inner, array_closing, array_closed, object_inner, object_closing, object_closed, leaf_rises, leaf_inside, leaf_spelt, leaf_puts}
+use Rattle.writer.specs.Children.{left_start, left_end, turn_inline, turn_word, turn_ahead, turn_room, turn_again}
 use borrow.Author.Rules.{rules}
 use native.Mathlib.Omega.{arith}
-use Prim.Native.Nat.{ℕ, ◌-◌}
 use Rattle.writer.proofs.flat.+inline_inlines.Goals as goal
 
 pub inline-word-kind-requires : goal.inline-word-kind-requires

@@ -4,7 +4,7 @@ use lib.ListN.{length, get_or}
 use Rattle.language.specs.Tree.{width}
 use Rattle.writer.specs.Flat.{Inlines}
 use Rattle.writer.specs.Children.{Left}
-use Prim.Native.Nat.{ℕ, ◌+◌, ◌-◌, ◌*◌, ◌≤◌}
+use Prim.Native.Nat.{◌+◌, ◌-◌, ◌*◌, ◌≤◌}
 use Rattle.writer.proofs.flat.+inline_inlines.Given as goal
 
 abbrev pub invariant-inlines-loop-at : goal.invariant-inlines-loop-at

@@ -1,6 +1,6 @@
 -- `hex_pairs` writes the pairs of bytes.
 use mathlib.Core.Path.{◌≡◌, refl}
-use Prim.Native.Nat.{◌+◌, ◌-◌}
+use Prim.Native.Nat.{◌+◌}
 use Rattle.writer.specs.Leaves.{pairs_none, pairs_turn, pairs_done}
 use borrow.Author.Rules.{rules}
 use native.Mathlib.Omega.{arith}

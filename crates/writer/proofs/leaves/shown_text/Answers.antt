@@ -1,6 +1,5 @@
 -- `shown_text` writes the characters of a text, step by step.
-use Prim.Native.Nat.{◌-◌}
-use Rattle.writer.specs.Leaves.{Shown, showing_all}
+use Rattle.writer.specs.Leaves.{showing_all}
 use borrow.Author.Rules.{rules}
 use Rattle.writer.proofs.leaves.shown_text.Goals as goal
 

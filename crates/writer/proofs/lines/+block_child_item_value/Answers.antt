@@ -1,11 +1,10 @@
 -- The cycle of a container's lines and its children's meets its contracts: the rows below become fewer, and in the loop those that are left.
 use mathlib.Core.Path.{refl}
 use Rattle.writer.specs.Flat.{word_in, size_some}
-use Rattle.writer.specs.Lines.{Block, child_row, row_flat, child_item, child_itemed, child_value, child_valued, value_put, item_line, item_lined, item_array, item_arrayed, item_block, item_blocked, value_line, value_lined, value_block, value_blocked}
-use Rattle.writer.specs.Laid.{Rest, rest_start, rest_end, rest_head, rest_word, rest_ahead, rest_below, rest_child, rest_again}
+use Rattle.writer.specs.Lines.{child_row, row_flat, child_item, child_itemed, child_value, child_valued, value_put, item_line, item_lined, item_array, item_arrayed, item_block, item_blocked, value_line, value_lined, value_block, value_blocked}
+use Rattle.writer.specs.Laid.{rest_start, rest_end, rest_head, rest_word, rest_ahead, rest_below, rest_child, rest_again}
 use borrow.Author.Rules.{rules}
 use native.Mathlib.Omega.{arith}
-use Prim.Native.Nat.{ℕ, ◌-◌}
 use Rattle.writer.proofs.lines.+block_child_item_value.Goals as goal
 
 pub block-word-item-requires : goal.block-word-item-requires

@@ -5,7 +5,7 @@ use Rattle.language.specs.Tree.{width}
 use Rattle.language.specs.House as house
 use Rattle.writer.specs.Lines.{Block}
 use Rattle.writer.specs.Laid.{Rest}
-use Prim.Native.Nat.{ℕ, ◌+◌, ◌-◌, ◌*◌, ◌<◌}
+use Prim.Native.Nat.{◌+◌, ◌-◌, ◌*◌, ◌<◌}
 use Rattle.writer.proofs.lines.+block_child_item_value.Given as goal
 
 abbrev pub invariant-block-loop-at : goal.invariant-block-loop-at

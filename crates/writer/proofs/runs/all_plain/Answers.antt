@@ -1,7 +1,6 @@
 -- `all_plain` tells plain bytes, so many. The loop's invariant: n of the i bytes from `at` on are plain.
-use Prim.Native.Nat.{◌-◌}
 use Rattle.characters.specs.Plains.{double}
-use Rattle.writer.specs.Runs.{Counted, counted_none, counted_more, counted_less, counted_all}
+use Rattle.writer.specs.Runs.{counted_none, counted_more, counted_less, counted_all}
 use native.Mathlib.Omega.{arith}
 use Rattle.writer.proofs.runs.all_plain.Goals as goal
 use Rattle.writer.proofs.runs.all_plain.Goals.{then-is_plain, else-is_plain}

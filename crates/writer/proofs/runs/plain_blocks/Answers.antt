@@ -1,6 +1,5 @@
 -- `plain_blocks` passes 16 plain bytes at a time.
-use Prim.Native.Nat.{◌-◌}
-use Rattle.writer.specs.Runs.{Selfs, selfs_none, selfs_then}
+use Rattle.writer.specs.Runs.{selfs_none, selfs_then}
 use Rattle.writer.proofs.runs.plain_blocks.Goals as goal
 
 pub loop-e-init : goal.loop-e-init

@@ -1,7 +1,6 @@
 -- `plain_near` passes plain bytes, one at a time.
-use Prim.Native.Nat.{◌-◌}
 use Rattle.characters.specs.Plains.{double}
-use Rattle.writer.specs.Runs.{Selfs, running, selfs_more}
+use Rattle.writer.specs.Runs.{running, selfs_more}
 use borrow.Author.Rules.{rules}
 use native.Mathlib.Omega.{arith}
 use Rattle.writer.proofs.runs.plain_near.Goals as goal

@@ -1,6 +1,5 @@
 -- `run` passes the characters that are shown as they are.
-use Prim.Native.Nat.{◌-◌}
-use Rattle.writer.specs.Runs.{Selfs, selfs_then}
+use Rattle.writer.specs.Runs.{selfs_then}
 use borrow.Author.Rules.{rules}
 use native.Mathlib.Omega.{arith}
 use Rattle.writer.proofs.runs.run.Goals as goal

@@ -1,6 +1,5 @@
 -- `wides` passes the characters of several bytes that are shown as they are.
-use Prim.Native.Nat.{◌-◌}
-use Rattle.writer.specs.Runs.{Selfs, selfs_none, selfs_then}
+use Rattle.writer.specs.Runs.{selfs_none, selfs_then}
 use native.Mathlib.Omega.{arith}
 use Rattle.writer.proofs.runs.wides.Goals as goal
 
