@@ -431,12 +431,12 @@ module _ (doc : List ℕ) (c : Cursor) (col : ℕ) (i : Asked doc c 62 col) (g :
           (omega (arith, closed.from, place))
           f
 
-pub ruleset open-bytes = (not_led, bytes_bad, bytes_ready, bytes_stop, bytes_begun, bytes_block, rules)
+pub ruleset open_bytes = (not_led, bytes_bad, bytes_ready, bytes_stop, bytes_begun, bytes_block, rules)
 
-pub ruleset property-bytes = (not_led, property_ready, property_stop, property_begun, property_block, rules)
+pub ruleset property_bytes = (not_led, property_ready, property_stop, property_begun, property_block, rules)
 
 pub ruleset hexing = (hex_from, hex_done, hex_ready, hex_stop, hex_on, hex_further, part_small, rules)
 
-pub ruleset first-lines = (first_from, first_shallow, first_ready, first_stop, first_begun, first_went, rules)
+pub ruleset first_lines = (first_from, first_shallow, first_ready, first_stop, first_begun, first_went, rules)
 
-pub ruleset hex-resting = (rest_bare, rest_bad, rest_inside, rest_pairs, rules)
+pub ruleset hex_resting = (rest_bare, rest_bad, rest_inside, rest_pairs, rules)

@@ -114,7 +114,7 @@ module _ (doc : List ℕ) (c : Cursor) (g : Ans) (T T' : List ℕ) (x : Texts do
 
 pub ruleset one_line = (line_bad, line_not, line_end, rules)
 
-pub ruleset next-lines = (see_short, see_double, see_single, see_none, rules)
+pub ruleset next_lines = (see_short, see_double, see_single, see_none, rules)
 
 -- ---- further lines below the LF at e
 tame : (col : ℕ) → Tame 1 (indented_r col joined_line_r)

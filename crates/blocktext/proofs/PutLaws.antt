@@ -128,7 +128,7 @@ module _ (doc : List ℕ) (col m : ℕ) (n : Cursor) (i : Lined doc col m n) whe
   pub put_more_one : (e from : ℕ) → e ≤ length doc → n.text + (e - from) + 1 < 2 ^ 64
   put_more_one e from l = omega (arith, small, i.small)
 
-pub ruleset putting-line = (put_blank, put_place, put_fits, put_inside, put_text, put_one, put_more, put_more_one, rules)
+pub ruleset putting_line = (put_blank, put_place, put_fits, put_inside, put_text, put_one, put_more, put_more_one, rules)
 
 -- ---- the lines that are left: with them the text would be the goal, and end at stop
 pub record Putting (doc : List ℕ) (col m last stop : ℕ) (goal : List ℕ) (n : Cursor) (T : List ℕ) : Type 0 where

@@ -252,7 +252,7 @@ module _ (doc : List ℕ) (c : Cursor) (col : ℕ) (a : ℕ) (i : Led doc c col 
           (omega (arith, texted.ahead, i.from))
           f
 
-pub ruleset led-strings = (led_bad, led_ahead, led_inside, led_begun, led_block, led_from, led_in, led_small, led_more, led_more_one, rules)
+pub ruleset led_strings = (led_bad, led_ahead, led_inside, led_begun, led_block, led_from, led_in, led_small, led_more, led_more_one, rules)
 
 -- ---- a leader with another byte behind the grave
 module _ (doc : List ℕ) (c : Cursor) (col : ℕ) (i : Asked doc c 96 col) (a : Ans) (t : Takes doc c 96 a) (n : Cursor) (z : a ≡ Ok n) where
@@ -346,6 +346,6 @@ module _ (doc : List ℕ) (c : Cursor) (col : ℕ) (i : Asked doc c 96 col) (a :
           (omega (arith, place))
           f
 
-pub ruleset open-strings = (not_led, open_over, open_led, open_begun, open_bad, open_one, open_block, rules)
+pub ruleset open_strings = (not_led, open_over, open_led, open_begun, open_bad, open_one, open_block, rules)
 
-pub ruleset property-strings = (not_led, property_bad, property_begun, property_block, rules)
+pub ruleset property_strings = (not_led, property_bad, property_begun, property_block, rules)

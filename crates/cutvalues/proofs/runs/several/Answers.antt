@@ -1,6 +1,5 @@
 -- `several` passes members, until no whole one stands there.
-use Prim.Native.Nat.{◌-◌}
-use Rattle.cutvalues.proofs.RunLaws.{Going, going}
+use Rattle.cutvalues.proofs.RunLaws.{going}
 use Rattle.cutvalues.proofs.runs.several.Goals as goal
 
 pub loop-allow-init : goal.loop-allow-init
