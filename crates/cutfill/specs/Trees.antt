@@ -1,5 +1,5 @@
 -- TREES IN A CONTENT THAT IS CUT (`Deep`): values with at most so many containers one inside another, and keys; the rows of a leaf and of a container as they are placed. Assumes nothing.
-use Rattle.std.specs.Prelude.{◌≡◌, refl, List, ◌++◌, ℕ, suc, ◌+◌, ◌-◌, ◌≤◌, length, leb}
+use Rattle.std.specs.Prelude.{◌≡◌, refl, ◌++◌, ℕ, suc, ◌+◌, ◌-◌, ◌≤◌, length, leb}
 use Rattle.std.proofs.Common.{sym, ap, arith}
 use Rattle.notation.specs.Class.{pick}
 use Rattle.language.specs.Kind.{KEY}

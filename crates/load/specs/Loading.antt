@@ -1,5 +1,5 @@
 -- WHAT `load` PROMISES, from what testing tells of the stored bytes (`Told`) and what filling leaves in the rooms (`Filled`). Assumes nothing.
-use Rattle.std.specs.Prelude.{◌≡◌, refl, List, [], ◌++◌, ℕ, ◌+◌, ◌-◌, ◌*◌, ◌/◌, ◌≤◌, ◌<◌}
+use Rattle.std.specs.Prelude.{◌≡◌, List, ◌++◌, ℕ, ◌+◌, ◌*◌, ◌/◌, ◌≤◌, ◌<◌}
 use Rattle.std.proofs.Common.{sym, subst, ◌∙◌, append-nil, rules}
 use Rattle.std.proofs.Math.Path.{ap, subst₂}
 use native.Mathlib.Omega.{arith}
@@ -10,7 +10,7 @@ use Rattle.language.specs.Answered.{ROWS, TEXT}
 use Rattle.language.specs.Lent.{lent, words_in, bytes_in}
 use Rattle.rooms.specs.Forest.{length_rows}
 use Rattle.shaped.specs.Bare.{alike_size}
-use Rattle.stored.specs.Form.{form, loaded}
+use Rattle.stored.specs.Form.{loaded}
 use Rattle.stored.specs.Unspanned.{placed_like}
 use Rattle.stored.specs.Loaded.{BADFORM, Kept, Loads, bad_form}
 use Rattle.stored.specs.Answering.{Found}

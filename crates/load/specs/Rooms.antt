@@ -1,11 +1,11 @@
 -- WHAT FILLING LEAVES IN THE ROOMS (`Filled`), of stored bytes that one field holds, whose spans are those of Ticket 4, and of more. Assumes nothing.
-use Rattle.std.specs.Prelude.{◌≡◌, refl, List, [], ℕ, ◌+◌, ◌≤◌}
+use Rattle.std.specs.Prelude.{◌≡◌, List, [], ℕ, ◌≤◌}
 use Rattle.std.proofs.Math.Path.{sym, ap}
 use Rattle.std.proofs.Common.{subst, ◌∙◌, append-nil, arith, rules}
 use Rattle.std.proofs.Math.ListN.{length}
 use Rattle.std.proofs.Math.Seq.{sets}
 use Rattle.language.specs.Tree.{Tree, unlined, rows_of}
-use Rattle.stored.specs.Form.{head, form, loaded}
+use Rattle.stored.specs.Form.{loaded}
 use Rattle.stored.specs.Parts.{widest_is}
 use Rattle.uncut.specs.Short.{longest}
 use Rattle.stored.specs.Old as old

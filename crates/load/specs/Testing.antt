@@ -1,11 +1,11 @@
 -- WHAT TESTING THE WHOLE TELLS (`Told`), of stored bytes that one field holds and of more: nothing may stand behind the root's field. Assumes nothing.
-use Rattle.std.specs.Prelude.{◌≡◌, refl, List, [], ℕ, ◌+◌, ◌-◌, ◌*◌, ◌≤◌, ◌<◌, length}
+use Rattle.std.specs.Prelude.{◌≡◌, refl, List, [], ℕ, ◌-◌, ◌*◌, ◌≤◌, ◌<◌, length}
 use Rattle.std.proofs.Common.{sym, ap, subst, ◌∙◌, append-nil, arith, rules}
 use Rattle.std.proofs.Math.Seq.{slice, take-length}
 use Rattle.language.specs.Tree.{Tree, none, more, size, text_of}
 use Rattle.language.specs.Answered.{deepest}
 use Rattle.language.specs.Lent.{lent}
-use Rattle.stored.specs.Form.{head, form}
+use Rattle.stored.specs.Form.{form}
 use Rattle.stored.specs.Parts.{widest_is}
 use Rattle.uncut.specs.Short.{longest}
 use Rattle.stored.specs.Old as old
@@ -26,7 +26,7 @@ use Rattle.uncut.specs.Tested as uncut
 use Rattle.wide.specs.declared.Walked.{Walked}
 use Rattle.wide.specs.declared.Walked.TheVariants as long
 use Rattle.wide.specs.Tests as wide
-use Rattle.load.specs.Loading.{Held, Told}
+use Rattle.load.specs.Loading.{Told}
 
 module _ (stored : List ℕ) where
   none_told : ((t : Tree) → Kept stored t → ⊥) → Told stored 0 0

@@ -1,8 +1,6 @@
 -- The cycle of containers and their children fills the rooms: the bytes become fewer from a container to what is inside it, and in the loop those that are left.
 use mathlib.Core.Path.{refl, ◌∙◌}
-use Prim.Native.Nat.{ℕ, ◌-◌}
-use Rattle.cutfill.specs.Filling.{FillCut}
-use Rattle.cutfill.specs.Steps.{Left, left_start, left_end}
+use Rattle.cutfill.specs.Steps.{left_start, left_end}
 use Rattle.cutfill.proofs.FieldLaws.{node_opens, node_fewer, node_children, node_row, node_told, node_filling}
 use Rattle.cutfill.proofs.StepLaws.{some_lies, some_passes, some_passed, some_none, some_node, some_leaf, some_fewer, some_one, turn_room, turn_count, turn_less, turn_again}
 use native.Mathlib.Omega.{arith}

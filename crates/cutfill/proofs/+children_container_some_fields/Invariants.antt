@@ -1,7 +1,7 @@
 -- The cycle of containers and their children fills the rooms: the bytes become fewer from a container to what is inside it, and in the loop those that are left.
 use mathlib.Core.Path.{◌≡◌}
 use lib.ListN.{length}
-use Prim.Native.Nat.{ℕ, ◌+◌, ◌-◌, ◌*◌}
+use Prim.Native.Nat.{◌+◌, ◌-◌, ◌*◌}
 use Rattle.cutfill.specs.Filling.{FillCut}
 use Rattle.cutfill.specs.Steps.{Left}
 use Rattle.cutfill.proofs.+children_container_some_fields.Given as goal

@@ -1,7 +1,6 @@
 -- `whole_end` goes from head to head.
 use borrow.Author.Rules.{rules}
-use Prim.Native.Nat.{◌-◌}
-use Rattle.cutfill.specs.Wholes.{Chain, chain_head, chaining}
+use Rattle.cutfill.specs.Wholes.{chain_head, chaining}
 use Rattle.cutfill.proofs.whole_end.Goals as goal
 
 pub loop-e-init : goal.loop-e-init

@@ -1,7 +1,6 @@
 -- The cycle of values and containers meets its contracts. The allowance falls from a container to what is inside it; in the loop, the bytes that are left fall.
 use Rattle.cutvalues.proofs.CutLaws.{nearing, extending}
-use Rattle.cutvalues.proofs.CycleLaws.{now_closing, childing, pairing, stretching, going, containing, Going}
-use Prim.Native.Nat.{ℕ, ◌-◌}
+use Rattle.cutvalues.proofs.CycleLaws.{now_closing, childing, pairing, stretching, going, containing}
 use Rattle.cutvalues.proofs.+child_children_container_cut_value_pair_stretch_value.Goals as goal
 
 pub child-pair-requires : goal.child-pair-requires

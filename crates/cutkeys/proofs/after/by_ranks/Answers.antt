@@ -9,10 +9,9 @@ returns-then-ranked_all c = search rankwise
 
 pub ranked_behind-requires : goal.ranked_behind-requires
 ranked_behind-requires c =
-    let s = c.before.before.before.before.before.before.before.before.before.before.before in
     let a = c.ranked_all in
-    let f = ranged_in s.args.text.now s.args.froms.now s.args.tos.now _ s.args.n a.result a.ensures s.args.order.now in
-    (search (f, rules), s.requires.2)
+    let f = ranged_in c.args.text.now c.args.froms.now c.args.tos.now _ c.args.n a.result a.ensures c.args.order.now in
+    (search (f, rules), c.requires.2)
 
 pub returns : goal.returns
 returns c = search rankwise

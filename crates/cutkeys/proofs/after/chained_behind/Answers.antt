@@ -42,11 +42,10 @@ loop-k-smaller c = search (finding, trailing)
 
 pub loop-k-preserved : goal.loop-k-preserved
 loop-k-preserved c =
-    let a = c.before.before.before.before.before.before.before.before.before.before.before.before.before.before in
     let i = c.loop-k.invariant in
     let l = c.loop-k-test.true in
     let y = c.in_chains in
-    let t = found_sits _ _ _ _ _ i.1 l a.args.text.now a.args.froms.now a.args.tos.now a.args.n y.result y.ensures in
+    let t = found_sits _ _ _ _ _ i.1 l c.args.text.now c.args.froms.now c.args.tos.now c.args.n y.result y.ensures in
     let f = trailed_past _ _ _ _ _ _ _ i.0 l y.result t in
     let q = found_next _ _ _ _ _ i.1 l _ c.seek-k-in-Nowhere.ensures in
     (search (f, q, rules), c.seek-k-in-Nowhere.ensures.seen)

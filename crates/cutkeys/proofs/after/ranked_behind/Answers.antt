@@ -18,11 +18,10 @@ enum_told-1 c = search (finding, trailing)
 
 pub returns-in-At : goal.returns-in-At
 returns-in-At c =
-    let a = c.before.before.before.before.before.before.before.before.before.before.before.before in
     let i = c.loop-k.invariant in
     let l = c.loop-k-test.true in
     let y = c.in_order in
-    let t = found_finds _ _ _ _ _ i.1 l a.args.text.now a.args.froms.now a.args.tos.now a.args.n a.args.order.now y.result y.ensures in
+    let t = found_finds _ _ _ _ _ i.1 l c.args.text.now c.args.froms.now c.args.tos.now c.args.n c.args.order.now y.result y.ensures in
     let f = trailed_there _ _ _ _ _ _ _ i.0 l _ y.result t in
     search (f, rules)
 
@@ -40,12 +39,11 @@ loop-k-smaller c = search (finding, trailing)
 
 pub loop-k-preserved : goal.loop-k-preserved
 loop-k-preserved c =
-    let a = c.before.before.before.before.before.before.before.before.before.before.before.before.before in
     let i = c.loop-k.invariant in
     let l = c.loop-k-test.true in
     let y = c.in_order in
-    let t = found_finds _ _ _ _ _ i.1 l a.args.text.now a.args.froms.now a.args.tos.now a.args.n a.args.order.now y.result y.ensures in
-    let f = trailed_gap _ _ _ _ _ _ _ i.0 l _ y.result t a.requires.0 in
+    let t = found_finds _ _ _ _ _ i.1 l c.args.text.now c.args.froms.now c.args.tos.now c.args.n c.args.order.now y.result y.ensures in
+    let f = trailed_gap _ _ _ _ _ _ _ i.0 l _ y.result t c.requires.0 in
     let q = found_next _ _ _ _ _ i.1 l _ c.seek-k-in-Gap.ensures in
     (search (f, q, rules), c.seek-k-in-Gap.ensures.seen)
 

@@ -32,10 +32,9 @@ slice_bounds-chained_behind-end-in-Past c = search chainwise
 
 pub chained_behind-requires : goal.chained_behind-requires
 chained_behind-requires c =
-    let s = c.before.before.before.before.before.before.before.before.before.before.before.before.before in
     let a = c.chained_all in
-    let f = linked_in s.args.room.now s.args.froms.now s.args.tos.now _ _ s.args.n a.result a.ensures (replicate 4096 0) (replicate 640 0) (chains_first _ _ _ _ s.requires.0 s.requires.1) in
-    (search (f, rules), s.requires.2)
+    let f = linked_in c.args.room.now c.args.froms.now c.args.tos.now _ _ c.args.n a.result a.ensures (replicate 4096 0) (replicate 640 0) (chains_first _ _ _ _ c.requires.0 c.requires.1) in
+    (search (f, rules), c.requires.2)
 
 pub returns-in-Met : goal.returns-in-Met
 returns-in-Met c = search chainwise
