@@ -13,7 +13,8 @@ use Rattle.blocks.proofs.LeadLaws.{lead_more, lead_new}
 use Rattle.blocks.specs.Openers.{opener_r, nested_line_r, nested_line_exact}
 use Rattle.blocks.proofs.OpenersLaws.{opener_more}
 use Rattle.blocks.specs.Nested.{nested_here_r, nested_r, item_r}
-use Rattle.blocks.proofs.NestedLaws.{nested_leads, item_leads, nested_exact, item_exact}
+use Rattle.blocks.proofs.NestedLaws.{nested_exact, item_exact}
+use Rattle.blocks.proofs.LeadsLaws.{nested_leads, item_leads}
 
 pub nested_lead : (k m : ℕ) → Leads (nested_line_r m) (nested_line_r m) (array_r m (item_r k (suc (suc m)))) (object_r k m (nested_r k (suc (suc m))))
 nested_lead k m = nested_leads k m (nested_exact k (suc (suc m))) (item_exact k (suc (suc m)))

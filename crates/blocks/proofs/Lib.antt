@@ -7,6 +7,7 @@ pub mod KeyLookLaws
 pub mod LeadLaws
 pub mod LinesLaws
 pub mod LookLaws
+pub mod LeadsLaws
 pub mod NestedLaws
 pub mod OpenersLaws
 pub mod OrLaws

@@ -12,7 +12,8 @@ use Rattle.exact.specs.Ll.{here_r, word_r}
 use Rattle.exact.specs.More.{ll_shuts}
 use Rattle.strings.specs.Spans.{spanned_r}
 use Rattle.strings.specs.Quoted.{quoted_r}
-use Rattle.strings.specs.Keys.{bare_r, name_r, key_r, key_s, key_ll}
+use Rattle.strings.specs.Keys.{bare_r, name_r, key_r, key_s}
+use Rattle.strings.proofs.KeysLaws.{key_ll}
 use Rattle.blocktext.specs.Joined.{quotes}
 use Rattle.blocks.specs.Look.{Test, Stop, Decided, Ordered}
 

@@ -10,7 +10,8 @@ use Rattle.exact.specs.Class.{Starts, pick, clash, ◌to◌, Class, or, is, none
 use Rattle.exact.specs.Out.{Out, Reader, bind, reach, margin, Tamed, Tame, Firm, shrinks, placed, reach_from, f_ok, f_bad, bad, t_ok, t_soft, t_bad}
 use Rattle.exact.specs.Lang.{Lang, None, Exact, ret_r}
 use Rattle.exact.specs.Comb.{Seq}
-use Rattle.strings.specs.Quoted.{quoted_r, quoted_ll}
+use Rattle.strings.specs.Quoted.{quoted_r}
+use Rattle.strings.proofs.QuotedLaws.{quoted_ll}
 use Rattle.blocktext.specs.Joined.{quotes}
 use Rattle.blocks.specs.First.{Opens, refuted}
 use Rattle.blocks.specs.Through.{Through, stay, on}

@@ -12,8 +12,8 @@ use Rattle.exact.specs.Out.{Out, Reader, bind, Firm, reach_from, f_ok, f_bad}
 use Rattle.exact.specs.Lang.{Lang, within_none, Exact, weaken}
 use Rattle.exact.specs.Comb.{Seq, seq_tame, Alt, alt_r}
 use Rattle.exact.specs.More.{OneMore, tame_any, steady, alt_more}
-use Rattle.strings.specs.Quoted.{quoted_ll}
-use Rattle.strings.specs.Keys.{key_ll}
+use Rattle.strings.proofs.QuotedLaws.{quoted_ll}
+use Rattle.strings.proofs.KeysLaws.{key_ll}
 use Rattle.inline.specs.Lists.{value_first}
 use Rattle.blocktext.specs.Follow.{lines, beyond_lines}
 use Rattle.blocktext.specs.LineEnd.{line_end_r, line_end_ll}

@@ -9,7 +9,7 @@ use Rattle.language.specs.Inline.{Scalar, LineValue}
 use Rattle.exact.specs.Class.{Starts, ◌to◌, Class, is, apart, starts_none, sub, only}
 use Rattle.exact.specs.Lang.{Lang}
 use Rattle.exact.specs.Comb.{one, two}
-use Rattle.strings.specs.Quoted.{string_ll}
+use Rattle.strings.proofs.QuotedLaws.{string_ll}
 use Rattle.strings.specs.Bytes.{inline_bytes_ll}
 use Rattle.inline.specs.Values.{container_ll, value_ll}
 use Rattle.blocktext.specs.Opens.{Opens, ll_opens}

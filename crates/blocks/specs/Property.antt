@@ -14,7 +14,8 @@ use Rattle.exact.specs.Ll.{ret_ll, byte₁}
 use Rattle.exact.specs.Grow.{Sub, sub_refl, seq_sub, alt_sub}
 use Rattle.exact.specs.More.{OneMore, steady, calm, seq_more, alt_more, Shuts, ll_shuts}
 use Rattle.numbers.specs.Opening.{seq_shuts}
-use Rattle.strings.specs.Keys.{key_s, key_r, key_ll}
+use Rattle.strings.specs.Keys.{key_s, key_r}
+use Rattle.strings.proofs.KeysLaws.{key_ll}
 use Rattle.inline.specs.Lists.{value_first}
 use Rattle.blocktext.specs.Follow.{beyond, lines, lines_beyond}
 use Rattle.blocktext.specs.BlockStrings.{property_string_r, property_string_exact, property_string_opens}

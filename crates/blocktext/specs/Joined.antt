@@ -14,7 +14,8 @@ use Rattle.exact.specs.Comb.{seq_r, map_r, map_exact}
 use Rattle.exact.specs.Ll.{Shape, Ll, seq_ll, relax}
 use Rattle.exact.specs.Block.{indented_r, indented_exact}
 use Rattle.exact.specs.More.{Shuts, ll_shuts}
-use Rattle.strings.specs.Quoted.{quoted_r, quoted_s, quoted_ll}
+use Rattle.strings.specs.Quoted.{quoted_r, quoted_s}
+use Rattle.strings.proofs.QuotedLaws.{quoted_ll}
 use Rattle.blocktext.specs.Follow.{beyond, lines}
 use Rattle.blocktext.specs.Opens.{Opens, ll_opens}
 use Rattle.blocktext.specs.Led.{led_r, led_exact, led_opens, led_shuts}

@@ -13,8 +13,8 @@ use Rattle.exact.specs.Grow.{Sub, sub_refl, sub_one, seq_sub, alt_sub, star_sub}
 use Rattle.exact.specs.More.{OneMore, steady, calm, seq_more, alt_more, star_more, Goes, byte_goes, seq_goes, here_goes, alt_goes, Shuts, ll_shuts, new_after}
 use Rattle.numbers.specs.Opening.{plain_shuts, shuts_inside, alt_shuts}
 use Rattle.strings.specs.Bytes.{inline_bytes_ll}
-use Rattle.strings.specs.Keys.{key_ll}
-use Rattle.strings.specs.Quoted.{string_ll}
+use Rattle.strings.proofs.KeysLaws.{key_ll}
+use Rattle.strings.proofs.QuotedLaws.{string_ll}
 use Rattle.inline.specs.Lists.{scalar_first, openings, value_first, listed_r, inline_array_r, inline_pair_r, inline_object_r}
 use Rattle.inline.specs.Values.{quotes_r, scalar_r, container_r, value_r, scalar_exact, container_ll, value_ll}
 

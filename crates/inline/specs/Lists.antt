@@ -11,7 +11,8 @@ use Rattle.exact.specs.Ll.{Shape, Ll, ret_s, ret_ll, byte_s, seq_s, seq_ll, alt_
 use Rattle.exact.specs.Place.{list_r}
 use Rattle.numbers.specs.Plain.{plain_first, plain_s}
 use Rattle.strings.specs.Bytes.{inline_bytes_s}
-use Rattle.strings.specs.Keys.{key_r, key_ll}
+use Rattle.strings.specs.Keys.{key_r}
+use Rattle.strings.proofs.KeysLaws.{key_ll}
 use Rattle.strings.specs.Quoted.{string_s}
 use Rattle.strings.specs.Spans.{solid}
 

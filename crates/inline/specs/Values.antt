@@ -12,7 +12,8 @@ use Rattle.exact.specs.Comb.{alt_r, alt_exact}
 use Rattle.exact.specs.Ll.{Shape, Ll, alt_ll, relax, begun_starts}
 use Rattle.numbers.specs.Plain.{plain_first, plain_s, plain_r, NumberOn, plain_exact, plain_begun, plain_ll}
 use Rattle.strings.specs.Bytes.{inline_bytes_s, inline_bytes_r, inline_bytes_ll}
-use Rattle.strings.specs.Quoted.{string_s, string_r, string_ll}
+use Rattle.strings.specs.Quoted.{string_s, string_r}
+use Rattle.strings.proofs.QuotedLaws.{string_ll}
 use Rattle.strings.specs.Spans.{solid}
 use Rattle.inline.specs.Lists.{scalar_first, openings, value_first, value_s, inline_array_r, inline_object_r, inline_array_ll, inline_object_ll}
 

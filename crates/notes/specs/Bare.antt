@@ -8,7 +8,8 @@ use Rattle.exact.specs.Out.{Out, Reader, bind, ok, soft, bad, Tamed, t_ok, Moves
 use Rattle.exact.specs.Comb.{alt_r}
 use Rattle.exact.specs.Lines.{reached}
 use Rattle.strings.specs.Spans.{spanned_r}
-use Rattle.strings.specs.Keys.{name_r, key_r, key_ll}
+use Rattle.strings.specs.Keys.{name_r, key_r}
+use Rattle.strings.proofs.KeysLaws.{key_ll}
 use Rattle.notes.specs.Flat.{flat, flats, flats_one}
 use Rattle.notes.specs.Handed.{Handed, took_none, took_more}
 use Rattle.notes.specs.Lie.{KeyAt, keys_none, keys_more}

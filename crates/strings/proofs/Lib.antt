@@ -11,3 +11,5 @@ pub mod KeyLaws
 pub mod HexLaws
 pub mod PairsLaws
 pub mod AngledLaws
+pub mod KeysLaws
+pub mod QuotedLaws

@@ -10,7 +10,7 @@ use Rattle.exact.specs.Lang.{ret_r, byte_r}
 use Rattle.exact.specs.Comb.{seq_r, map_r, alt_r, many_r}
 use Rattle.exact.specs.Ll.{Shape, Ll, ret_ll, byte_ll, seq_ll, alt_ll, star_ll, relax}
 use Rattle.strings.specs.Spans.{solid, spanned_r, spanned_ll}
-use Rattle.strings.specs.Quoted.{quoted_r, quoted_s, quoted_ll}
+use Rattle.strings.specs.Quoted.{quoted_r, quoted_s}
 
 -- a bare key
 unfoldable pub bare_r : Reader (List ℕ)
@@ -30,13 +30,5 @@ name_r = alt_r (is keybyte) (map_r unescaped bare_r) quoted_r
 abbrev pub key_s : Shape
 key_s = solid (keybyte ++ quoted_s.first) keybyte
 
-name_ll : Ll key_s (Alt (Map unescaped (Plus (Byte (is keybyte)))) Quoted) name_r
-unfolding name_r
-name_ll = relax key_s refl refl refl (alt_ll refl refl (seq_ll refl bare_ll λ s. ret_ll (unescaped s)) quoted_ll)
-
 unfoldable pub key_r : Reader Tree
 key_r = spanned_r KEY name_r
-
-pub key_ll : Ll key_s Key key_r
-unfolding key_r
-key_ll = spanned_ll KEY key_s.first keybyte name_ll

@@ -119,9 +119,6 @@ single_r = between_r 39 single_escape_r unsingle
 pub double_ll : Ll (between_s 34) Double double_r
 double_ll = between_ll 34 unquoted refl refl escape_ll
 
-pub single_ll : Ll (between_s 39) Single single_r
-single_ll = between_ll 39 unsingle refl refl single_escape_ll
-
 -- EITHER QUOTE
 unfoldable pub quoted_r : Reader Decoded
 quoted_r = alt_r (is (only 34)) double_r single_r
@@ -129,17 +126,9 @@ quoted_r = alt_r (is (only 34)) double_r single_r
 abbrev pub quoted_s : Shape
 quoted_s = solid ((34 to 34) ∷ (39 to 39) ∷ []) []
 
-pub quoted_ll : Ll quoted_s Quoted quoted_r
-unfolding quoted_r
-quoted_ll = relax quoted_s refl refl refl (alt_ll refl refl double_ll single_ll)
-
 -- A STRING
 unfoldable pub string_r : Reader Tree
 string_r = spanned_r STRING quoted_r
 
 abbrev pub string_s : Shape
 string_s = quoted_s
-
-pub string_ll : Ll string_s String string_r
-unfolding string_r
-string_ll = spanned_ll STRING quoted_s.first [] quoted_ll
