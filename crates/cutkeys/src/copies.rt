@@ -152,6 +152,7 @@ fn gather_short(
 }
 
 // Whether two of the n keys in the room have one text, or one of them has that of a key that stands whole, from one on; by chains.
+#[inline(never)]
 fn by_chains(
     stored: &[u8],
     starts: &[u32; LEVELS],
@@ -178,6 +179,7 @@ fn by_chains(
 }
 
 // The same by the order of texts.
+#[inline(never)]
 fn by_order(
     stored: &[u8],
     starts: &[u32; LEVELS],

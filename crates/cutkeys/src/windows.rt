@@ -139,6 +139,7 @@ fn window(
 }
 
 // The same in rooms for few keys.
+#[inline(never)]
 fn few_window(stored: &[u8], starts: &[u32; LEVELS], d: usize, from: usize, stop: usize) -> Went
     requires { Open (whole_keys stored.now starts.now d stop) from × (from < stop) }
     ensures { Windowed (whole_keys stored.now starts.now d stop) from result }
@@ -153,6 +154,7 @@ fn few_window(stored: &[u8], starts: &[u32; LEVELS], d: usize, from: usize, stop
 }
 
 // The same in rooms for some keys.
+#[inline(never)]
 fn some_window(stored: &[u8], starts: &[u32; LEVELS], d: usize, from: usize, stop: usize) -> Went
     requires { Open (whole_keys stored.now starts.now d stop) from × (from < stop) }
     ensures { Windowed (whole_keys stored.now starts.now d stop) from result }
@@ -167,6 +169,7 @@ fn some_window(stored: &[u8], starts: &[u32; LEVELS], d: usize, from: usize, sto
 }
 
 // The same in the largest rooms.
+#[inline(never)]
 fn most_window(stored: &[u8], starts: &[u32; LEVELS], d: usize, from: usize, stop: usize) -> Went
     requires { Open (whole_keys stored.now starts.now d stop) from × (from < stop) }
     ensures { Windowed (whole_keys stored.now starts.now d stop) from result }

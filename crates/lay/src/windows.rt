@@ -239,6 +239,7 @@ fn window(
 }
 
 // The same in rooms for some keys.
+#[inline(never)]
 fn some_window(
     table: &[u32],
     text: &[u8],
@@ -264,6 +265,7 @@ fn some_window(
 }
 
 // The same in the largest rooms.
+#[inline(never)]
 fn most_window(
     table: &[u32],
     text: &[u8],

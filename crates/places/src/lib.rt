@@ -104,6 +104,7 @@ fn repeated(
 }
 
 // The same over links for few keys.
+#[inline(never)]
 fn among_few(doc: &[u8], keys: &[u32], n: usize) -> Repeat
     requires { Placed doc.now keys.now n × (n ≤ 512) }
     ensures { Names (Later (place_keys doc.now keys.now) n) result }
@@ -115,6 +116,7 @@ fn among_few(doc: &[u8], keys: &[u32], n: usize) -> Repeat
 }
 
 // The same over links for some keys.
+#[inline(never)]
 fn among_some(doc: &[u8], keys: &[u32], n: usize) -> Repeat
     requires { Placed doc.now keys.now n × (n ≤ 2048) }
     ensures { Names (Later (place_keys doc.now keys.now) n) result }
@@ -126,6 +128,7 @@ fn among_some(doc: &[u8], keys: &[u32], n: usize) -> Repeat
 }
 
 // The same over links for many keys: those that a long document's log has at a time, whose room leaves less of the stack.
+#[inline(never)]
 fn among_many(doc: &[u8], keys: &[u32], n: usize) -> Repeat
     requires { Placed doc.now keys.now n × (n ≤ 3280) }
     ensures { Names (Later (place_keys doc.now keys.now) n) result }
@@ -137,6 +140,7 @@ fn among_many(doc: &[u8], keys: &[u32], n: usize) -> Repeat
 }
 
 // The same over links for as many keys as are looked through at a time.
+#[inline(never)]
 fn among_all(doc: &[u8], keys: &[u32], n: usize) -> Repeat
     requires { Placed doc.now keys.now n }
     ensures { Names (Later (place_keys doc.now keys.now) n) result }

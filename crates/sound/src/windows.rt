@@ -134,6 +134,7 @@ fn window(
 }
 
 // The same in rooms for few keys.
+#[inline(never)]
 fn few_window(table: &[u32], text: &[u8], from: usize, stop: usize) -> Went
     requires { Open (object_keys table.now text.now stop) from × (from < stop) }
     ensures { Windowed (object_keys table.now text.now stop) from result }
@@ -148,6 +149,7 @@ fn few_window(table: &[u32], text: &[u8], from: usize, stop: usize) -> Went
 }
 
 // The same in rooms for some keys.
+#[inline(never)]
 fn some_window(table: &[u32], text: &[u8], from: usize, stop: usize) -> Went
     requires { Open (object_keys table.now text.now stop) from × (from < stop) }
     ensures { Windowed (object_keys table.now text.now stop) from result }
@@ -162,6 +164,7 @@ fn some_window(table: &[u32], text: &[u8], from: usize, stop: usize) -> Went
 }
 
 // The same in the largest rooms.
+#[inline(never)]
 fn most_window(table: &[u32], text: &[u8], from: usize, stop: usize) -> Went
     requires { Open (object_keys table.now text.now stop) from × (from < stop) }
     ensures { Windowed (object_keys table.now text.now stop) from result }

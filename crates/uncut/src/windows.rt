@@ -142,6 +142,7 @@ fn window(
 }
 
 // The same in rooms for few keys.
+#[inline(never)]
 fn few_window(stored: &[u8], from: usize, stop: usize) -> Went
     requires { Open (placed_keys stored.now stop) from × (from < stop) }
     ensures { Windowed (placed_keys stored.now stop) from result }
@@ -156,6 +157,7 @@ fn few_window(stored: &[u8], from: usize, stop: usize) -> Went
 }
 
 // The same in rooms for some keys.
+#[inline(never)]
 fn some_window(stored: &[u8], from: usize, stop: usize) -> Went
     requires { Open (placed_keys stored.now stop) from × (from < stop) }
     ensures { Windowed (placed_keys stored.now stop) from result }
@@ -170,6 +172,7 @@ fn some_window(stored: &[u8], from: usize, stop: usize) -> Went
 }
 
 // The same in the largest rooms.
+#[inline(never)]
 fn most_window(stored: &[u8], from: usize, stop: usize) -> Went
     requires { Open (placed_keys stored.now stop) from × (from < stop) }
     ensures { Windowed (placed_keys stored.now stop) from result }
