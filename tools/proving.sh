@@ -6,7 +6,7 @@ log=$1
 shift
 mkdir -p "$(dirname "$log")"
 crates=$(sed -n 's/^yay staticlib://p' crates.txt | wc -w)
-echo "Making the library: its $((crates + 1)) crates are proved first, which takes about a quarter of an hour on two processors;"
+echo "Making the library: its $((crates + 1)) crates are proved first, which takes its time once;"
 echo "of crates that were proved before and are unchanged nothing is said. The whole log is $log."
 "$@" 2>&1 | tee "$log" | awk '
     /^crate [a-z0-9_]+: / { name = substr($2, 1, length($2) - 1) }
