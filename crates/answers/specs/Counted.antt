@@ -12,12 +12,12 @@ use Rattle.spans.proofs.DocumentLaws.{few_rows, few_text}
 use Rattle.lined.specs.Lined.{Ranked, lined}
 use Rattle.lined.specs.Rows.{lined_rows}
 use Rattle.lined.specs.Ranking.{ranked_rows}
-use Rattle.repeats.specs.declared.Repeat.{Repeat}
-use Rattle.repeats.specs.declared.Repeat.TheVariants.{At, Nowhere}
+use Rattle.std.specs.Prelude.{Option}
+use Rattle.std.specs.declared.option.Option.TheVariants.{None, Some}
 use Rattle.repeats.specs.Later.{Names, LeastOf}
 
 -- the document has n rows, m text bytes and z escapes, and a names its first repeated key
-pub record Counted (doc : List ℕ) (n m z : ℕ) (a : Repeat) : Type 0 where
+pub record Counted (doc : List ℕ) (n m z : ℕ) (a : Option ℕ) : Type 0 where
   pub tree : Tree
   pub short : length doc ≤ limit
   pub word : Document deepest doc tree
@@ -30,8 +30,8 @@ pub record Counted (doc : List ℕ) (n m z : ℕ) (a : Repeat) : Type 0 where
 stored : (l vs : List ℕ) → length vs ≤ length l → sets l 0 vs ≡ vs ++ drop (length vs) l
 stored l vs h = sets-eq vs l 0 (omega arith) ∙ ap (λ (k : ℕ). vs ++ drop k l) (zero-add (length vs))
 
-module _ {doc : List ℕ} {n m z : ℕ} {a : Repeat} (f : Counted doc n m z a) where
-  reads : a ≡ Nowhere → Reads doc f.tree
+module _ {doc : List ℕ} {n m z : ℕ} {a : Option ℕ} (f : Counted doc n m z a) where
+  reads : a ≡ None → Reads doc f.tree
   reads e = record { short = f.short; word = f.word; once = subst (Names (λ q. Repeats q f.tree)) e f.names }
 
   -- few enough for any room
@@ -42,19 +42,19 @@ module _ {doc : List ℕ} {n m z : ℕ} {a : Repeat} (f : Counted doc n m z a) w
   few_bytes = omega (arith, f.short, few_text deepest doc f.tree f.word)
 
   -- its escapes are the total
-  pub counted_total : a ≡ Nowhere → Totals doc 0 z
+  pub counted_total : a ≡ None → Totals doc 0 z
   counted_total e = rw f.escape_count (total f.tree (reads e))
 
   module _ (table text : List ℕ) where
-    pub counted_repeat : (p : ℕ) → a ≡ At p → Answered doc table text REPEAT p 0 table text
+    pub counted_repeat : (p : ℕ) → a ≡ Some p → Answered doc table text REPEAT p 0 table text
     counted_repeat p e =
         let x : LeastOf (λ q. Repeats q f.tree) p = subst (Names (λ q. Repeats q f.tree)) e f.names in
         repeated f.tree p f.short f.word x.is x.least
 
-    pub counted_rows : a ≡ Nowhere → length table < width * n → Answered doc table text ROWS n 0 table text
+    pub counted_rows : a ≡ None → length table < width * n → Answered doc table text ROWS n 0 table text
     counted_rows e l = subst (λ (i : ℕ). Answered doc table text ROWS i 0 table text) (sym f.row) (rows f.tree (reads e) (omega (arith, f.row, few)))
 
-    pub counted_bytes : a ≡ Nowhere → width * n ≤ length table → length text < m → Answered doc table text TEXT m 0 table text
+    pub counted_bytes : a ≡ None → width * n ≤ length table → length text < m → Answered doc table text TEXT m 0 table text
     counted_bytes e l k =
         subst (λ (i : ℕ). Answered doc table text TEXT i 0 table text) (sym f.text_count)
         (bytes f.tree (reads e) (omega (arith, f.row, few)) (omega (arith, f.text_count, few_bytes)))
@@ -72,7 +72,7 @@ module _ {doc : List ℕ} {n m z : ℕ} {a : Repeat} (f : Counted doc n m z a) w
       counted_ranked = rw (rows_stored, f.row) (ranked_rows deepest doc f.tree (drop (width * size f.tree) table) f.word f.short)
 
       -- .. and are
-      pub counted_all : a ≡ Nowhere → m ≤ length text → (table'' text' : List ℕ) → table'' ≡ lined (lines_of doc) n table' → text' ≡ sets text 0 (text_of f.tree)
+      pub counted_all : a ≡ None → m ≤ length text → (table'' text' : List ℕ) → table'' ≡ lined (lines_of doc) n table' → text' ≡ sets text 0 (text_of f.tree)
           → Answered doc table text 0 n m table'' text'
       counted_all e k table'' text' w y =
           let t = f.tree in

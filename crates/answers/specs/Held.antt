@@ -1,14 +1,15 @@
 -- HOW THE ANSWER FOLLOWS, where the rows and the text of the document's tree stand in rooms of our own. Assumes nothing.
-use Rattle.std.specs.Prelude.{◌≡◌, refl, List, ℕ, ◌+◌, ◌*◌, ◌≤◌, ◌<◌, length, take, get_or, set}
-use Rattle.std.proofs.Common.{sym, ◌∙◌, add-one, arith, take_at}
+use Rattle.std.specs.Prelude.{◌≡◌, List, ◌++◌, ℕ, ◌+◌, ◌*◌, ◌≤◌, ◌<◌, length, take, drop, get_or}
+use Rattle.std.proofs.Common.{◌∙◌, arith, take_at, length-take-le}
 use Rattle.std.proofs.Math.Path.{ap}
 use Rattle.std.proofs.lemmas.List.Edits.{sets}
-use Rattle.std.proofs.Math.Seq.{slice, slice-cons, slice_empty}
+use Rattle.std.proofs.Math.Seq.{slice}
+use Rattle.rooms.specs.Stores.{sets_mid}
 use Rattle.rooms.specs.Forest.{length_rows}
 use Rattle.language.specs.Tree.{unlined, width, size, text_of, escapes_of, rows_of}
 use Rattle.language.specs.Answered.{limit, REPEAT, ROWS, TEXT, Answered, Totals, untold}
-use Rattle.repeats.specs.declared.Repeat.{Repeat}
-use Rattle.repeats.specs.declared.Repeat.TheVariants.{At, Nowhere}
+use Rattle.std.specs.Prelude.{Option}
+use Rattle.std.specs.declared.option.Option.TheVariants.{None, Some}
 use Rattle.repeats.specs.Stands.{Stands}
 use Rattle.places.specs.Places.{Placed}
 use Rattle.places.specs.Log.{Log, Told, log_placed, log_told}
@@ -16,13 +17,9 @@ use Rattle.language.specs.Lines.{lines_of}
 use Rattle.lined.specs.Lined.{Ranked, lined}
 use Rattle.answers.specs.Counted.{Counted, counted_repeat, counted_rows, counted_bytes, counted_ranked, counted_all, counted_total}
 
--- a turn of the loop that copies words, and its end
-module _ (goal l w : List ℕ) (i n : ℕ) (inv : goal ≡ sets l i (slice i n w)) where
-  pub words_turn : i < n → n ≤ length w → goal ≡ sets (set l i (get_or w i 0)) (i + 1) (slice (i + 1) n w)
-  words_turn h k = inv ∙ (ap (sets l i) (slice-cons i n w 0 h k) ∙ rw add-one refl)
-
-  pub words_done : i ≡ n → l ≡ goal
-  words_done h = sym (inv ∙ ap (sets l i) (ap (λ (k : ℕ). slice k n w) h ∙ slice_empty n w))
+-- the first k words of one table, stored at the start of another
+pub words_stored : (l new w : List ℕ) (k : ℕ) → new ≡ take k w → k ≤ length w → k ≤ length l → new ++ drop k l ≡ sets l 0 (slice 0 k w)
+words_stored l new w k e h f = sets_mid l new 0 k (ap length e ∙ length-take-le k w h) (omega arith) ∙ ap (sets l 0) e
 
 -- ROOMS OF OUR OWN hold the n rows and the m text bytes of the document's tree, which has z escapes and whose keys are noted
 pub record Held (doc keys R T : List ℕ) (n m z : ℕ) : Type 0 where
@@ -51,7 +48,7 @@ module _ {doc keys R T : List ℕ} {n m z : ℕ} (f : Held doc keys R T n m z) w
 pub answer_placed : (doc keys R T : List ℕ) (n m z : ℕ) → Held doc keys R T n m z → Placed doc keys (get_or keys 0 0)
 answer_placed doc keys R T n m z f = log_placed doc keys f.log
 
-module _ (doc keys R T : List ℕ) (n m z : ℕ) (f : Held doc keys R T n m z) (a : Repeat) (h : Told doc keys a) where
+module _ (doc keys R T : List ℕ) (n m z : ℕ) (f : Held doc keys R T n m z) (a : Option ℕ) (h : Told doc keys a) where
   counted : Counted doc n m z a
   counted =
       record {
@@ -64,17 +61,17 @@ module _ (doc keys R T : List ℕ) (n m z : ℕ) (f : Held doc keys R T n m z) (
         names = log_told doc keys f.log a h;
       }
 
-  pub answer_total : a ≡ Nowhere → Totals doc 0 z
+  pub answer_total : a ≡ None → Totals doc 0 z
   answer_total = counted_total counted
 
   module _ (table text : List ℕ) where
-    pub answer_repeat : (p : ℕ) → a ≡ At p → Answered doc table text REPEAT p 0 table text
+    pub answer_repeat : (p : ℕ) → a ≡ Some p → Answered doc table text REPEAT p 0 table text
     answer_repeat = counted_repeat counted table text
 
-    pub answer_rows : a ≡ Nowhere → length table < width * n → Answered doc table text ROWS n 0 table text
+    pub answer_rows : a ≡ None → length table < width * n → Answered doc table text ROWS n 0 table text
     answer_rows = counted_rows counted table text
 
-    pub answer_bytes : a ≡ Nowhere → width * n ≤ length table → length text < m → Answered doc table text TEXT m 0 table text
+    pub answer_bytes : a ≡ None → width * n ≤ length table → length text < m → Answered doc table text TEXT m 0 table text
     answer_bytes = counted_bytes counted table text
 
     module _ (l : width * n ≤ length table) (table' : List ℕ) (x : table' ≡ sets table 0 (slice 0 (width * n) R)) where
@@ -82,7 +79,7 @@ module _ (doc keys R T : List ℕ) (n m z : ℕ) (f : Held doc keys R T n m z) (
       unfolding counted
       answer_ranked = counted_ranked counted table text l table' (x ∙ ap (sets table 0) (table_held f))
 
-      pub answer_all : a ≡ Nowhere → m ≤ length text → (table'' text' : List ℕ) → table'' ≡ lined (lines_of doc) n table' → text' ≡ sets text 0 (slice 0 m T)
+      pub answer_all : a ≡ None → m ≤ length text → (table'' text' : List ℕ) → table'' ≡ lined (lines_of doc) n table' → text' ≡ sets text 0 (slice 0 m T)
           → Answered doc table text 0 n m table'' text'
       unfolding counted
       answer_all e k table'' text' w y = counted_all counted table text l table' (x ∙ ap (sets table 0) (table_held f)) e k table'' text' w (y ∙ ap (sets text 0) (text_held f))

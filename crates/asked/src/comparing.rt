@@ -3,7 +3,8 @@ ghost use Rattle.std.specs.Prelude.{◌≡◌};
 ghost use Rattle.asked.specs.Above.{is_above};
 
 use super::show::{compare, say, verdict};
-use integers::Compared;
+use integers::NotInt;
+use std::cmp::Ordering;
 use std::io;
 
 pub fn all(rt: &impl Print) -> io::Result<()> {
@@ -18,15 +19,10 @@ pub fn all(rt: &impl Print) -> io::Result<()> {
     long(rt)
 }
 
-fn above(c: Compared) -> bool
-    ensures { result ≡ is_above c }
+fn above(order: Result<Ordering, NotInt>) -> bool
+    ensures { result ≡ is_above order }
 {
-    match c {
-        Compared::Less => false,
-        Compared::Equal => false,
-        Compared::Greater => true,
-        Compared::NotInt => false,
-    }
+    matches!(order, Ok(Ordering::Greater))
 }
 
 // P12, from the contract of `compare` alone.
@@ -97,15 +93,15 @@ fn signs(rt: &impl Print) -> io::Result<()> {
 
 // Two texts of 16 KB, then with the last digit of the right one more, then both below zero.
 fn long(rt: &impl Print) -> io::Result<()> {
-    let mut left = [55u8; 16384];
-    let mut right = [55u8; 16384];
+    let mut left = [b'7'; 16384];
+    let mut right = [b'7'; 16384];
     say(rt, b"compare 16 KB, alike ")?;
     verdict(rt, integers::compare(&left, &right))?;
-    right[16383] = 56;
+    right[16383] = b'8';
     say(rt, b"compare 16 KB, the last digit more ")?;
     verdict(rt, integers::compare(&left, &right))?;
-    left[0] = 45;
-    right[0] = 45;
+    left[0] = b'-';
+    right[0] = b'-';
     say(rt, b"compare 16 KB, the last digit more, below zero ")?;
     verdict(rt, integers::compare(&left, &right))
 }

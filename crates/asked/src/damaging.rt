@@ -3,20 +3,13 @@ use super::table::find_with;
 use std::io;
 
 pub fn all(rt: &impl Print, t: &[u32; 99]) -> io::Result<()> {
-    for at in 0..99 {
-        damage(rt, t, at)?;
-    }
-    Ok(())
+    (0..99).try_for_each(|at| damage(rt, t, at))
 }
 
 fn damage(rt: &impl Print, t: &[u32; 99], at: usize) -> io::Result<()> {
     find_with(rt, t, at, 0, b"ab")?;
     if at < 99 {
-        find_with(rt, t, at, more(t[at]), b"ab")?;
+        find_with(rt, t, at, t[at].wrapping_add(1), b"ab")?;
     }
-    find_with(rt, t, at, 4294967295, b"ab")
-}
-
-fn more(x: u32) -> u32 {
-    if x < 4294967295 { x + 1 } else { 0 }
+    find_with(rt, t, at, u32::MAX, b"ab")
 }

@@ -6,7 +6,7 @@ pub fn all(rt: &impl Print, t: &[u32; 99]) -> io::Result<()> {
     keys(rt, t)?;
     find(rt, t, 8, b"a")?;
     find(rt, t, 8, b"ab")?;
-    every_row(rt, t)?;
+    (1..13).try_for_each(|object| find(rt, t, object, b"a"))?;
     find(rt, t, MOST, b"a")?;
     first_match(rt, t)?;
     next_of_one(rt, t)?;
@@ -22,17 +22,6 @@ fn keys(rt: &impl Print, t: &[u32; 99]) -> io::Result<()> {
     find(rt, t, 0, b"abc")?;
     find(rt, t, 0, b"bd")?;
     find(rt, t, 0, b"")
-}
-
-fn every_row(rt: &impl Print, t: &[u32; 99]) -> io::Result<()> {
-    for object in 1..13 {
-        of_row(rt, t, object)?;
-    }
-    Ok(())
-}
-
-fn of_row(rt: &impl Print, t: &[u32; 99], object: usize) -> io::Result<()> {
-    find(rt, t, object, b"a")
 }
 
 // The second key is made `b`, and `a` again; what lies behind a match is not met.

@@ -4,7 +4,7 @@ use super::table::{MOST, ROWS, text, text_with};
 use std::io;
 
 pub fn all(rt: &impl Print, t: &[u32; 99]) -> io::Result<()> {
-    every_row(rt, t)?;
+    (0..12).try_for_each(|row| text(rt, t, row))?;
     text(rt, t, MOST)?;
     counts(rt, t)?;
     rooms(rt, t, b"a1bc22-3aba")?;
@@ -12,13 +12,6 @@ pub fn all(rt: &impl Print, t: &[u32; 99]) -> io::Result<()> {
     kinds(rt, t)?;
     spans(rt, t)?;
     ends(rt, t)
-}
-
-fn every_row(rt: &impl Print, t: &[u32; 99]) -> io::Result<()> {
-    for row in 0..12 {
-        text(rt, t, row)?;
-    }
-    Ok(())
 }
 
 fn count(rt: &impl Print, t: &[u32; 99], rows: usize, row: usize) -> io::Result<()> {
@@ -63,16 +56,16 @@ fn kinds(rt: &impl Print, t: &[u32; 99]) -> io::Result<()> {
     text_with(rt, t, 27, 7, 3)?;
     text_with(rt, t, 27, 8, 3)?;
     text_with(rt, t, 27, 11, 3)?;
-    text_with(rt, t, 27, 4294967295, 3)
+    text_with(rt, t, 27, u32::MAX, 3)
 }
 
 fn spans(rt: &impl Print, t: &[u32; 99]) -> io::Result<()> {
-    text_with(rt, t, 28, 4294967295, 3)?;
+    text_with(rt, t, 28, u32::MAX, 3)?;
     text_with(rt, t, 29, 0, 3)?;
     text_with(rt, t, 30, 0, 3)?;
     text_with(rt, t, 30, 4, 3)?;
     text_with(rt, t, 30, 5, 3)?;
-    text_with(rt, t, 30, 4294967295, 3)
+    text_with(rt, t, 30, u32::MAX, 3)
 }
 
 fn ends(rt: &impl Print, t: &[u32; 99]) -> io::Result<()> {
@@ -80,9 +73,9 @@ fn ends(rt: &impl Print, t: &[u32; 99]) -> io::Result<()> {
     text_with(rt, t, 31, 1, 3)?;
     text_with(rt, t, 31, 11, 3)?;
     text_with(rt, t, 31, 12, 3)?;
-    text_with(rt, t, 31, 4294967295, 3)?;
-    text_with(rt, t, 32, 4294967295, 3)?;
-    text_with(rt, t, 33, 4294967295, 3)?;
-    text_with(rt, t, 34, 4294967295, 3)?;
-    text_with(rt, t, 35, 4294967295, 3)
+    text_with(rt, t, 31, u32::MAX, 3)?;
+    text_with(rt, t, 32, u32::MAX, 3)?;
+    text_with(rt, t, 33, u32::MAX, 3)?;
+    text_with(rt, t, 34, u32::MAX, 3)?;
+    text_with(rt, t, 35, u32::MAX, 3)
 }

@@ -1,7 +1,8 @@
 // A question asked, and its line.
-use integers::Compared;
+use integers::NotInt;
 use language::Row;
-use questions::Found;
+use questions::BadRow;
+use std::cmp::Ordering;
 use std::io;
 
 pub fn say(rt: &impl Print, word: &[u8]) -> io::Result<()> {
@@ -52,21 +53,18 @@ pub fn find(
     say(rt, key)?;
     say(rt, b"' ")?;
     match questions::find(table, rows, room, Row(object), key) {
-        Found::At(row) => {
-            let r = row.0;
-            reply(rt, 0, r)
-        }
-        Found::Missing => reply(rt, 10, 0),
-        Found::BadRow => reply(rt, 9, 0),
+        Ok(Some(row)) => reply(rt, 0, row.0),
+        Ok(None) => reply(rt, 10, 0),
+        Err(BadRow) => reply(rt, 9, 0),
     }
 }
 
-pub fn verdict(rt: &impl Print, c: Compared) -> io::Result<()> {
-    match c {
-        Compared::Less => say(rt, b"-> 0 -1\n"),
-        Compared::Equal => say(rt, b"-> 0 0\n"),
-        Compared::Greater => say(rt, b"-> 0 1\n"),
-        Compared::NotInt => say(rt, b"-> 11 0\n"),
+pub fn verdict(rt: &impl Print, order: Result<Ordering, NotInt>) -> io::Result<()> {
+    match order {
+        Ok(Ordering::Less) => say(rt, b"-> 0 -1\n"),
+        Ok(Ordering::Equal) => say(rt, b"-> 0 0\n"),
+        Ok(Ordering::Greater) => say(rt, b"-> 0 1\n"),
+        Err(NotInt) => say(rt, b"-> 11 0\n"),
     }
 }
 

@@ -1,4 +1,6 @@
 // A good table, and the questions asked of it, whole or with one word changed.
+ghost use Rattle.std.specs.Prelude.{◌<◌};
+
 use super::show;
 use super::show::{number, say};
 use language::WIDTH;
@@ -6,20 +8,12 @@ use std::io;
 
 pub const ROWS: usize = 11;
 
-pub const MOST: usize = 18446744073709551615;
+pub const MOST: usize = usize::MAX;
 
-fn put(t: &mut [u32; 99], r: usize, row: [u32; 9]) {
-    if r < 11 {
-        t[WIDTH * r] = row[0];
-        t[WIDTH * r + 1] = row[1];
-        t[WIDTH * r + 2] = row[2];
-        t[WIDTH * r + 3] = row[3];
-        t[WIDTH * r + 4] = row[4];
-        t[WIDTH * r + 5] = row[5];
-        t[WIDTH * r + 6] = row[6];
-        t[WIDTH * r + 7] = row[7];
-        t[WIDTH * r + 8] = row[8];
-    }
+fn put(t: &mut [u32; 99], r: usize, row: [u32; 9])
+    requires { r < 11 }
+{
+    t[WIDTH * r..WIDTH * r + WIDTH].copy_from_slice(&row);
 }
 
 // The rows of `{a: 1, bc: [22, -3], ab: {a: null}}`.
@@ -79,13 +73,9 @@ pub fn find_with(
     find(rt, &d, 0, key)
 }
 
-fn wide(x: u32) -> usize {
-    x as usize
-}
-
 fn word(rt: &impl Print, at: usize, value: u32) -> io::Result<()> {
     say(rt, b"word ")?;
     number(rt, at)?;
     say(rt, b"is ")?;
-    number(rt, wide(value))
+    number(rt, value as usize)
 }

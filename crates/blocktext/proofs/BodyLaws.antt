@@ -16,11 +16,11 @@ use Rattle.language.specs.Answered.{limit}
 use Rattle.rooms.specs.Contract.{columns}
 use Rattle.characters.specs.Reads.{Skips}
 use Rattle.characters.specs.Takes.{take_next, take_byte, take_other, take_inside}
-use Rattle.characters.specs.declared.Skip.{Skip}
-use Rattle.characters.specs.declared.Skip.TheVariants.{End, Bad}
+use Rattle.characters.specs.Reads.{Skip}
+use Rattle.std.specs.declared.result.Result.{Result}
+use Rattle.std.specs.declared.result.Result.TheVariants.{Err, Ok}
 use Rattle.blocktext.specs.declared.body.Seen.{Seen}
-use Rattle.blocktext.specs.declared.body.Seen.TheVariants.{Empty, Written, Over, Refused}
-use Rattle.blocktext.specs.declared.body.Extent.TheVariants.{Whole, Broken}
+use Rattle.blocktext.specs.declared.body.Seen.TheVariants.{Empty, Written, Over}
 use Rattle.blocktext.specs.Body.{end_blank}
 use Rattle.blocktext.specs.TextLines.{goes_on, body_line_r, body_r, body_line_exact}
 use Rattle.blocktext.specs.Going.{Going, going_first, going_over, going_bad, going_on}
@@ -31,27 +31,27 @@ use Rattle.blocktext.proofs.LineLaws.{spaced_of}
 
 -- ---- one line
 module _ (doc : List ℕ) (col a : ℕ) (g : Skip) (t : Skips doc a (byte_r (is (only 10)) a (drop a doc)) g) where
-  pub see_empty : (n : ℕ) → g ≡ End n → Sees doc col a (Empty n)
+  pub see_empty : (n : ℕ) → g ≡ Ok n → Sees doc col a (Ok (Empty n))
   unfolding Sees
   see_empty n z =
       sees_blank doc col a n (take_next doc a 10 (omega arith) g t n z) (sym (take_byte doc a 10 (omega arith) g t n z)) (take_inside doc a 10 (omega arith) g t n z)
 
-  module _ (p : ℕ) (z : g ≡ Bad p) (inside : a ≤ length doc) (s : ℕ) (q : s ≡ run_end (only 32) doc a) where
+  module _ (p : ℕ) (z : g ≡ Err p) (inside : a ≤ length doc) (s : ℕ) (q : s ≡ run_end (only 32) doc a) where
     dark : peek doc a ≡ 10 → ⊥
     dark = take_other doc a 10 (omega arith) g t p z
 
     sp : Spaced doc a s
     sp = spaced_of doc a s inside q
 
-    pub see_over : s - a ≤ col → Sees doc col a (Over s)
+    pub see_over : s - a ≤ col → Sees doc col a (Ok (Over s))
     unfolding Sees
     see_over l = sees_none doc col a dark s sp (omega (arith, sp.from))
 
-    pub see_text : (r : Skip) (e : ℕ) → col < s - a → TextAt doc s r → r ≡ End e → Sees doc col a (Written s e)
+    pub see_text : (r : Skip) (e : ℕ) → col < s - a → TextAt doc s r → r ≡ Ok e → Sees doc col a (Ok (Written s e))
     unfolding Sees TextAt
     see_text r e l x y = sees_text doc col a dark s sp (omega (arith, sp.from)) e (rw y at x)
 
-    pub see_bad : (r : Skip) (u : ℕ) → col < s - a → TextAt doc s r → r ≡ Bad u → Sees doc col a (Refused u)
+    pub see_bad : (r : Skip) (u : ℕ) → col < s - a → TextAt doc s r → r ≡ Err u → Sees doc col a (Err u)
     unfolding Sees TextAt
     see_bad r u l x y = sees_bad doc col a dark s sp (omega (arith, sp.from)) u (rw y at x)
 
@@ -85,30 +85,30 @@ body_first doc e col l m n =
       low = n;
     }
 
-module _ (doc : List ℕ) (e col a last least : ℕ) (i : Bodying doc e col a last least) (r : Seen) (x : Sees doc col a r) where
+module _ (doc : List ℕ) (e col a last least : ℕ) (i : Bodying doc e col a last least) (r : Result Seen ℕ) (x : Sees doc col a r) where
   line_tame : Tame 1 (body_line_r col)
   line_tame = (body_line_exact col).moves
 
-  blank_of : (n : ℕ) → r ≡ Empty n → SeenBlank doc col a n
+  blank_of : (n : ℕ) → r ≡ Ok (Empty n) → SeenBlank doc col a n
   unfolding Sees
   blank_of n z = rw z at x
 
-  text_of : (s f : ℕ) → r ≡ Written s f → SeenText doc col a s f
+  text_of : (s f : ℕ) → r ≡ Ok (Written s f) → SeenText doc col a s f
   unfolding Sees
   text_of s f z = rw z at x
 
-  none_of : (far : ℕ) → r ≡ Over far → SeenNone doc col a far
+  none_of : (far : ℕ) → r ≡ Ok (Over far) → SeenNone doc col a far
   unfolding Sees
   none_of far z = rw z at x
 
-  bad_of : (p : ℕ) → r ≡ Refused p → SeenBad doc col a p
+  bad_of : (p : ℕ) → r ≡ Err p → SeenBad doc col a p
   unfolding Sees
   bad_of p z = rw z at x
 
-  pub blank_further : (n : ℕ) → r ≡ Empty n → length doc - n < length doc - a
+  pub blank_further : (n : ℕ) → r ≡ Ok (Empty n) → length doc - n < length doc - a
   blank_further n z = let y = blank_of n z in omega (arith, y.next, y.blank.inside)
 
-  pub body_blank : (n : ℕ) → r ≡ Empty n → Bodying doc e col n last least
+  pub body_blank : (n : ℕ) → r ≡ Ok (Empty n) → Bodying doc e col n last least
   body_blank n z =
       let y = blank_of n z in
       rw
@@ -124,7 +124,7 @@ module _ (doc : List ℕ) (e col a last least : ℕ) (i : Bodying doc e col a la
         low = i.low;
       })
 
-  module _ (s f : ℕ) (z : r ≡ Written s f) where
+  module _ (s f : ℕ) (z : r ≡ Ok (Written s f)) where
     pub text_deep : a + col + 1 ≤ s
     text_deep = omega (arith, (text_of s f z).text.deep)
 
@@ -151,7 +151,7 @@ module _ (doc : List ℕ) (e col a last least : ℕ) (i : Bodying doc e col a la
           low = i.low;
         }
 
-  pub body_whole : (far : ℕ) → r ≡ Over far → BodyAt doc e col (Whole a far last least)
+  pub body_whole : (far : ℕ) → r ≡ Ok (Over far) → BodyAt doc e col (Ok (record { at = a; far = far; last = last; least = least }))
   unfolding BodyAt body_r
   body_whole far z =
       let y = none_of far z in
@@ -165,7 +165,7 @@ module _ (doc : List ℕ) (e col a last least : ℕ) (i : Bodying doc e col a la
         ahead = omega (arith, y.reach);
       }
 
-  pub body_broken : (p : ℕ) → r ≡ Refused p → BodyAt doc e col (Broken p)
+  pub body_broken : (p : ℕ) → r ≡ Err p → BodyAt doc e col (Err p)
   unfolding BodyAt body_r
   body_broken p z = let y = bad_of p z in going_bad (goes_on col) (lead col) (body_line_r col) doc (e + 1) a i.lines p y.inside y.look y.is i.going
 

@@ -18,8 +18,8 @@ use Rattle.exact.specs.Block.{lead}
 use Rattle.exact.specs.Place.{peek, peek_in, run_end, byte_is, byte_not, alt_is, alt_not}
 use Rattle.language.specs.Kind.{BYTES}
 use Rattle.language.specs.BlockText.{part, part_text, part_end}
-use Rattle.characters.specs.declared.Skip.{Skip}
-use Rattle.characters.specs.declared.Skip.TheVariants.{End}
+use Rattle.characters.specs.Reads.{Skip}
+use Rattle.std.specs.declared.result.Result.TheVariants.{Err, Ok}
 use Rattle.characters.specs.Reads.{Skips}
 use Rattle.characters.specs.Comments.{comment_r, optional_comment_r}
 use Rattle.language.specs.Tree.{unescaped, leaf}
@@ -27,12 +27,9 @@ use Rattle.strings.specs.Joining.{none_then}
 use Rattle.blocktext.proofs.StringLaws.{fmap_same}
 use Rattle.rooms.specs.Told.{ESCAPE, spot, tally, told, spot_on, tally_on}
 use Rattle.rooms.specs.declared.Cursor.{Cursor}
-use Rattle.rooms.specs.declared.Ans.{Ans}
-use Rattle.rooms.specs.declared.Ans.TheVariants.{Ok, No}
-use Rattle.rooms.specs.declared.Far.{Far}
-use Rattle.rooms.specs.declared.Far.TheVariants.{Upto, Not}
-use Rattle.rooms.specs.declared.Block.{Block}
-use Rattle.rooms.specs.declared.Block.TheVariants.{Bad}
+use Rattle.rooms.specs.Contract.{Ans}
+use Rattle.rooms.specs.Contract.{Far}
+use Rattle.rooms.specs.Contract.{Block}
 use Rattle.rooms.specs.Contract.{onward, Takes, Ready, Blocks}
 use Rattle.rooms.specs.Laws.{take_next, take_byte, take_place, take_other, not_block}
 use Rattle.strings.specs.Hexes.{Paired, PairsAt}
@@ -70,14 +67,14 @@ module _ (doc : List ℕ) (c : Cursor) (b : ℕ) (k : b ≡ peek doc c.at) where
             scant = omega (arith, y.from);
             room = refl;
           }
-      go (No p) y = bare_open doc c.at (sym k ∙ h) p y
+      go (Err p) y = bare_open doc c.at (sym k ∙ h) p y
 
   module _ (h : b ≡ 35 → ⊥) (f : Far) (T T' : List ℕ) (x : PairsAt doc c f T T') where
-    pub rest_bad : (p : ℕ) → f ≡ Not p → PartAt doc c (hex_rest_r c.at (drop c.at doc)) (No p) T T'
+    pub rest_bad : (p : ℕ) → f ≡ Err p → PartAt doc c (hex_rest_r c.at (drop c.at doc)) (Err p) T T'
     unfolding PairsAt PartAt
     rest_bad p z = pairs_bad doc c.at (λ q. h (k ∙ q)) p (rw z at x)
 
-    module _ (n : Cursor) (far : ℕ) (z : f ≡ Upto n far) where
+    module _ (n : Cursor) (far : ℕ) (z : f ≡ Ok (n, far)) where
       paired : Paired doc c n far T T'
       unfolding PairsAt
       paired = rw z at x
@@ -109,7 +106,7 @@ module _ (doc : List ℕ) (c : Cursor) (b : ℕ) (k : b ≡ peek doc c.at) where
                 scant = omega (arith, y.from, t.scant);
                 room = t.room;
               }
-          go (No p) y = pairs_open doc c.at (λ q. h (k ∙ q)) paired.texted.value n.at far paired.texted.is paired.far_is p y
+          go (Err p) y = pairs_open doc c.at (λ q. h (k ∙ q)) paired.texted.value n.at far paired.texted.is paired.far_is p y
 
 -- ---- hex lines below the LF at e
 module _ (doc : List ℕ) (c : Cursor) (col e x : ℕ) where
@@ -148,8 +145,8 @@ module _ (doc : List ℕ) (c : Cursor) (col e x : ℕ) where
           record { small = i.ready.small; inside = sp.inside; few_rows = omega (arith, sp.from); few_text = omega (arith, sp.from); few_escapes = omega (arith, sp.from, i.thin) }
 
       module _ (a : Ans) (T' : List ℕ) (p : PartAt doc (record { at = s; row = 0; text = n.text }) (hex_rest_r s (drop s doc)) a T T') where
-        pub hex_stop : (parent u : ℕ) (R R' : List ℕ) → a ≡ No u
-            → Furthers doc c parent BYTES (hex_lines_r col (e + 1) (drop (e + 1) doc)) (part_end e) part_text (e + 1) x (Bad u) R R' T₀ T'
+        pub hex_stop : (parent u : ℕ) (R R' : List ℕ) → a ≡ Err u
+            → Furthers doc c parent BYTES (hex_lines_r col (e + 1) (drop (e + 1) doc)) (part_end e) part_text (e + 1) x (Err u) R R' T₀ T'
         unfolding hex_lines_r
         hex_stop parent u R R' z =
             part_stop (deeper col) (lead col) (hex_line_r col) doc c e x n T₀ T i parent BYTES u (hex_rest_r s (drop s doc)) (record { at = s; row = 0; text = n.text }) a R R' T'
@@ -182,7 +179,7 @@ module _ (doc : List ℕ) (c : Cursor) (col : ℕ) (i : Asked doc c 62 col) (a :
   unfolding open_bytes_r
   open_tail = rw first_next (ap (λ o. bind (bind o (λ _. word_r (32 ∷ []))) (λ _. open_bytes_rest_r col c.at)) (byte_is doc c.at 62 (peek doc c.at) (omega arith) refl i.first))
 
-  pub bytes_bad : (p : ℕ) → g ≡ No p → (parent : ℕ) (R T : List ℕ) → Blocks doc c parent (open_bytes_r col c.at (drop c.at doc)) (Bad p) R R T T
+  pub bytes_bad : (p : ℕ) → g ≡ Err p → (parent : ℕ) (R T : List ℕ) → Blocks doc c parent (open_bytes_r col c.at (drop c.at doc)) (Err p) R R T T
   bytes_bad p w parent R T =
       not_block doc c parent _ R R T T p
       (open_tail
@@ -214,7 +211,7 @@ module _ (doc : List ℕ) (c : Cursor) (col : ℕ) (i : Asked doc c 62 col) (a :
         (open_tail ∙ ap (λ o. bind (bind o (λ _. word_r [])) (λ _. open_bytes_rest_r col c.at)) (byte_is doc n.at 32 (peek doc n.at) (omega arith) refl (sym (take_byte doc n 32 g y m w))))
 
     module _ (r : Ans) (T T₁ : List ℕ) (p : PartAt doc (record { at = m.at; row = 0; text = m.text }) (hex_rest_r m.at (drop m.at doc)) r T T₁) where
-      pub bytes_stop : (u : ℕ) → r ≡ No u → (parent : ℕ) (R : List ℕ) → Blocks doc c parent (open_bytes_r col c.at (drop c.at doc)) (Bad u) R R T T₁
+      pub bytes_stop : (u : ℕ) → r ≡ Err u → (parent : ℕ) (R : List ℕ) → Blocks doc c parent (open_bytes_r col c.at (drop c.at doc)) (Err u) R R T T₁
       unfolding PartAt
       bytes_stop u x parent R =
           let q : hex_rest_r m.at (drop m.at doc) ≡ bad u = rw x at p in
@@ -286,20 +283,20 @@ module _ (doc : List ℕ) (n : Cursor) (a : Ans) (t : Takes doc n 32 a) where
       go : (r : Ans) → Closing doc m.at (comment_r m.at (drop m.at doc)) n r → Closing doc n.at (leader_comment_r n.at (drop n.at doc)) n r
       go (Ok e) y =
           record { value = y.value; is = same ∙ y.is; from = omega (arith, y.from, place); inside = y.inside; feed = y.feed; row = y.row; text = y.text }
-      go (No p) (no_end y) = no_end (same ∙ y)
-      go (No p) (no_close v y q) = no_close v (same ∙ y) q
+      go (Err p) (no_end y) = no_end (same ∙ y)
+      go (Err p) (no_close v y q) = no_close v (same ∙ y) q
 
-  pub leader_none : (p : ℕ) → a ≡ No p → Ready doc n → (r : Ans) → r ≡ closes doc n (End p) → Closing doc n.at (leader_comment_r n.at (drop n.at doc)) n r
+  pub leader_none : (p : ℕ) → a ≡ Err p → Ready doc n → (r : Ans) → r ≡ closes doc n (Ok p) → Closing doc n.at (leader_comment_r n.at (drop n.at doc)) n r
   unfolding leader_comment_r Skips
   leader_none p y i r z =
-      closing doc n.at (leader_comment_r n.at (drop n.at doc)) n (End n.at) r
+      closing doc n.at (leader_comment_r n.at (drop n.at doc)) n (Ok n.at) r
       (record {
         value = [];
         is = alt_not doc n.at 32 (peek doc n.at) (omega arith) refl (seq_r (byte_r (is (only 32))) λ _. comment_r) (ret_r []) (take_other doc n 32 a t p y);
         behind = omega arith;
         inside = i.inside;
       })
-      (z ∙ ap (λ q. closes doc n (End q)) (take_place doc n 32 a t p y))
+      (z ∙ ap (λ q. closes doc n (Ok q)) (take_place doc n 32 a t p y))
 
 pub ruleset leading = (leader_comment, leader_none, rules)
 
@@ -312,7 +309,7 @@ module _ (doc : List ℕ) (c : Cursor) (col e : ℕ) (i : Begun doc c e c.text c
   first_from = first_sp.from
 
   pub first_shallow : (parent : ℕ) (R T : List ℕ) → s - (e + 1) ≤ col
-      → Furthers doc c parent BYTES (plus_r (hex_line_r col) (hex_lines_r col) (e + 1) (drop (e + 1) doc)) (part_end 0) part_text (e + 1) c.text (Bad s) R R T T
+      → Furthers doc c parent BYTES (plus_r (hex_line_r col) (hex_lines_r col) (e + 1) (drop (e + 1) doc)) (part_end 0) part_text (e + 1) c.text (Err s) R R T T
   first_shallow parent R T l =
       let k : s ≤ e + 1 + col = omega (arith, first_sp.from) in
       stopped s refl
@@ -331,8 +328,8 @@ module _ (doc : List ℕ) (c : Cursor) (col e : ℕ) (i : Begun doc c e c.text c
         record { small = i.ready.small; inside = first_sp.inside; few_rows = omega (arith, first_sp.from); few_text = omega (arith, first_sp.from); few_escapes = omega (arith, first_sp.from, i.ready.few_escapes) }
 
     module _ (a : Ans) (T T₁ : List ℕ) (p : PartAt doc (record { at = s; row = 0; text = c.text }) (hex_rest_r s (drop s doc)) a T T₁) where
-      pub first_stop : (parent u : ℕ) (R : List ℕ) → a ≡ No u
-          → Furthers doc c parent BYTES (plus_r (hex_line_r col) (hex_lines_r col) (e + 1) (drop (e + 1) doc)) (part_end 0) part_text (e + 1) c.text (Bad u) R R T T₁
+      pub first_stop : (parent u : ℕ) (R : List ℕ) → a ≡ Err u
+          → Furthers doc c parent BYTES (plus_r (hex_line_r col) (hex_lines_r col) (e + 1) (drop (e + 1) doc)) (part_end 0) part_text (e + 1) c.text (Err u) R R T T₁
       unfolding PartAt
       first_stop parent u R z =
           let y : hex_rest_r s (drop s doc) ≡ bad u = rw z at p in
@@ -391,7 +388,7 @@ module _ (doc : List ℕ) (c : Cursor) (col : ℕ) (i : Asked doc c 62 col) (g :
   property_tail = rw place (ap (λ o. bind o (λ _. property_bytes_rest_r col c.at)) (byte_is doc c.at 62 (peek doc c.at) (omega arith) refl i.first))
 
   module _ (a : Ans) (x : Closing doc m.at (leader_comment_r m.at (drop m.at doc)) m a) where
-    pub property_stop : (u : ℕ) → a ≡ No u → (parent : ℕ) (R T : List ℕ) → Blocks doc c parent (property_bytes_r col c.at (drop c.at doc)) (Bad u) R R T T
+    pub property_stop : (u : ℕ) → a ≡ Err u → (parent : ℕ) (R T : List ℕ) → Blocks doc c parent (property_bytes_r col c.at (drop c.at doc)) (Err u) R R T T
     unfolding Closing
     property_stop u z parent R T = not_block doc c parent _ R R T T u (property_tail ∙ by (rw z at x))
       where

@@ -2,7 +2,7 @@
 use mathlib.Core.Path.{◌≡◌, refl, sym, ap, subst, ◌∙◌}
 use mathlib.Core.List.{List, [], ◌∷◌}
 use mathlib.Core.Bool.{Bool, true, false}
-use Prim.Native.Nat.{ℕ, zero, suc, ◌+◌, ◌-◌, ◌≤◌, ◌<◌}
+use Prim.Native.Nat.{ℕ, zero, suc, ◌+◌, ◌≤◌, ◌<◌}
 use native.Mathlib.Omega.{arith}
 use lib.ListN.{length, drop}
 use lib.Dec.{lit<}
@@ -21,10 +21,9 @@ use Rattle.language.specs.BlockText.{part, part_text, part_end}
 use Rattle.strings.specs.Joining.{itself}
 use Rattle.rooms.specs.Told.{ESCAPE, spot, tally, spot_on, tally_on}
 use Rattle.rooms.specs.declared.Cursor.{Cursor}
-use Rattle.rooms.specs.declared.Ans.{Ans}
-use Rattle.rooms.specs.declared.Ans.TheVariants.{Ok, No}
-use Rattle.rooms.specs.declared.Block.{Block}
-use Rattle.rooms.specs.declared.Block.TheVariants.{Bad}
+use Rattle.rooms.specs.Contract.{Ans}
+use Rattle.std.specs.declared.result.Result.TheVariants.{Err, Ok}
+use Rattle.rooms.specs.Contract.{Block}
 use Rattle.rooms.specs.Contract.{columns, Takes, Ready, Blocks}
 use Rattle.rooms.specs.Laws.{take_byte, take_place, take_other, not_block}
 use Rattle.strings.specs.Contract.{Texted, Texts}
@@ -35,28 +34,27 @@ use Rattle.blocktext.specs.LineLooks.{line_closed, line_open}
 use Rattle.blocktext.specs.Further.{further_r}
 use Rattle.blocktext.specs.Joined.{quotes, joined_line_r, joined_line_ll, joined_tree, joined_more_r, joined_r}
 use Rattle.blocktext.specs.NextLine.{NextAt, Follows, Ceases, next_short, next_other, next_quote}
-use Rattle.blocktext.specs.declared.quotes.Next.{Next}
-use Rattle.blocktext.specs.declared.quotes.Next.TheVariants.{Line, Over}
+use Rattle.blocktext.specs.NextLine.{Next}
 use Rattle.blocktext.specs.Leaves.{Begun, Rowed, Furthers, stopped, block_of}
 use Rattle.blocktext.specs.Parts.{Parted, PartAt, further_plus}
 use Rattle.blocktext.proofs.PartLaws.{Parting, part_on, part_done, part_stop}
 
 -- ---- where a further line begins
 module _ (doc : List ℕ) (col a i : ℕ) (h : i ≡ lead col (drop a doc)) where
-  pub see_short : i < col → NextAt doc col a (Over (a + i))
+  pub see_short : i < col → NextAt doc col a (Err (a + i))
   unfolding NextAt
   see_short l = next_short doc col a i h l
 
   module _ (le : i ≤ col) (l : col ≤ i) (b : ℕ) (k : b ≡ peek doc (a + i)) where
-    pub see_double : b ≡ 34 → NextAt doc col a (Line (a + i))
+    pub see_double : b ≡ 34 → NextAt doc col a (Ok (a + i))
     unfolding NextAt
     see_double e = next_quote doc col a i h le l (ap (is quotes) (sym k ∙ e)) (peek_in doc (a + i) b k (omega arith))
 
-    pub see_single : b ≡ 39 → NextAt doc col a (Line (a + i))
+    pub see_single : b ≡ 39 → NextAt doc col a (Ok (a + i))
     unfolding NextAt
     see_single e = next_quote doc col a i h le l (ap (is quotes) (sym k ∙ e)) (peek_in doc (a + i) b k (omega arith))
 
-    pub see_none : (b ≡ 34 → ⊥) → (b ≡ 39 → ⊥) → NextAt doc col a (Over (a + i))
+    pub see_none : (b ≡ 34 → ⊥) → (b ≡ 39 → ⊥) → NextAt doc col a (Err (a + i))
     unfolding NextAt
     see_none n m = next_other doc col a i h le l (by (is quotes (peek doc (a + i))) refl)
       where
@@ -80,7 +78,7 @@ module _ (doc : List ℕ) (col a i : ℕ) (h : i ≡ lead col (drop a doc)) wher
 
 -- ---- one line
 module _ (doc : List ℕ) (c : Cursor) (g : Ans) (T T' : List ℕ) (x : Texts doc c (quoted_r c.at (drop c.at doc)) g T T') where
-  pub line_bad : (p : ℕ) → g ≡ No p → PartAt doc c (joined_line_r c.at (drop c.at doc)) (No p) T T'
+  pub line_bad : (p : ℕ) → g ≡ Err p → PartAt doc c (joined_line_r c.at (drop c.at doc)) (Err p) T T'
   unfolding Texts PartAt joined_line_r
   line_bad p z = ap (λ o. bind o (λ s. line_end_r (part s))) (rw z at x)
 
@@ -89,7 +87,7 @@ module _ (doc : List ℕ) (c : Cursor) (g : Ans) (T T' : List ℕ) (x : Texts do
     unfolding Texts
     texted = rw z at x
 
-    pub line_not : (p : ℕ) → a ≡ No p → PartAt doc c (joined_line_r c.at (drop c.at doc)) (No p) T T'
+    pub line_not : (p : ℕ) → a ≡ Err p → PartAt doc c (joined_line_r c.at (drop c.at doc)) (Err p) T T'
     unfolding PartAt joined_line_r
     line_not p h =
         ap (λ o. bind o (λ s. line_end_r (part s))) texted.is ∙ (line_open (part texted.value) doc n.at (take_other doc n 10 a k p h) ∙ ap bad (sym (take_place doc n 10 a k p h)))
@@ -129,14 +127,14 @@ module _ (doc : List ℕ) (c : Cursor) (col e x : ℕ) where
   JoinedLining n T₀ T = Parting (ind (is quotes) col) (lead col) (indented_r col joined_line_r) doc c e x n T₀ T
 
   module _ (n : Cursor) (T₀ T : List ℕ) (i : JoinedLining n T₀ T) (g : Next) (y : NextAt doc col (n.at + 1) g) where
-    pub lines_done : (parent far : ℕ) (b : Block) (R R' : List ℕ) → g ≡ Over far → Rowed c parent STRING (n.at + 1) n.text far n.at b R R'
+    pub lines_done : (parent far : ℕ) (b : Block) (R R' : List ℕ) → g ≡ Err far → Rowed c parent STRING (n.at + 1) n.text far n.at b R R'
         → Furthers doc c parent STRING (further_r quotes col joined_line_r (e + 1) (drop (e + 1) doc)) (part_end e) part_text (e + 1) x b R R' T₀ T
     unfolding NextAt
     lines_done parent far b R R' z w =
         let q : Ceases doc col (n.at + 1) far = rw z at y in
         part_done (ind (is quotes) col) (lead col) (indented_r col joined_line_r) doc c e x n T₀ T i parent STRING far b R R' q.look q.reach w
 
-    module _ (s : ℕ) (z : g ≡ Line s) where
+    module _ (s : ℕ) (z : g ≡ Ok s) where
       follows : Follows doc col (n.at + 1) s
       unfolding NextAt
       follows = rw z at y
@@ -149,8 +147,8 @@ module _ (doc : List ℕ) (c : Cursor) (col e x : ℕ) where
           record { small = i.ready.small; inside = omega (arith, follows.inside); few_rows = omega (arith, follows.from); few_text = omega (arith, follows.from); few_escapes = omega (arith, follows.from, i.thin) }
 
       module _ (a : Ans) (T' : List ℕ) (p : PartAt doc (record { at = s; row = 0; text = n.text }) (joined_line_r s (drop s doc)) a T T') where
-        pub lines_stop : (parent u : ℕ) (R R' : List ℕ) → a ≡ No u
-            → Furthers doc c parent STRING (further_r quotes col joined_line_r (e + 1) (drop (e + 1) doc)) (part_end e) part_text (e + 1) x (Bad u) R R' T₀ T'
+        pub lines_stop : (parent u : ℕ) (R R' : List ℕ) → a ≡ Err u
+            → Furthers doc c parent STRING (further_r quotes col joined_line_r (e + 1) (drop (e + 1) doc)) (part_end e) part_text (e + 1) x (Err u) R R' T₀ T'
         lines_stop parent u R R' w =
             part_stop (ind (is quotes) col) (lead col) (indented_r col joined_line_r) doc c e x n T₀ T i parent STRING u (joined_line_r s (drop s doc)) (record { at = s; row = 0; text = n.text })
             a R R' T' follows.look follows.is (omega (arith, follows.from, follows.inside)) p w
@@ -168,15 +166,15 @@ module _ (doc : List ℕ) (c : Cursor) (col e x : ℕ) where
 
 -- ---- at least one
 module _ (doc : List ℕ) (c : Cursor) (col e x : ℕ) (i : Begun doc c e x col) (g : Next) (y : NextAt doc col (e + 1) g) where
-  pub more_none : (parent far : ℕ) (R T : List ℕ) → g ≡ Over far
-      → Furthers doc c parent STRING (plus_r (indented_r col joined_line_r) (further_r quotes col joined_line_r) (e + 1) (drop (e + 1) doc)) (part_end 0) part_text (e + 1) x (Bad far) R R T T
+  pub more_none : (parent far : ℕ) (R T : List ℕ) → g ≡ Err far
+      → Furthers doc c parent STRING (plus_r (indented_r col joined_line_r) (further_r quotes col joined_line_r) (e + 1) (drop (e + 1) doc)) (part_end 0) part_text (e + 1) x (Err far) R R T T
   unfolding NextAt
   more_none parent far R T z =
       let q : Ceases doc col (e + 1) far = rw z at y in
       stopped far refl
       (ap (λ o. bind o (λ v. map_r (v ∷◌) (further_r quotes col joined_line_r))) (ind_fails (is quotes) joined_line_r line_shuts col (e + 1) (drop (e + 1) doc) q.look ∙ ap bad (sym q.reach)))
 
-  module _ (s : ℕ) (z : g ≡ Line s) where
+  module _ (s : ℕ) (z : g ≡ Ok s) where
     there : Follows doc col (e + 1) s
     unfolding NextAt
     there = rw z at y
@@ -189,8 +187,8 @@ module _ (doc : List ℕ) (c : Cursor) (col e x : ℕ) (i : Begun doc c e x col)
         record { small = i.ready.small; inside = omega (arith, there.inside); few_rows = omega (arith, there.from); few_text = omega (arith, there.from); few_escapes = omega (arith, there.from, i.scant) }
 
     module _ (a : Ans) (T T₁ : List ℕ) (p : PartAt doc (record { at = s; row = 0; text = x }) (joined_line_r s (drop s doc)) a T T₁) where
-      pub more_stop : (parent u : ℕ) (R : List ℕ) → a ≡ No u
-          → Furthers doc c parent STRING (plus_r (indented_r col joined_line_r) (further_r quotes col joined_line_r) (e + 1) (drop (e + 1) doc)) (part_end 0) part_text (e + 1) x (Bad u) R R T T₁
+      pub more_stop : (parent u : ℕ) (R : List ℕ) → a ≡ Err u
+          → Furthers doc c parent STRING (plus_r (indented_r col joined_line_r) (further_r quotes col joined_line_r) (e + 1) (drop (e + 1) doc)) (part_end 0) part_text (e + 1) x (Err u) R R T T₁
       unfolding PartAt
       more_stop parent u R w =
           let q : joined_line_r s (drop s doc) ≡ bad u = rw w at p in
@@ -237,7 +235,7 @@ firm_ok {X} o (suc q) v a t f h = absurd (no (subst (λ (u : Out X). Firm u) h f
 
 module _ (doc : List ℕ) (c : Cursor) (col : ℕ) (i : Ready doc c) (low : col ≤ columns) (a : Ans) (T T₁ : List ℕ)
     (p : PartAt doc (record { at = c.at; row = 0; text = c.text }) (joined_line_r c.at (drop c.at doc)) a T T₁) where
-  pub joined_stop : (parent u : ℕ) (R : List ℕ) → a ≡ No u → Blocks doc c parent (joined_r col c.at (drop c.at doc)) (Bad u) R R T T₁
+  pub joined_stop : (parent u : ℕ) (R : List ℕ) → a ≡ Err u → Blocks doc c parent (joined_r col c.at (drop c.at doc)) (Err u) R R T T₁
   unfolding PartAt joined_r
   joined_stop parent u R w =
       let q : joined_line_r c.at (drop c.at doc) ≡ bad u = rw w at p in

@@ -2,7 +2,7 @@
 use mathlib.Core.Path.{◌≡◌, refl, sym, ap, subst, ◌∙◌}
 use mathlib.Core.List.{List, [], ◌∷◌, ◌++◌}
 use mathlib.Core.Bool.{Bool, true, false}
-use Prim.Native.Nat.{ℕ, ◌+◌, ◌-◌, ◌≤◌, ◌<◌, ◌*◌}
+use Prim.Native.Nat.{ℕ, ◌+◌, ◌≤◌, ◌<◌, ◌*◌}
 use native.Mathlib.Nat.{add-zero}
 use native.Mathlib.Omega.{arith}
 use lib.ListN.{length, drop, length-append}
@@ -15,8 +15,8 @@ use Rattle.exact.specs.Block.{many_g}
 use Rattle.exact.specs.Place.{peek, peek_in}
 use Rattle.language.specs.Tree.{unlined, Tree, Decoded, ◌then◌, width, row_list}
 use Rattle.language.specs.BlockText.{Part, part, part_text, part_end}
-use Rattle.characters.specs.declared.Skip.{Skip}
-use Rattle.characters.specs.declared.Skip.TheVariants.{End}
+use Rattle.characters.specs.Reads.{Skip}
+use Rattle.std.specs.declared.result.Result.TheVariants.{Err, Ok}
 use Rattle.characters.specs.Reads.{Skips, Ends}
 use Rattle.characters.specs.Takes.{take_byte, take_place, take_other}
 use Rattle.blocktext.specs.Contract.{Asked}
@@ -24,10 +24,8 @@ use Rattle.strings.specs.Joining.{then_assoc, then_nil, none_then}
 use Rattle.rooms.specs.declared.Words.{Words}
 use Rattle.rooms.specs.Told.{ESCAPE, spot, tally, told, spot_on, tally_on}
 use Rattle.rooms.specs.declared.Cursor.{Cursor}
-use Rattle.rooms.specs.declared.Ans.{Ans}
-use Rattle.rooms.specs.declared.Ans.TheVariants.{Ok, No}
-use Rattle.rooms.specs.declared.Block.{Block}
-use Rattle.rooms.specs.declared.Block.TheVariants.{Bad, Done}
+use Rattle.rooms.specs.Contract.{Ans}
+use Rattle.rooms.specs.Contract.{Block}
 use Rattle.rooms.specs.Contract.{Takes, Ready, Small, Blocks}
 use Rattle.rooms.specs.Stores.{sets_append}
 use Rattle.blocktext.specs.Going.{Going, going_first, going_over, going_bad, going_on}
@@ -35,22 +33,22 @@ use Rattle.blocktext.specs.Leaves.{Begun, Rowed, Furthers, went, stopped}
 use Rattle.blocktext.specs.Parts.{closes, no_end, no_close, Closing, Parted, PartAt}
 
 -- ---- a leader whose first byte is known
-pub not_led : (doc : List ℕ) (c : Cursor) (b col : ℕ) → Asked doc c b col → (a : Ans) → Takes doc c b a → (p : ℕ) → a ≡ No p
-    → (parent : ℕ) (o : Out Tree) (R T : List ℕ) → Blocks doc c parent o (Bad p) R R T T
+pub not_led : (doc : List ℕ) (c : Cursor) (b col : ℕ) → Asked doc c b col → (a : Ans) → Takes doc c b a → (p : ℕ) → a ≡ Err p
+    → (parent : ℕ) (o : Out Tree) (R T : List ℕ) → Blocks doc c parent o (Err p) R R T T
 not_led doc c b col i a t p z parent o R T = absurd (Rattle.rooms.specs.Laws.take_other doc c b a t p z i.first)
 
 -- ---- an LF behind what was passed over
 module _ (doc : List ℕ) (n : Cursor) where
-  pub closes_bad : (g : Skip) (p : ℕ) → g ≡ Rattle.characters.specs.declared.Skip.TheVariants.Bad p → No p ≡ closes doc n g
+  pub closes_bad : (g : Skip) (p : ℕ) → g ≡ Err p → Err p ≡ closes doc n g
   unfolding closes
   closes_bad g p z = rw z refl
 
-  module _ (g : Skip) (e : ℕ) (z : g ≡ End e) (k : Skip) (t : Skips doc e (byte_r (is (only 10)) e (drop e doc)) k) where
-    pub closes_open : (p : ℕ) → k ≡ Rattle.characters.specs.declared.Skip.TheVariants.Bad p → No p ≡ closes doc n g
+  module _ (g : Skip) (e : ℕ) (z : g ≡ Ok e) (k : Skip) (t : Skips doc e (byte_r (is (only 10)) e (drop e doc)) k) where
+    pub closes_open : (p : ℕ) → k ≡ Err p → Err p ≡ closes doc n g
     unfolding closes
     closes_open p y = rw (z, take_place doc e 10 (omega arith) k t p y, only_no 10 (peek doc e) (take_other doc e 10 (omega arith) k t p y)) refl
 
-    pub closes_end : (m : ℕ) → k ≡ End m → Ok (record { at = e; row = n.row; text = n.text }) ≡ closes doc n g
+    pub closes_end : (m : ℕ) → k ≡ Ok m → Ok (record { at = e; row = n.row; text = n.text }) ≡ closes doc n g
     unfolding closes
     closes_end m y = rw (z, ← take_byte doc e 10 (omega arith) k t m y) refl
 
@@ -60,15 +58,15 @@ pub closing : {X : Type 0} (doc : List ℕ) (at : ℕ) (o : Out X) (n : Cursor) 
 unfolding Closing Skips closes
 closing doc at o n g r s z = subst (λ (q : Ans). Closing doc at o n q) (sym z) (go g s)
   where
-    by : (e : ℕ) → Ends doc at o e → (x : Bool) → is (only 10) (peek doc e) ≡ x → Closing doc at o n (pick x (Ok (record { at = e; row = n.row; text = n.text })) (No e))
+    by : (e : ℕ) → Ends doc at o e → (x : Bool) → is (only 10) (peek doc e) ≡ x → Closing doc at o n (pick x (Ok (record { at = e; row = n.row; text = n.text })) (Err e))
     by e i true y =
         let f : peek doc e ≡ 10 = only_eq 10 (peek doc e) y in
         record { value = i.value; is = i.is; from = i.behind; inside = peek_in doc e 10 (sym f) (omega arith); feed = f; row = refl; text = refl }
     by e i false y = no_close i.value i.is (λ f. clash (ap (is (only 10)) f ∙ only_is 10) y)
 
     go : (g : Skip) → Skips doc at o g → Closing doc at o n (closes doc n g)
-    go (End e) i = by e i (is (only 10) (peek doc e)) refl
-    go (Rattle.characters.specs.declared.Skip.TheVariants.Bad p) i = no_end i
+    go (Ok e) i = by e i (is (only 10) (peek doc e)) refl
+    go (Err p) i = no_end i
 
 -- ---- the parts, up to the LF at n so far
 pub record Parting (g : List ℕ → Bool) (w : List ℕ → ℕ) (r : Reader Part) (doc : List ℕ) (c : Cursor) (e x : ℕ) (n : Cursor) (T₀ T : List ℕ) : Type 0 where
@@ -180,7 +178,7 @@ module _ (g : List ℕ → Bool) (w : List ℕ → ℕ) (r : Reader Part) (doc :
         })
 
     pub part_stop : (parent kind p : ℕ) (o : Out Part) (d : Cursor) (a : Ans) (R R' T' : List ℕ) → g (drop (n.at + 1) doc) ≡ true → r (n.at + 1) (drop (n.at + 1) doc) ≡ o → n.at + 1 < length doc
-        → PartAt doc d o a T T' → a ≡ No p → Furthers doc c parent kind (many_g g w r (e + 1) (drop (e + 1) doc)) (part_end e) part_text (e + 1) x (Bad p) R R' T₀ T'
+        → PartAt doc d o a T T' → a ≡ Err p → Furthers doc c parent kind (many_g g w r (e + 1) (drop (e + 1) doc)) (part_end e) part_text (e + 1) x (Err p) R R' T₀ T'
     unfolding PartAt
     part_stop parent kind p o d a R R' T' look h l q z =
         let y : o ≡ bad p = rw z at q in
@@ -190,7 +188,7 @@ module _ (g : List ℕ → Bool) (w : List ℕ → ℕ) (r : Reader Part) (doc :
 pub rowed : (c : Cursor) (parent kind at x far e y z : ℕ) (w : Words) (R R' : List ℕ) → y ≡ spot c.text → z ≡ spot x
     → w ≡ record { kind = kind; first = c.at; after = e; from = y; to = z; parent = parent; next = c.row + 1 }
     → R' ≡ sets R (width * c.row) (row_list unlined w.kind w.first w.after w.from w.to w.parent w.next)
-    → Rowed c parent kind at x far e (Done (record { at = at; row = c.row + 1; text = x }) far e) R R'
+    → Rowed c parent kind at x far e (Ok (record { at = at; row = c.row + 1; text = x }, far, e)) R R'
 rowed c parent kind at x far e y z w R R' a b h r = record { is = refl; table = rw (h, a, b) at r }
 
 pub ruleset rows = (rowed, rules)

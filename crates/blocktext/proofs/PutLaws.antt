@@ -2,7 +2,7 @@
 use mathlib.Core.Path.{◌≡◌, refl, sym, ap, subst, ◌∙◌}
 use mathlib.Core.List.{List, [], ◌∷◌, ◌++◌, append_assoc}
 use mathlib.Core.Logic.{◌⊎◌, inl, inr}
-use Prim.Native.Nat.{ℕ, suc, ◌+◌, ◌-◌, ◌≤◌, ◌<◌, min, ◌*◌, ◌^◌}
+use Prim.Native.Nat.{ℕ, suc, ◌+◌, ◌-◌, ◌≤◌, ◌<◌, min, ◌^◌}
 use native.Mathlib.Omega.{arith}
 use native.Mathlib.Decide.{dec_le}
 use lib.ListN.{length, set, length-append}
@@ -11,11 +11,11 @@ use borrow.Author.Rules.{rules}
 use Rattle.exact.specs.Place.{peek}
 use Rattle.language.specs.BlockText.{Line, blank, line, hold, trim, lower, spaces, unlines, body_text, body_end}
 use Rattle.language.specs.Answered.{limit}
-use Rattle.rooms.specs.Told.{ESCAPE, spot, tally, spot_plain, tally_plain, word_is}
+use Rattle.rooms.specs.Told.{spot, word_is}
 use Rattle.rooms.specs.Stores.{sets_append}
 use Rattle.rooms.specs.declared.Cursor.{Cursor}
-use Rattle.rooms.specs.declared.Ans.{Ans}
-use Rattle.rooms.specs.declared.Ans.TheVariants.{Ok, No}
+use Rattle.rooms.specs.Contract.{Ans}
+use Rattle.std.specs.declared.result.Result.TheVariants.{Err, Ok}
 use Rattle.rooms.specs.Contract.{columns, Takes, ample}
 use Rattle.rooms.specs.Laws.{take_next, take_byte, take_place, take_other}
 use Rattle.characters.specs.Runs.{Fed}
@@ -60,10 +60,10 @@ module _ (doc : List ℕ) (col m : ℕ) (n : Cursor) (a : Ans) (t : Takes doc n 
       stored _ _ (one_blank _) = record { end = omega arith; room = r }
       stored _ _ (one_text t x) = absurd (no t)
 
-  pub put_place : (p : ℕ) → a ≡ No p → Lined doc col m n → p ≤ length doc
+  pub put_place : (p : ℕ) → a ≡ Err p → Lined doc col m n → p ≤ length doc
   put_place p y i = omega (arith, take_place doc n 10 a t p y, i.inside)
 
-  module _ (p : ℕ) (y : a ≡ No p) (e : ℕ) (fed : Fed doc p e) where
+  module _ (p : ℕ) (y : a ≡ Err p) (e : ℕ) (fed : Fed doc p e) where
     place : p ≡ n.at
     place = take_place doc n 10 a t p y
 

@@ -16,21 +16,19 @@ use Rattle.exact.specs.Place.{peek, peek_in, byte_is, byte_not, alt_is, alt_not}
 use Rattle.language.specs.Kind.{STRING}
 use Rattle.language.specs.Tree.{Tree, leaf, unescaped}
 use Rattle.language.specs.BlockText.{Line, body_text, body_end}
-use Rattle.characters.specs.declared.Skip.{Skip}
-use Rattle.characters.specs.declared.Skip.TheVariants.{End}
+use Rattle.characters.specs.Reads.{Skip}
+use Rattle.std.specs.declared.option.Option.TheVariants.{None, Some}
+use Rattle.std.specs.declared.result.Result.TheVariants.{Err, Ok}
 use Rattle.rooms.specs.Told.{ESCAPE, spot, tally, told, spot_plain, tally_plain, word_is}
 use Rattle.rooms.specs.declared.Cursor.{Cursor}
-use Rattle.rooms.specs.declared.Block.{Block}
-use Rattle.rooms.specs.declared.Block.TheVariants.{Bad}
-use Rattle.rooms.specs.declared.Step.{Step}
-use Rattle.rooms.specs.declared.Step.TheVariants.{Byte, Over}
-use Rattle.rooms.specs.declared.Ans.{Ans}
-use Rattle.rooms.specs.declared.Ans.TheVariants.{Ok, No}
-use Rattle.rooms.specs.Contract.{onward, Stepped, Takes, Blocks, Small, ample, Ready}
+use Rattle.rooms.specs.Contract.{Block}
+use Rattle.rooms.specs.Contract.{Step}
+use Rattle.rooms.specs.Contract.{Ans}
+use Rattle.rooms.specs.Contract.{onward, Stepped, Takes, Blocks, Small, ample}
 use Rattle.rooms.specs.Laws.{step_byte, step_next, step_inside, step_over, take_next, take_byte, take_place, take_other, not_block}
 use Rattle.rooms.specs.Stores.{sets_append}
+use Rattle.std.specs.declared.result.Result.{Result}
 use Rattle.blocktext.specs.declared.body.Extent.{Extent}
-use Rattle.blocktext.specs.declared.body.Extent.TheVariants.{Whole, Broken}
 use Rattle.blocktext.specs.Pieces.{solid_r}
 use Rattle.blocktext.specs.TextLines.{body_r}
 use Rattle.blocktext.specs.BlockStrings.{below_r, leader_text_r, open_string_tree, open_string_rest_r, open_string_r, property_string_tree, property_string_r}
@@ -45,13 +43,13 @@ fmap_same f g (soft p v a t) h = ap (λ y. soft p y a t) (h v)
 fmap_same f g (bad p) h = refl
 
 -- ---- the body below the LF at e
-module _ (doc : List ℕ) (c : Cursor) (e x col : ℕ) (i : Begun doc c e x col) (g : Extent) (b : BodyAt doc e col g) where
-  pub below_bad : (parent p : ℕ) (R T : List ℕ) → g ≡ Broken p
-      → Furthers doc c parent STRING (body_r col (e + 1) (drop (e + 1) doc)) (body_end e) (λ ls. unescaped (body_text ls)) (e + 1) x (Bad p) R R T T
+module _ (doc : List ℕ) (c : Cursor) (e x col : ℕ) (i : Begun doc c e x col) (g : Result Extent ℕ) (b : BodyAt doc e col g) where
+  pub below_bad : (parent p : ℕ) (R T : List ℕ) → g ≡ Err p
+      → Furthers doc c parent STRING (body_r col (e + 1) (drop (e + 1) doc)) (body_end e) (λ ls. unescaped (body_text ls)) (e + 1) x (Err p) R R T T
   unfolding BodyAt
   below_bad parent p R T z = stopped p refl (rw z at b)
 
-  module _ (at far last least : ℕ) (z : g ≡ Whole at far last least) where
+  module _ (at far last least : ℕ) (z : g ≡ Ok (record { at = at; far = far; last = last; least = least })) where
     bodied : Bodied doc e col at far last least
     unfolding BodyAt
     bodied = rw z at b
@@ -147,8 +145,8 @@ module _ (doc : List ℕ) (c : Cursor) (col : ℕ) (a : ℕ) (i : Led doc c col 
       ∙ ap (λ n. bind (solid_r n (drop n doc)) (λ t. below_r (open_string_tree c.at t) col)) (sym i.from))
 
   module _ (g : Skip) (x : TextAt doc (a) g) where
-    pub led_bad : (parent p : ℕ) (R T : List ℕ) → g ≡ Rattle.characters.specs.declared.Skip.TheVariants.Bad p
-        → Blocks doc c parent (open_string_r col c.at (drop c.at doc)) (Bad p) R R T T
+    pub led_bad : (parent p : ℕ) (R T : List ℕ) → g ≡ Err p
+        → Blocks doc c parent (open_string_r col c.at (drop c.at doc)) (Err p) R R T T
     unfolding TextAt
     led_bad parent p R T z = not_block doc c parent _ R R T T p (led_is ∙ by (rw z at x))
       where
@@ -156,7 +154,7 @@ module _ (doc : List ℕ) (c : Cursor) (col : ℕ) (a : ℕ) (i : Led doc c col 
         by (no_text h) = ap (λ o. bind o (λ t. below_r (open_string_tree c.at t) col)) h
         by (no_feed v h k) = ap (λ o. bind o (λ t. below_r (open_string_tree c.at t) col)) h ∙ below_not (open_string_tree c.at v) doc col p k
 
-    module _ (e : ℕ) (z : g ≡ End e) where
+    module _ (e : ℕ) (z : g ≡ Ok e) where
       texted : Texted doc (a) e
       unfolding TextAt
       texted = rw z at x
@@ -279,12 +277,12 @@ module _ (doc : List ℕ) (c : Cursor) (col : ℕ) (i : Asked doc c 96 col) (a :
   property_bare = property_is doc col c.at i.first ∙ ap (λ q. below_r (property_string_tree c.at) col q (drop q doc)) (sym place)
 
   module _ (s : Step) (y : Stepped doc n s) where
-    pub open_over : s ≡ Over → (parent : ℕ) (R T : List ℕ) → Blocks doc c parent (open_string_r col c.at (drop c.at doc)) (Bad n.at) R R T T
+    pub open_over : s ≡ None → (parent : ℕ) (R T : List ℕ) → Blocks doc c parent (open_string_r col c.at (drop c.at doc)) (Err n.at) R R T T
     open_over w parent R T =
         let e = step_over doc n s y w in
         not_block doc c parent _ R R T T n.at (open_bare (λ q. omega arith) ∙ below_not (open_string_tree c.at []) doc col n.at (λ q. omega arith))
 
-    module _ (b : ℕ) (m : Cursor) (w : s ≡ Byte b m) where
+    module _ (b : ℕ) (m : Cursor) (w : s ≡ Some (b, m)) where
       byte : b ≡ peek doc n.at
       byte = step_byte doc n s y b m w
 
@@ -304,7 +302,7 @@ module _ (doc : List ℕ) (c : Cursor) (col : ℕ) (i : Asked doc c 96 col) (a :
       pub open_begun : b ≡ 10 → Begun doc c n.at (c.text + 1) col
       open_begun h = begun (sym h ∙ byte) 1 (omega arith)
 
-      pub open_bad : (b ≡ 32 → ⊥) → (b ≡ 10 → ⊥) → (parent : ℕ) (R T : List ℕ) → Blocks doc c parent (open_string_r col c.at (drop c.at doc)) (Bad n.at) R R T T
+      pub open_bad : (b ≡ 32 → ⊥) → (b ≡ 10 → ⊥) → (parent : ℕ) (R T : List ℕ) → Blocks doc c parent (open_string_r col c.at (drop c.at doc)) (Err n.at) R R T T
       open_bad h k parent R T =
           not_block doc c parent _ R R T T n.at (open_bare (λ q. h (byte ∙ q)) ∙ below_not (open_string_tree c.at []) doc col n.at (λ q. k (byte ∙ q)))
 
@@ -323,7 +321,7 @@ module _ (doc : List ℕ) (c : Cursor) (col : ℕ) (i : Asked doc c 96 col) (a :
           f
 
   module _ (g : Ans) (y : Takes doc n 10 g) where
-    pub property_bad : (p : ℕ) → g ≡ No p → (parent : ℕ) (R T : List ℕ) → Blocks doc c parent (property_string_r col c.at (drop c.at doc)) (Bad p) R R T T
+    pub property_bad : (p : ℕ) → g ≡ Err p → (parent : ℕ) (R T : List ℕ) → Blocks doc c parent (property_string_r col c.at (drop c.at doc)) (Err p) R R T T
     property_bad p w parent R T =
         not_block doc c parent _ R R T T p
         (property_bare ∙ (below_not (property_string_tree c.at) doc col n.at (take_other doc n 10 g y p w) ∙ ap bad (sym (take_place doc n 10 g y p w))))

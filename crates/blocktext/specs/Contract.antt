@@ -6,17 +6,17 @@ use Rattle.exact.specs.Class.{only}
 use Rattle.exact.specs.Out.{Out, ok, soft, bad}
 use Rattle.exact.specs.Block.{lead}
 use Rattle.exact.specs.Place.{peek, run_end}
-use Rattle.language.specs.BlockText.{Line, blank, line, lower, unlines, body_end}
+use Rattle.language.specs.BlockText.{Line, blank, lower, unlines, body_end}
 use Rattle.language.specs.Answered.{limit}
-use Rattle.characters.specs.declared.Skip.{Skip}
-use Rattle.characters.specs.declared.Skip.TheVariants.{End, Bad}
+use Rattle.characters.specs.Reads.{Skip}
+use Rattle.std.specs.declared.result.Result.TheVariants.{Err, Ok}
 use Rattle.rooms.specs.declared.Cursor.{Cursor}
 use Rattle.rooms.specs.Told.{spot, tally}
 use Rattle.rooms.specs.Contract.{columns, Ready}
 use Rattle.blocktext.specs.declared.body.Seen.{Seen}
-use Rattle.blocktext.specs.declared.body.Seen.TheVariants.{Empty, Written, Over, Refused}
+use Rattle.blocktext.specs.declared.body.Seen.TheVariants.{Empty, Written, Over}
 use Rattle.blocktext.specs.declared.body.Extent.{Extent}
-use Rattle.blocktext.specs.declared.body.Extent.TheVariants.{Whole, Broken}
+use Rattle.std.specs.declared.result.Result.{Result}
 use Rattle.blocktext.specs.Pieces.{solid_r}
 use Rattle.blocktext.specs.TextLines.{goes_on, body_line_r, body_r}
 use Rattle.blocktext.specs.Placed.{Blank, Text, line_at, Placed}
@@ -47,8 +47,8 @@ pub data Untexted (doc : List ℕ) (at p : ℕ) : Type 0 where
   no_feed : (v : List ℕ) → solid_r at (drop at doc) ≡ ok v p (drop p doc) → (peek doc p ≡ 10 → ⊥) → Untexted doc at p
 
 unfoldable pub TextAt : List ℕ → ℕ → Skip → Type 0
-TextAt doc at (End e) = Texted doc at e
-TextAt doc at (Bad p) = Untexted doc at p
+TextAt doc at (Ok e) = Texted doc at e
+TextAt doc at (Err p) = Untexted doc at p
 
 -- A LINE OF A BODY that begins at a: blank, up to n, with a text from s to e, none (and how far one would begin), or refused
 pub record SeenBlank (doc : List ℕ) (col a n : ℕ) : Type 0 where
@@ -71,11 +71,11 @@ pub record SeenBad (doc : List ℕ) (col a p : ℕ) : Type 0 where
   pub is : body_line_r col a (drop a doc) ≡ bad p
   pub inside : a < length doc
 
-unfoldable pub Sees : List ℕ → ℕ → ℕ → Seen → Type 0
-Sees doc col a (Empty n) = SeenBlank doc col a n
-Sees doc col a (Written s e) = SeenText doc col a s e
-Sees doc col a (Over far) = SeenNone doc col a far
-Sees doc col a (Refused p) = SeenBad doc col a p
+unfoldable pub Sees : List ℕ → ℕ → ℕ → Result Seen ℕ → Type 0
+Sees doc col a (Ok (Empty n)) = SeenBlank doc col a n
+Sees doc col a (Ok (Written s e)) = SeenText doc col a s e
+Sees doc col a (Ok (Over far)) = SeenNone doc col a far
+Sees doc col a (Err p) = SeenBad doc col a p
 
 -- THE BODY below the LF at e: its lines, the place behind them, how far a further one would begin, where the last text ends, and the least indentation
 pub record Bodied (doc : List ℕ) (e col at far last least : ℕ) : Type 0 where
@@ -87,9 +87,9 @@ pub record Bodied (doc : List ℕ) (e col at far last least : ℕ) : Type 0 wher
   pub inside : at ≤ length doc
   pub ahead : at ≤ far
 
-unfoldable pub BodyAt : List ℕ → ℕ → ℕ → Extent → Type 0
-BodyAt doc e col (Whole at far last least) = Bodied doc e col at far last least
-BodyAt doc e col (Broken p) = body_r col (e + 1) (drop (e + 1) doc) ≡ bad p
+unfoldable pub BodyAt : List ℕ → ℕ → ℕ → Result Extent ℕ → Type 0
+BodyAt doc e col (Ok w) = Bodied doc e col w.at w.far w.last w.least
+BodyAt doc e col (Err p) = body_r col (e + 1) (drop (e + 1) doc) ≡ bad p
 
 -- ITS TEXT, written from x on
 abbrev pub lines_of : Out (List Line) → List Line

@@ -1,7 +1,7 @@
 -- WHAT MAY FOLLOW A BLOCK: no line that would go on in it; blank lines may, and are as well read as the block's. Assumes nothing.
 use Rattle.std.specs.Prelude.{◌≡◌, refl, List, [], ◌∷◌, Bool, true, false, ℕ, zero, suc, ◌≤◌}
 use Rattle.std.proofs.Common.{sym, subst, arith}
-use Rattle.notation.specs.Class.{Class, and, pick, is, only}
+use Rattle.notation.specs.Class.{Class, pick, is, only}
 use Rattle.exact.specs.Class.{clash, apart, none, and_of, only_eq}
 use Rattle.exact.specs.Block.{Deep, ind, ind_none, ind_less}
 use Rattle.exact.specs.Lang.{Follow, bar, Within}

@@ -1,6 +1,6 @@
 -- A LOOP OVER LINES: as many as there are, by a look, as code reads them one after the other. Assumes nothing.
-use Rattle.std.specs.Prelude.{◌≡◌, refl, List, [], ◌∷◌, ◌++◌, Bool, true, false, ℕ, zero, suc, ◌+◌, ◌-◌, ◌≤◌, ◌<◌, max, length, drop}
-use Rattle.std.proofs.Common.{sym, ap, subst, ◌∙◌, append-nil, arith, length-drop}
+use Rattle.std.specs.Prelude.{◌≡◌, refl, List, [], ◌∷◌, ◌++◌, Bool, true, false, ℕ, zero, suc, ◌+◌, ◌≤◌, ◌<◌, length, drop}
+use Rattle.std.proofs.Common.{sym, ap, ◌∙◌, append-nil, arith, length-drop}
 use Rattle.exact.specs.Class.{pick}
 use Rattle.exact.specs.Out.{Out, Reader, raise, bind, fmap, Tame, Tamed, forward, ok, soft, bad, t_ok, t_soft, t_bad}
 use Rattle.exact.specs.Answers.{raise_fmap, fmap_none, fmap_join}

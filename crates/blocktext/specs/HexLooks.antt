@@ -1,23 +1,22 @@
 -- HEX LINES at a place of a document: what the first byte, the pairs, a comment and the line's end say of their reader.
-use Rattle.std.specs.Prelude.{◌≡◌, List, [], ◌∷◌, Bool, ℕ, zero, suc, ◌+◌, ◌-◌, ◌≤◌, ◌<◌, max, length, drop}
+use Rattle.std.specs.Prelude.{◌≡◌, List, [], ◌∷◌, Bool, ℕ, zero, suc, ◌+◌, ◌≤◌, drop}
 use Rattle.std.proofs.Math.Path.{refl, sym, ap}
-use Rattle.std.proofs.Common.{subst, ◌∙◌, arith}
+use Rattle.std.proofs.Common.{◌∙◌, arith}
 use Rattle.std.proofs.Math.Bool.{true, false}
 use Rattle.language.specs.Strings.{lowhex}
 use Rattle.language.specs.BlockText.{part}
-use Rattle.exact.specs.Class.{pick, clash, is, only, only_is, none}
-use Rattle.exact.specs.Out.{Out, Reader, raise, bind, reach, reach_from, Tame, Tamed, forward, ok, soft, bad, t_ok}
-use Rattle.exact.specs.Lang.{ret_r, byte_r}
+use Rattle.exact.specs.Class.{pick, is, only}
+use Rattle.exact.specs.Out.{raise, bind, reach, reach_from, Tame, ok, bad}
+use Rattle.exact.specs.Lang.{ret_r}
 use Rattle.exact.specs.Comb.{seq_r, seq_tame}
 use Rattle.exact.specs.Ll.{word_r, word_ll}
-use Rattle.exact.specs.More.{ll_shuts}
 use Rattle.exact.specs.Block.{lead}
 use Rattle.exact.specs.Lines.{reached}
-use Rattle.exact.specs.Place.{peek, There, there, byte_there, none_there, byte_is, alt_peek}
+use Rattle.exact.specs.Place.{peek, There, there, byte_there, none_there, alt_peek}
 use Rattle.language.specs.Tree.{unescaped}
 use Rattle.characters.specs.Comments.{comment_r, comment_ll, optional_comment_r}
 use Rattle.characters.specs.Marks.{comment_none}
-use Rattle.strings.specs.Bytes.{pair_r, pair_ll, pairs_r}
+use Rattle.strings.specs.Bytes.{pair_r, pairs_r}
 use Rattle.blocktext.specs.LineEnd.{line_end_r}
 use Rattle.blocktext.specs.HexLines.{commented_r, content_r, hex_rest_r}
 use Rattle.blocktext.specs.LineLooks.{line_closed, line_open}

@@ -7,7 +7,7 @@ use Rattle.language.specs.Kind.{STRING}
 use Rattle.language.specs.Tree.{Tree, leaf, unescaped}
 use Rattle.language.specs.BlockText.{Part, part, part_text, part_end}
 use Rattle.language.specs.Blocks.{JoinedLine, Joined}
-use Rattle.exact.specs.Class.{Class, is, nothing}
+use Rattle.exact.specs.Class.{Class, nothing}
 use Rattle.exact.specs.Out.{Reader}
 use Rattle.exact.specs.Lang.{None, Exact, within_bar, within_none, weaken}
 use Rattle.exact.specs.Comb.{seq_r, map_r, map_exact}

@@ -1,5 +1,5 @@
 -- THE LEAF of a block that is read line by line: its row, the text of its further lines, and what they make of the block. Assumes nothing.
-use Rattle.std.specs.Prelude.{◌≡◌, refl, List, ◌∷◌, ◌++◌, ℕ, ◌+◌, ◌*◌, ◌≤◌, ◌<◌, drop}
+use Rattle.std.specs.Prelude.{◌≡◌, refl, List, ◌++◌, ℕ, ◌+◌, ◌*◌, ◌≤◌, ◌<◌, drop}
 use Rattle.std.proofs.Math.Path.{sym, ap, subst}
 use Rattle.std.proofs.Common.{◌∙◌}
 use Rattle.std.proofs.Math.Bool.{false}
@@ -8,15 +8,14 @@ use Rattle.std.proofs.Math.ListN.{length, length-append}
 use Rattle.std.proofs.Math.Seq.{sets}
 use Rattle.std.proofs.Math.Dec.{leb}
 use borrow.Author.Tests.{lt-leb}
-use Rattle.exact.specs.Out.{Out, fmap, ok, soft, bad}
+use Rattle.exact.specs.Out.{Out, fmap, soft, bad}
 use Rattle.exact.specs.Lines.{soft_reached}
 use Rattle.language.specs.Kind.{TRUE}
-use Rattle.language.specs.Tree.{unlined, Decoded, ◌then◌, Tree, leaf, after, width, size, text_of, escapes_of, rows_of, row_list}
-use Rattle.language.specs.Answered.{limit}
+use Rattle.language.specs.Tree.{unlined, Decoded, ◌then◌, Tree, leaf, width, size, text_of, escapes_of, rows_of, row_list}
 use Rattle.rooms.specs.Told.{ESCAPE, spot, tally, told, spot_on, tally_on}
 use Rattle.rooms.specs.declared.Cursor.{Cursor}
-use Rattle.rooms.specs.declared.Block.{Block}
-use Rattle.rooms.specs.declared.Block.TheVariants.{Done, Bad}
+use Rattle.rooms.specs.Contract.{Block}
+use Rattle.std.specs.declared.result.Result.TheVariants.{Err, Ok}
 use Rattle.rooms.specs.Contract.{columns, Ready, Blocks}
 use Rattle.rooms.specs.Stores.{sets_append}
 
@@ -31,7 +30,7 @@ pub record Begun (doc : List ℕ) (c : Cursor) (e x col : ℕ) : Type 0 where
 
 -- the row of a leaf from c up to `at`, whose span ends at e and whose text, with its escapes, ends at x
 pub record Rowed (c : Cursor) (parent kind at x far e : ℕ) (r : Block) (rows rows' : List ℕ) : Type 0 where
-  pub is : r ≡ Done (record { at = at; row = c.row + 1; text = x }) far e
+  pub is : r ≡ Ok (record { at = at; row = c.row + 1; text = x }, far, e)
   pub table : rows' ≡ sets rows (width * c.row) (row_list unlined kind c.at e (spot c.text) (spot x) parent (c.row + 1))
 
 -- PROMISED of further lines, which o reads from `from` on: where they end, the text that they add from x on, and the leaf's row
@@ -53,7 +52,7 @@ pub record Further {X : Type 0} (doc : List ℕ) (c : Cursor) (parent kind : ℕ
 pub data Furthers {X : Type 0} (doc : List ℕ) (c : Cursor) (parent kind : ℕ) (o : Out X) (ends : X → ℕ) (bytes : X → Decoded) (from x : ℕ) (r : Block)
     (rows rows' text text' : List ℕ) : Type 0 where
   went : Further doc c parent kind o ends bytes from x r rows rows' text text' → Furthers doc c parent kind o ends bytes from x r rows rows' text text'
-  stopped : (p : ℕ) → r ≡ Bad p → o ≡ bad p → Furthers doc c parent kind o ends bytes from x r rows rows' text text'
+  stopped : (p : ℕ) → r ≡ Err p → o ≡ bad p → Furthers doc c parent kind o ends bytes from x r rows rows' text text'
 
 -- THE BLOCK: a first line of text t, which stands in the room from the cursor on, and the further lines
 module _ {X : Type 0} (doc : List ℕ) (c : Cursor) (parent kind : ℕ) (o : Out X) (ends : X → ℕ) (bytes : X → Decoded) (from x : ℕ) (r : Block) (R R' T₀ T T' : List ℕ) (whole : Out Tree) (t : Decoded) where

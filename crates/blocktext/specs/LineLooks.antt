@@ -1,18 +1,18 @@
 -- THE LINES OF A BODY at a place of a document: what a look at the first byte, the spaces and the text say of their reader.
 use Rattle.std.specs.Prelude.{◌≡◌, List, [], ◌∷◌, ◌++◌, Bool, true, false, ℕ, suc, ◌+◌, ◌-◌, ◌≤◌, ◌<◌, length}
 use Rattle.std.proofs.Math.Path.{refl, ap}
-use Rattle.std.proofs.Common.{sym, subst, ◌∙◌, add-one, arith, drop-cons}
+use Rattle.std.proofs.Common.{sym, subst, ◌∙◌, arith}
 use Rattle.std.proofs.Math.ListN.{drop}
 use Rattle.std.proofs.Math.Seq.{slice}
 use Rattle.notation.specs.Lang.{cat}
 use Rattle.language.specs.Characters.{dark}
 use Rattle.language.specs.BlockText.{blank, line}
-use Rattle.exact.specs.Class.{pick, or, is, only, only_no, or_right, or_left, only_yes}
-use Rattle.exact.specs.Out.{Out, Reader, bind, Firm, f_ok, f_bad, ok, soft, bad}
+use Rattle.exact.specs.Class.{is, only, only_no, or_right}
+use Rattle.exact.specs.Out.{Out, bind, Firm, f_ok, f_bad, ok, bad}
 use Rattle.exact.specs.Lang.{ret_r, byte_r}
 use Rattle.exact.specs.Comb.{seq_r, many_r}
 use Rattle.exact.specs.Ll.{star_ll}
-use Rattle.exact.specs.Block.{lead, ind_none}
+use Rattle.exact.specs.Block.{ind_none}
 use Rattle.exact.specs.Place.{peek, peek_cons, There, there, byte_there, none_there, byte_is, byte_not, alt_is, alt_not}
 use Rattle.utf8.specs.Char.{char_r}
 use Rattle.utf8.proofs.CharLaws.{char_ll}
@@ -22,7 +22,6 @@ use Rattle.blocktext.specs.LineEnd.{line_end_r}
 use Rattle.blocktext.specs.Deeper.{deeper, deeper_r}
 use Rattle.blocktext.specs.TextLines.{text_line_r, goes_on, body_line_r, blank_r}
 use Rattle.blocktext.specs.Spaces.{deep, shallow, shallow_far, deep_reads, space_in, no_space}
-use Rattle.blocktext.specs.Placed.{Blank, Text, line_at}
 use Rattle.blocktext.specs.Contract.{Spaced, Texted, Untexted, no_text, no_feed, SeenBlank, SeenText, SeenNone, SeenBad}
 
 -- THE END OF A LINE

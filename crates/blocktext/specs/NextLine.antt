@@ -1,16 +1,18 @@
 -- A FURTHER LINE of joined strings at a place of a document: col spaces and a quote, or how far one would begin.
-use Rattle.std.specs.Prelude.{◌≡◌, refl, List, true, false, ℕ, suc, ◌+◌, ◌≤◌, ◌<◌, length, drop}
-use Rattle.std.proofs.Common.{sym, ap, subst, ◌∙◌, arith, drop-drop}
+use Rattle.std.specs.Prelude.{◌≡◌, refl, List, true, false, ℕ, ◌+◌, ◌≤◌, ◌<◌, length, drop}
+use Rattle.std.proofs.Common.{ap, ◌∙◌, arith, drop-drop}
 use Rattle.exact.specs.Class.{is}
-use Rattle.exact.specs.Out.{Out, Reader, bad}
 use Rattle.exact.specs.Block.{ind, lead, indented_r}
 use Rattle.exact.specs.Lines.{spaces, indented_ok, ind_short, ind_full, ind_peek}
-use Rattle.exact.specs.Place.{peek, peek_in}
-use Rattle.language.specs.BlockText.{Part}
+use Rattle.exact.specs.Place.{peek}
 use Rattle.rooms.specs.Indent.{spaces_lead}
 use Rattle.blocktext.specs.Joined.{quotes, joined_line_r}
-use Rattle.blocktext.specs.declared.quotes.Next.{Next}
-use Rattle.blocktext.specs.declared.quotes.Next.TheVariants.{Line, Over}
+use Rattle.std.specs.declared.result.Result.{Result}
+use Rattle.std.specs.declared.result.Result.TheVariants.{Err, Ok}
+
+-- a further line, as the crate's type of this name says it: where its quoted string begins, or how far one would begin
+abbrev pub Next : Type 0
+Next = Result ℕ ℕ
 
 pub record Follows (doc : List ℕ) (col a s : ℕ) : Type 0 where
   pub look : ind (is quotes) col (drop a doc) ≡ true
@@ -23,8 +25,8 @@ pub record Ceases (doc : List ℕ) (col a far : ℕ) : Type 0 where
   pub reach : far ≡ a + lead col (drop a doc)
 
 unfoldable pub NextAt : List ℕ → ℕ → ℕ → Next → Type 0
-NextAt doc col a (Line s) = Follows doc col a s
-NextAt doc col a (Over far) = Ceases doc col a far
+NextAt doc col a (Ok s) = Follows doc col a s
+NextAt doc col a (Err far) = Ceases doc col a far
 
 module _ (doc : List ℕ) (col a i : ℕ) (h : i ≡ lead col (drop a doc)) where
   pub next_short : i < col → Ceases doc col a (a + i)

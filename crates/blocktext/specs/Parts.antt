@@ -1,6 +1,6 @@
 -- A LINE OF A BLOCK THAT ADDS BYTES, a hex line or one of joined strings, and the lines below it: what code promises of them. Assumes nothing.
-use Rattle.std.specs.Prelude.{◌≡◌, List, ◌∷◌, ◌++◌, Bool, true, false, ℕ, zero, suc, ◌+◌, ◌≤◌, ◌<◌, length, drop}
-use Rattle.std.proofs.Common.{sym, ap, subst, ◌∙◌, append_assoc, arith, length-append}
+use Rattle.std.specs.Prelude.{◌≡◌, List, ◌∷◌, ◌++◌, Bool, ℕ, zero, suc, ◌+◌, ◌≤◌, ◌<◌, length, drop}
+use Rattle.std.proofs.Common.{sym, ap, subst, ◌∙◌, arith, length-append}
 use Rattle.std.proofs.lemmas.List.Edits.{sets}
 use Rattle.exact.specs.Class.{pick, is, only}
 use Rattle.exact.specs.Out.{Out, Reader, bind, fmap, raise, Tame, ok, bad}
@@ -11,22 +11,20 @@ use Rattle.exact.specs.Lines.{reached}
 use Rattle.exact.specs.Place.{peek}
 use Rattle.language.specs.Tree.{Decoded, ◌then◌}
 use Rattle.language.specs.BlockText.{Part, part, part_text, part_end}
-use Rattle.rooms.specs.Told.{ESCAPE, spot, tally, told, spot_on}
-use Rattle.characters.specs.declared.Skip.{Skip}
-use Rattle.characters.specs.declared.Skip.TheVariants.{End, Bad}
-use Rattle.characters.specs.Reads.{Skips}
+use Rattle.rooms.specs.Told.{ESCAPE, spot, told, spot_on}
+use Rattle.characters.specs.Reads.{Skip}
+use Rattle.std.specs.declared.result.Result.TheVariants.{Err, Ok}
 use Rattle.rooms.specs.declared.Cursor.{Cursor}
-use Rattle.rooms.specs.declared.Ans.{Ans}
-use Rattle.rooms.specs.declared.Ans.TheVariants.{Ok, No}
-use Rattle.rooms.specs.declared.Block.{Block}
+use Rattle.rooms.specs.Contract.{Ans}
+use Rattle.rooms.specs.Contract.{Block}
 use Rattle.rooms.specs.Stores.{sets_append}
 use Rattle.blocktext.specs.Going.{many_raised}
-use Rattle.blocktext.specs.Leaves.{Rowed, Further, Furthers, went, stopped}
+use Rattle.blocktext.specs.Leaves.{Rowed, Furthers, went, stopped}
 
 -- WHAT WAS PASSED OVER, AND AN LF: the cursor at it
 unfoldable pub closes : List ℕ → Cursor → Skip → Ans
-closes doc n (End e) = pick (is (only 10) (peek doc e)) (Ok (record { at = e; row = n.row; text = n.text })) (No e)
-closes doc n (Bad p) = No p
+closes doc n (Ok e) = pick (is (only 10) (peek doc e)) (Ok (record { at = e; row = n.row; text = n.text })) (Err e)
+closes doc n (Err p) = Err p
 
 pub record Closed {X : Type 0} (doc : List ℕ) (at : ℕ) (o : Out X) (n m : Cursor) : Type 0 where
   pub value : X
@@ -43,7 +41,7 @@ pub data Unclosed {X : Type 0} (doc : List ℕ) (o : Out X) (p : ℕ) : Type 0 w
 
 unfoldable pub Closing : {X : Type 0} → List ℕ → ℕ → Out X → Cursor → Ans → Type 0
 Closing doc at o n (Ok m) = Closed doc at o n m
-Closing doc at o n (No p) = Unclosed doc o p
+Closing doc at o n (Err p) = Unclosed doc o p
 
 -- A LINE from the cursor c up to its LF at n, and its text, which stands in the room from c's text on
 pub record Parted (doc : List ℕ) (c : Cursor) (o : Out Part) (n : Cursor) (text text' : List ℕ) : Type 0 where
@@ -60,7 +58,7 @@ pub record Parted (doc : List ℕ) (c : Cursor) (o : Out Part) (n : Cursor) (tex
 
 unfoldable pub PartAt : List ℕ → Cursor → Out Part → Ans → List ℕ → List ℕ → Type 0
 PartAt doc c o (Ok n) text text' = Parted doc c o n text text'
-PartAt doc c o (No p) text text' = o ≡ bad p
+PartAt doc c o (Err p) text text' = o ≡ bad p
 
 -- LINES BELOW: what the first was seen to begin raises nothing
 module _ {X Y : Type 0} (g : List ℕ → Bool) (w : List ℕ → ℕ) (r : Reader X) (tame : Tame 1 r) where

@@ -1,17 +1,16 @@
 -- THE TEXT OF A LINE: pieces, at least one. They are the bytes that stand there, and no LF is among them.
-use Rattle.std.specs.Prelude.{◌≡◌, refl, List, [], ◌∷◌, ◌++◌, ◌⊎◌, Bool, true, false, ℕ, zero, suc, ◌+◌, ◌-◌, ◌*◌, ◌/◌, ◌%◌, ◌≤◌, ◌<◌, length, get_or, drop, take, leb}
-use Rattle.std.proofs.Common.{sym, ap, subst, ◌∙◌, append_assoc, inl, inr, arith, length-append, length-drop, get_or-drop, leb-true, leb-false}
+use Rattle.std.specs.Prelude.{◌≡◌, refl, List, [], ◌∷◌, ◌++◌, ◌⊎◌, Bool, true, false, ℕ, zero, suc, ◌+◌, ◌-◌, ◌/◌, ◌%◌, ◌≤◌, ◌<◌, length, get_or, drop, take, leb}
+use Rattle.std.proofs.Common.{sym, ap, subst, ◌∙◌, append_assoc, inl, inr, arith, length-append, get_or-drop}
 use Rattle.std.proofs.Math.ListN.{get_or-append}
 use Rattle.std.proofs.Math.Seq.{slice, take-append_seam}
-use Rattle.notation.specs.Lang.{Lang, Seq, ◌>>=◌, ◌>>◌, Star, nil, cons, Plus, Byte, byte, Ret, ret, Map, cat}
+use Rattle.notation.specs.Lang.{Lang, ◌>>=◌, ◌>>◌, Star, nil, cons, Plus, Byte, byte, Ret, ret, Map, cat}
 use Rattle.language.specs.Characters.{Char, char, utf8, character, wide, dark, Space, Feed, Piece}
-use Rattle.language.specs.BlockText.{line}
-use Rattle.exact.specs.Class.{Class, pick, clash, is, only, only_eq, only_is, nothing, ◌to◌, or_of, range_of, within}
-use Rattle.exact.specs.Out.{Out, Reader, raise, bind, fmap, Tame, Tamed, Firm, f_ok, f_bad, shrinks, forward, rest_of, placed, ok, soft, bad, t_ok, t_soft, t_bad}
-use Rattle.exact.specs.Lang.{None, Exact, within_bar, weaken, ret_r, byte_r}
+use Rattle.exact.specs.Class.{pick, clash, is, only, only_eq, nothing, ◌to◌, or_of, range_of, within}
+use Rattle.exact.specs.Out.{Out, Reader, raise, bind, fmap, Tame, Tamed, shrinks, forward, placed, ok, soft, bad, t_ok, t_soft}
+use Rattle.exact.specs.Lang.{None, within_bar, weaken, ret_r, byte_r}
 use Rattle.exact.specs.Answers.{map_fmap}
 use Rattle.exact.specs.Comb.{seq_r, map_r, star_r, many_r}
-use Rattle.exact.specs.Ll.{Shape, Ll, ret_ll, seq_ll, star_ll, relax, byte₁}
+use Rattle.exact.specs.Ll.{Ll, ret_ll, seq_ll, star_ll, relax, byte₁}
 use Rattle.exact.specs.More.{ll_shuts}
 use Rattle.exact.specs.Place.{peek, peek_cons, slice_at}
 use Rattle.exact.specs.Sound.{word_read}

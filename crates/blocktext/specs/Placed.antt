@@ -1,13 +1,9 @@
 -- THE LINES OF A BODY as they stand in a document, and the text that they make: the laws of the loop that writes it.
-use Rattle.std.specs.Prelude.{◌≡◌, refl, List, [], ◌∷◌, ◌++◌, ◌⊎◌, ℕ, zero, suc, ◌+◌, ◌-◌, ◌≤◌, ◌<◌, min, length, get_or, set}
-use Rattle.std.proofs.Common.{sym, ap, subst, ◌∙◌, inl, inr, arith, add-one, length-append}
-use Rattle.std.proofs.Math.Decide.{dec_le}
-use Rattle.std.proofs.lemmas.List.Edits.{sets}
+use Rattle.std.specs.Prelude.{◌≡◌, refl, List, [], ◌∷◌, ◌++◌, ◌⊎◌, ℕ, zero, suc, ◌+◌, ◌-◌, ◌≤◌, ◌<◌, min, length}
+use Rattle.std.proofs.Common.{sym, ap, ◌∙◌, inl, inr, arith, length-append}
 use Rattle.std.proofs.Math.Seq.{slice, length-slice}
 use Rattle.language.specs.BlockText.{Line, blank, line, hold, trim, lower, lowest, spaces, unlines, body_text, body_end}
-use Rattle.exact.specs.Place.{peek, get_d_any}
-use Rattle.rooms.specs.Stores.{sets_append}
-use Rattle.blocktext.specs.Spaces.{slice_front}
+use Rattle.exact.specs.Place.{peek}
 
 -- an LF alone at a
 pub record Blank (doc : List ℕ) (a : ℕ) : Type 0 where

@@ -1,14 +1,14 @@
 -- THE SPACES BEFORE A LINE, all of them, as code counts them: whether the line is deeper than a column, how far it would begin, and what they are.
 use Rattle.std.specs.Prelude.{◌≡◌, refl, List, [], ◌∷◌, ◌++◌, Bool, true, false, ℕ, zero, suc, ◌+◌, ◌-◌, ◌≤◌, ◌<◌, min, length, get_or, take, drop}
-use Rattle.std.proofs.Common.{sym, ap, subst, ◌∙◌, add-zero, arith, length-take, length-drop, drop-drop, get_or-drop}
+use Rattle.std.proofs.Common.{sym, ap, subst, ◌∙◌, arith, length-take, drop-drop, get_or-drop}
 use Rattle.std.proofs.Math.Seq.{slice, slice-cons}
 use Rattle.language.specs.BlockText.{spaces}
 use Rattle.exact.specs.Class.{pick, clash, and, Class, is, only, only_eq, only_is}
 use Rattle.exact.specs.Out.{Reader, bind, ok, bad}
 use Rattle.exact.specs.Lang.{byte_r}
 use Rattle.exact.specs.Comb.{many_r}
-use Rattle.exact.specs.Block.{lead, ind, indented_r}
-use Rattle.exact.specs.Place.{peek, run, many_run, run_le, run_end, run_inside}
+use Rattle.exact.specs.Block.{lead, indented_r}
+use Rattle.exact.specs.Place.{peek, run, many_run, run_le, run_end}
 use Rattle.blocktext.specs.Deeper.{deeper, deeper_r, spaced_r}
 
 -- the spaces that a text begins with

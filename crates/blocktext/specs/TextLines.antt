@@ -5,7 +5,7 @@ use mathlib.Core.List.{List, [], ◌∷◌, ◌++◌}
 use Rattle.std.proofs.Common.{inl, inr, arith}
 use Rattle.std.proofs.Math.Bool.{true, false}
 use Prim.Native.Nat.{ℕ, zero, suc, ◌+◌}
-use Rattle.notation.specs.Lang.{Lang, Star, Map, cat, byte, ret, one, two}
+use Rattle.notation.specs.Lang.{Star, Map, cat, byte, ret, one, two}
 use Rattle.language.specs.Characters.{dark}
 use Rattle.language.specs.BlockText.{Line, blank, line, Deeper, TextLine, BodyLine}
 use Rattle.exact.specs.Class.{Starts, pick, or, clash, is, only, or_of, and_of, none, nothing}

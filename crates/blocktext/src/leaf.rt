@@ -8,6 +8,7 @@ use language::Kind;
 use rooms::{Block, Cursor, put_row, row_of};
 
 // The row of a leaf from the cursor up to `at`, whose span ends at e and whose text, with its escapes, ends at x.
+#[tactic(auto, using(crate::proofs::PartLaws::rows))]
 pub fn put_leaf(
     rows: &mut [u32],
     c: Cursor,
@@ -32,5 +33,5 @@ pub fn put_leaf(
         row,
         row_of(kind, c.at, e, c.spot(), n.spot(), parent, row + 1),
     );
-    Block::Done(n, far, e)
+    Ok((n, far, e))
 }

@@ -17,13 +17,10 @@ use rooms::{Ans, Block, Cursor};
 use strings::quoted;
 
 // Where the quoted string of a further line begins; or that there is none, and how far one would begin.
-#[derive(Clone, Copy)]
-pub enum Next {
-    Line(usize),
-    Over(usize),
-}
+pub type Next = Result<usize, usize>;
 
 // The line at a, of joined strings on col spaces.
+#[tactic(auto, using(crate::proofs::JoinedLaws::next_lines))]
 fn next_line(doc: &[u8], a: usize, col: usize) -> Next
     requires { a ≤ length doc.now }
     ensures { NextAt doc.now col a result }
@@ -33,24 +30,25 @@ fn next_line(doc: &[u8], a: usize, col: usize) -> Next
         row: 0,
         text: 0,
     };
-    let i = start.indent(&*doc, col);
+    let i = start.indent(doc, col);
     let s = a + i;
     if i < col {
-        return Next::Over(s);
+        return Err(s);
     }
     let quote = Cursor {
         at: s,
         row: 0,
         text: 0,
     };
-    match quote.look(&*doc) {
-        34 => Next::Line(s),
-        39 => Next::Line(s),
-        _ => Next::Over(s),
+    match quote.look(doc) {
+        34 => Ok(s),
+        39 => Ok(s),
+        _ => Err(s),
     }
 }
 
 // One line behind its spaces, up to its LF.
+#[tactic(auto, using(crate::proofs::JoinedLaws::one_line))]
 fn joined_line(doc: &[u8], text: &mut [u8], at: usize, x: usize) -> Ans
     requires { Ready doc.now (record { at = at; row = 0; text = x }) }
     ensures { PartAt doc.now (record { at = at; row = 0; text = x }) (joined_line_r at (drop at doc.now)) result text.old text.new }
@@ -60,13 +58,9 @@ fn joined_line(doc: &[u8], text: &mut [u8], at: usize, x: usize) -> Ans
         row: 0,
         text: x,
     };
-    match quoted(&*doc, text, c) {
-        Ans::No(p) => Ans::No(p),
-        Ans::Ok(n) => match n.take(&*doc, 10) {
-            Ans::No(p) => Ans::No(p),
-            Ans::Ok(_) => Ans::Ok(n),
-        },
-    }
+    let n = quoted(doc, text, c)?;
+    n.take(doc, b'\n')?;
+    Ok(n)
 }
 
 // The further lines below the LF at e, of a string whose text so far ends at x.
@@ -90,22 +84,9 @@ fn joined_lines(
     };
     loop {
         let a = n.at + 1;
-        let next = next_line(&*doc, a, col);
-        match next {
-            Next::Over(far) => {
-                return put_leaf(rows, c, parent, Kind::STRING, a, n.text, far, n.at);
-            }
-            Next::Line(s) => {
-                let got = joined_line(&*doc, text, s, n.text);
-                match got {
-                    Ans::No(p) => {
-                        return Block::Bad(p);
-                    }
-                    Ans::Ok(m) => {
-                        n = m;
-                    }
-                }
-            }
+        match next_line(doc, a, col) {
+            Err(far) => return put_leaf(rows, c, parent, Kind::STRING, a, n.text, far, n.at),
+            Ok(s) => n = joined_line(doc, text, s, n.text)?,
         }
     }
 }
@@ -124,23 +105,9 @@ fn joined_more(
     requires { Begun doc.now c e x col }
     ensures { Furthers doc.now c parent STRING (plus_r (indented_r col joined_line_r) (further_r quotes col joined_line_r) (e + 1) (drop (e + 1) doc.now)) (part_end 0) part_text (e + 1) x result rows.old rows.new text.old text.new }
 {
-    let next = next_line(&*doc, e + 1, col);
-    match next {
-        Next::Over(far) => {
-            return Block::Bad(far);
-        }
-        Next::Line(s) => {
-            let got = joined_line(&*doc, text, s, x);
-            match got {
-                Ans::No(p) => {
-                    return Block::Bad(p);
-                }
-                Ans::Ok(n) => {
-                    return joined_lines(&*doc, rows, text, c, parent, col, n.at, n.text);
-                }
-            }
-        }
-    }
+    let s = next_line(doc, e + 1, col)?;
+    let n = joined_line(doc, text, s, x)?;
+    joined_lines(doc, rows, text, c, parent, col, n.at, n.text)
 }
 
 // Joined strings, the first of which stands at the cursor.
@@ -156,13 +123,6 @@ pub fn joined(
     requires col_le_columns { col ≤ columns }
     ensures { Blocks doc.now c parent (joined_r col c.at (drop c.at doc.now)) result rows.old rows.new text.old text.new }
 {
-    let got = joined_line(&*doc, text, c.at, c.text);
-    match got {
-        Ans::No(p) => {
-            return Block::Bad(p);
-        }
-        Ans::Ok(n) => {
-            return joined_more(&*doc, rows, text, c, parent, col, n.at, n.text);
-        }
-    }
+    let n = joined_line(doc, text, c.at, c.text)?;
+    joined_more(doc, rows, text, c, parent, col, n.at, n.text)
 }

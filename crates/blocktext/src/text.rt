@@ -9,12 +9,12 @@ ghost use Rattle.blocktext.specs.BlockStrings.{open_string_r, property_string_r}
 ghost use Rattle.blocktext.specs.Contract.{Asked, Led};
 ghost use Rattle.blocktext.specs.Leaves.{Begun, Furthers};
 
-use super::body::{Extent, body, put_body};
+use super::body::{body, put_body};
 use super::leaf::put_leaf;
 use super::lines::text_line;
-use characters::{Reading, Skip};
+use characters::Reading;
 use language::Kind;
-use rooms::{Ans, Block, Cursor, Step, copy, put_byte};
+use rooms::{Block, Cursor, copy, put_byte};
 
 // The body below the LF at e, of a string whose text so far ends at x.
 fn below(
@@ -30,19 +30,13 @@ fn below(
     requires { Begun doc.now c e x col }
     ensures { Furthers doc.now c parent STRING (body_r col (e + 1) (drop (e + 1) doc.now)) (body_end e) (λ ls. unescaped (body_text ls)) (e + 1) x result rows.old rows.new text.old text.new }
 {
-    let got = body(&*doc, e, col);
-    match got {
-        Extent::Broken(p) => {
-            return Block::Bad(p);
-        }
-        Extent::Whole(at, far, last, least) => {
-            let y = put_body(&*doc, text, e, last, col, least, x);
-            return put_leaf(rows, c, parent, Kind::STRING, at, y, far, last);
-        }
-    }
+    let b = body(doc, e, col)?;
+    let y = put_body(doc, text, e, b.last, col, b.least, x);
+    put_leaf(rows, c, parent, Kind::STRING, b.at, y, b.far, b.last)
 }
 
 // An open block string whose leader has a text from a on, behind the grave and a space.
+#[tactic(auto, using(crate::proofs::StringLaws::led_strings))]
 fn led_string(
     doc: &[u8],
     rows: &mut [u32],
@@ -56,19 +50,15 @@ fn led_string(
     ensures { Blocks doc.now c parent (open_string_r col c.at (drop c.at doc.now)) result rows.old rows.new text.old text.new }
 {
     let x = c.spot();
-    let here = Reading { at: a };
-    match text_line(&*doc, here) {
-        Skip::Bad(p) => Block::Bad(p),
-        Skip::End(e) => {
-            let n = e - a;
-            copy(&*doc, a, e, text, x);
-            put_byte(text, x + n, 10);
-            below(&*doc, rows, text, c, parent, col, e, c.text + n + 1)
-        }
-    }
+    let e = text_line(doc, Reading { at: a })?;
+    let n = e - a;
+    copy(doc, a, e, text, x);
+    put_byte(text, x + n, b'\n');
+    below(doc, rows, text, c, parent, col, e, c.text + n + 1)
 }
 
 // An open block string, whose grave stands at the cursor.
+#[tactic(auto, using(crate::proofs::StringLaws::open_strings))]
 pub fn open_string(
     doc: &[u8],
     rows: &mut [u32],
@@ -80,23 +70,19 @@ pub fn open_string(
     requires { Asked doc.now c 96 col }
     ensures { Blocks doc.now c parent (open_string_r col c.at (drop c.at doc.now)) result rows.old rows.new text.old text.new }
 {
-    match c.take(&*doc, 96) {
-        Ans::No(p) => Block::Bad(p),
-        Ans::Ok(n) => match n.step(&*doc) {
-            Step::Over => Block::Bad(n.at),
-            Step::Byte(b, m) => match b {
-                32 => led_string(&*doc, rows, text, c, parent, col, m.at),
-                10 => {
-                    put_byte(text, c.spot(), 10);
-                    below(&*doc, rows, text, c, parent, col, n.at, c.text + 1)
-                }
-                _ => Block::Bad(n.at),
-            },
-        },
+    let n = c.take(doc, b'`')?;
+    match n.step(doc) {
+        Some((b' ', m)) => led_string(doc, rows, text, c, parent, col, m.at),
+        Some((b'\n', _)) => {
+            put_byte(text, c.spot(), b'\n');
+            below(doc, rows, text, c, parent, col, n.at, c.text + 1)
+        }
+        _ => Err(n.at),
     }
 }
 
 // A property's block string, whose grave stands at the cursor.
+#[tactic(auto, using(crate::proofs::StringLaws::property_strings))]
 pub fn property_string(
     doc: &[u8],
     rows: &mut [u32],
@@ -108,11 +94,7 @@ pub fn property_string(
     requires { Asked doc.now c 96 col }
     ensures { Blocks doc.now c parent (property_string_r col c.at (drop c.at doc.now)) result rows.old rows.new text.old text.new }
 {
-    match c.take(&*doc, 96) {
-        Ans::No(p) => Block::Bad(p),
-        Ans::Ok(n) => match n.take(&*doc, 10) {
-            Ans::No(p) => Block::Bad(p),
-            Ans::Ok(_) => below(&*doc, rows, text, c, parent, col, n.at, c.text),
-        },
-    }
+    let n = c.take(doc, b'`')?;
+    n.take(doc, b'\n')?;
+    below(doc, rows, text, c, parent, col, n.at, c.text)
 }

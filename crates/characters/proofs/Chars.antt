@@ -1,5 +1,5 @@
 -- The test for CHAR: laws as `search` takes them. Assumes nothing.
-use mathlib.Core.Path.{◌≡◌, sym, ap, ◌∙◌}
+use mathlib.Core.Path.{◌≡◌, sym, ap, ◌∙◌, subst}
 use mathlib.Core.List.{List}
 use mathlib.Core.Bool.{Bool, true, false}
 use Prim.Native.Nat.{ℕ, ◌+◌, ◌-◌, ◌*◌, ◌≤◌, ◌<◌}
@@ -7,9 +7,10 @@ use native.Mathlib.Omega.{arith}
 use lib.ListN.{length, drop, get_or, drop_of_length-le}
 use lib.Dec.{eqb}
 use borrow.Author.Rules.{rules}
-use Rattle.characters.specs.declared.Skip.{Skip}
-use Rattle.characters.specs.declared.Skip.TheVariants.{End, Bad}
-use Rattle.characters.specs.declared.Read.TheVariants.{Scalar, Not}
+use Rattle.characters.specs.Reads.{Skip}
+use Rattle.std.specs.declared.option.Option.{Option}
+use Rattle.std.specs.declared.option.Option.TheVariants.{Some}
+use Rattle.std.specs.declared.result.Result.TheVariants.{Err, Ok}
 use Rattle.utf8.specs.Utf8.{char_r, start}
 use Rattle.characters.specs.Reads.{Stands, ReadAt, Wide, WideAt}
 use Rattle.characters.specs.Rest.{Rest, rest_whole}
@@ -71,22 +72,25 @@ scan_first doc p i l e = rw e (scanned_first doc p l)
 
 -- a character of 128 or more, byte by byte
 module _ (doc t : List ℕ) (at i s r : ℕ) (e : t ≡ rows) (start : at < length doc) (high : 128 ≤ get_or doc at 0) (g : Going doc at i s) where
-  pub wide_none : i < length doc → r ≡ find t s (get_or doc i 0) → r ≡ 0 → WideAt doc at (Bad i)
+  pub wide_none : i < length doc → r ≡ find t s (get_or doc i 0) → r ≡ 0 → WideAt doc at (Err i)
   unfolding WideAt
   wide_none l h z = wide_refused doc at i start high (going_none doc at i s g l r (same_find t e s (get_or doc i 0) r h) z)
 
-  pub wide_ends : i < length doc → r ≡ find t s (get_or doc i 0) → r ≡ 1 → WideAt doc at (End (i + 1))
+  pub wide_ends : i < length doc → r ≡ find t s (get_or doc i 0) → r ≡ 1 → WideAt doc at (Ok (i + 1))
   unfolding WideAt
   wide_ends l h z = going_done doc at i s g l r (same_find t e s (get_or doc i 0) r h) z high
 
   pub wide_on : i < length doc → r ≡ find t s (get_or doc i 0) → (r ≡ 0 → ⊥) → (r ≡ 1 → ⊥) → Going doc at (i + 1) r
   wide_on l h z o = going_more doc at i s g l r (same_find t e s (get_or doc i 0) r h) z o
 
-  pub wide_over : length doc ≤ i → WideAt doc at (Bad i)
+  pub wide_over : length doc ≤ i → WideAt doc at (Err i)
   unfolding WideAt
   wide_over h = wide_refused doc at i start high (going_over doc at i s g h)
 
-pub ruleset walking = (wide_none, wide_ends, wide_on, wide_over, going_first, table_long, rules)
+  pub wide_whole : length doc ≤ i → i ≤ length doc → WideAt doc at (Err (length doc))
+  wide_whole h k = let z : i ≡ length doc = omega arith in subst (λ n. WideAt doc at (Err n)) z (wide_over h)
+
+pub ruleset walking = (wide_none, wide_ends, wide_on, wide_whole, going_first, table_long, rules)
 
 -- its scalar value
 module _ (doc : List ℕ) (a e : ℕ) (w : Wide doc a e) where
@@ -132,29 +136,29 @@ pub ruleset valued = (second_in, second_tail, third_in, third_tail, fourth_in, f
 -- ---- reading one character
 
 module _ (doc : List ℕ) (at : ℕ) where
-  pub read_none : length doc ≤ at → ReadAt doc at (Not at)
+  pub read_none : length doc ≤ at → ReadAt doc at (Err at)
   unfolding ReadAt
   read_none h plain = ap (char_r plain at) (drop_of_length-le doc h)
 
-  pub read_low : (b : ℕ) → at < length doc → b ≡ get_or doc at 0 → b < 128 → ReadAt doc at (Scalar b (record { at = at + 1 }))
+  pub read_low : (b : ℕ) → at < length doc → b ≡ get_or doc at 0 → b < 128 → ReadAt doc at (Ok (b, (record { at = at + 1 })))
   unfolding ReadAt
   read_low b l e h = low_stands doc at b l e h
 
-  pub read_wide : (n v : ℕ) → Stands doc at v n → ReadAt doc at (Scalar v (record { at = n }))
+  pub read_wide : (n v : ℕ) → Stands doc at v n → ReadAt doc at (Ok (v, (record { at = n })))
   unfolding ReadAt
   read_wide n v s = s
 
-  pub read_not : (r : Skip) (p : ℕ) → r ≡ Bad p → WideAt doc at r → ReadAt doc at (Not p)
+  pub read_not : (r : Skip) (p : ℕ) → r ≡ Err p → WideAt doc at r → ReadAt doc at (Err p)
   unfolding ReadAt WideAt
   read_not r p e h = rw e at h
 
   -- where it ends, by the table and by the states
-  pub wide_known : (r : Skip) (e n : ℕ) → WideAt doc at r → r ≡ End n → e ≡ n → Wide doc at e
+  pub wide_known : (r : Skip) (e n : ℕ) → WideAt doc at r → r ≡ Ok n → e ≡ n → Wide doc at e
   unfolding WideAt
   wide_known r e n h k z = rw z (rw k at h)
 
-  pub whole_known : (e n : ℕ) → Rest doc at start n → 128 ≤ get_or doc at 0 → (n ≡ 0 → ⊥) → e ≡ n → Wide doc at e
-  whole_known e n r h k z = rw z (rest_whole doc at n r h k)
+  pub whole_known : (r : Option ℕ) (e n : ℕ) → Rest doc at start r → 128 ≤ get_or doc at 0 → r ≡ Some n → e ≡ n → Wide doc at e
+  whole_known r e n q h k z = rw z (rest_whole doc at r n k q h)
 
 pub ruleset reading = (read_none, read_low, read_wide, read_not, wide_known, whole_known, rules)
 

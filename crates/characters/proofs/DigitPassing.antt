@@ -10,7 +10,7 @@ use borrow.Author.Tests.{le-leb, lt-leb}
 use Rattle.exact.specs.Class.{is}
 use Rattle.language.specs.Scalars.{digit}
 use Rattle.characters.specs.Plains.{RunTo, Passing}
-use Rattle.characters.proofs.Plains.{passing_first, pass_over, pass_stop, pass_more}
+use Rattle.characters.proofs.Plains.{passing_first, pass_whole, pass_stop, pass_more}
 
 -- THE CLASS
 digit_yes : (b : ℕ) → 48 ≤ b → b ≤ 57 → is digit b ≡ true
@@ -33,4 +33,4 @@ module _ (doc : List ℕ) (at e : ℕ) (p : Passing digit doc at e) (l : e < len
   pub digits_high : 57 < get_or doc e 0 → RunTo digit doc at e
   digits_high h = pass_stop digit doc at e p l false (sym (digit_high (get_or doc e 0) h)) refl refl
 
-pub ruleset passing = (passing_first, pass_over, digits_more, digits_low, digits_high, rules)
+pub ruleset passing = (passing_first, pass_whole, digits_more, digits_low, digits_high, rules)

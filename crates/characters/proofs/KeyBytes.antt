@@ -9,7 +9,7 @@ use borrow.Author.Tests.{eqb-true, eqb-false, le-leb, lt-leb}
 use Rattle.exact.specs.Class.{or, is}
 use Rattle.language.specs.Strings.{keybyte}
 use Rattle.characters.specs.Plains.{other}
-use Rattle.characters.proofs.Plains.{passing_first, pass_over, pass_stop, pass_more}
+use Rattle.characters.proofs.Plains.{passing_first, pass_whole, pass_stop, pass_more}
 
 -- ---- a byte of a bare key
 
@@ -60,4 +60,4 @@ pub ruleset keybytes = (key_lower, key_below, key_digit, key_between, key_upper,
 pub key_ends : is keybyte 256 ≡ false
 key_ends = refl
 
-pub ruleset keyruns = (passing_first, pass_over, pass_stop, pass_more, key_ends, rules)
+pub ruleset keyruns = (passing_first, pass_whole, pass_stop, pass_more, key_ends, rules)

@@ -2,7 +2,7 @@
 use mathlib.Core.Path.{◌≡◌, refl, sym, ap, subst, ◌∙◌}
 use mathlib.Core.List.{List}
 use mathlib.Core.Bool.{Bool, true, false, ◌&&◌}
-use Prim.Native.Nat.{ℕ, zero, suc, ◌+◌, ◌-◌, ◌≤◌, ◌<◌}
+use Prim.Native.Nat.{ℕ, zero, suc, ◌+◌, ◌-◌, ◌≤◌, ◌<◌, max}
 use native.Mathlib.Omega.{arith}
 use native.Mathlib.Decide.{dec_le}
 use lib.ListN.{length, drop, get_or, drop_of_length-le}
@@ -15,10 +15,10 @@ use Rattle.exact.specs.Place.{peek, run_end, run_over, run_none, run_more, get_d
 use Rattle.language.specs.Characters.{dark}
 use Rattle.utf8.specs.Utf8.{char_r}
 use Rattle.characters.specs.declared.Reading.{Reading}
-use Rattle.characters.specs.declared.Took.{Took}
-use Rattle.characters.specs.declared.Took.TheVariants.{Byte, Over}
-use Rattle.characters.specs.declared.Skip.{Skip}
-use Rattle.characters.specs.declared.Skip.TheVariants.{End, Bad}
+use Rattle.characters.specs.Reads.{Took}
+use Rattle.std.specs.declared.option.Option.TheVariants.{None, Some}
+use Rattle.characters.specs.Reads.{Skip}
+use Rattle.std.specs.declared.result.Result.TheVariants.{Err, Ok}
 use Rattle.characters.specs.Comments.{piece_r, pieces_r}
 use Rattle.characters.specs.Reads.{ByteRead, byte_inside, byte_there, byte_next, byte_past, Stands, WideAt, Ends, Skips, ends_of, bad_of}
 use Rattle.characters.specs.Runs.{Dried, Fed}
@@ -45,7 +45,10 @@ pub end_on : (doc : List ℕ) (at i b : ℕ) → run_end (only b) doc at ≡ run
     → run_end (only b) doc at ≡ run_end (only b) doc (i + 1)
 end_on doc at i b h l e = h ∙ same_more doc i b l e
 
-pub ruleset running = (same_over, same_none, same_end, end_on, rules)
+pub same_whole : (doc : List ℕ) (at i b : ℕ) → run_end (only b) doc at ≡ run_end (only b) doc i → length doc ≤ i → i ≡ max at (length doc) → max at (length doc) ≡ run_end (only b) doc at
+same_whole doc at i b h l e = sym e ∙ same_end doc at i b h (same_over doc i b l)
+
+pub ruleset running = (same_over, same_whole, same_none, same_end, end_on, rules)
 
 -- ---- no LF, up to e so far
 
@@ -64,34 +67,37 @@ module _ (doc : List ℕ) (at : ℕ) where
     pub fed_over : length doc ≤ e → Fed doc at e
     fed_over l = record { dried = i; feed = λ k. absurd (omega arith) }
 
+    pub fed_whole : length doc ≤ e → Fed doc at (length doc)
+    fed_whole l = let z : e ≡ length doc = omega (arith, i.inside) in subst (Fed doc at) z (fed_over l)
+
     pub fed_here : e < length doc → get_or doc e 0 ≡ 10 → Fed doc at e
     fed_here l h = record { dried = i; feed = λ k. get_d_any doc e 256 0 l ∙ h }
 
-pub ruleset feeding = (dried_first, dried_on, fed_over, fed_here, rules)
+pub ruleset feeding = (dried_first, dried_on, fed_whole, fed_here, rules)
 
 -- ---- a piece
 
 module _ (doc : List ℕ) (at j : ℕ) (e : j ≡ run_end (only 32) doc at) where
   module _ (t : Took) (h : ByteRead doc j t) where
-    pub piece_over : t ≡ Over → Skips doc at (piece_r at (drop at doc)) (Bad j)
+    pub piece_over : t ≡ None → Skips doc at (piece_r at (drop at doc)) (Err j)
     unfolding Skips
     piece_over z = piece_bad doc at j e j (ap (char_r dark j) (drop_of_length-le doc (byte_past doc j t h z)))
 
-    module _ (b : ℕ) (n : Reading) (z : t ≡ Byte b n) where
+    module _ (b : ℕ) (n : Reading) (z : t ≡ Some (b, n)) where
       stands : b < 128 → Stands doc j b (j + 1)
       stands k =
           let i = byte_inside doc j t h b n z in
           low_stands doc j b i (byte_there doc j t h b n z ∙ sym (get_d_any doc j 0 256 i)) k
 
-      pub piece_dark : 33 ≤ b → b < 127 → Skips doc at (piece_r at (drop at doc)) (End n.at)
+      pub piece_dark : 33 ≤ b → b < 127 → Skips doc at (piece_r at (drop at doc)) (Ok n.at)
       unfolding Skips
       piece_dark l k = rw (byte_next doc j t h b n z) (piece_ends doc at j e b (j + 1) (stands (omega arith)) (dark_among b l k))
 
-      pub piece_low : b < 33 → Skips doc at (piece_r at (drop at doc)) (Bad j)
+      pub piece_low : b < 33 → Skips doc at (piece_r at (drop at doc)) (Err j)
       unfolding Skips
       piece_low k = piece_light doc at j e b (j + 1) (stands (omega arith)) (dark_below b k)
 
-      pub piece_delete : 127 ≤ b → b < 128 → Skips doc at (piece_r at (drop at doc)) (Bad j)
+      pub piece_delete : 127 ≤ b → b < 128 → Skips doc at (piece_r at (drop at doc)) (Err j)
       unfolding Skips
       piece_delete k l = piece_light doc at j e b (j + 1) (stands l) (dark_delete b (omega arith))
 
@@ -101,10 +107,10 @@ module _ (doc : List ℕ) (at j : ℕ) (e : j ≡ run_end (only 32) doc at) wher
   -- a character of several bytes is none that is light
   pub piece_wide : (r : Skip) → WideAt doc j r → Skips doc at (piece_r at (drop at doc)) r
   unfolding Skips WideAt
-  piece_wide (End n) w =
+  piece_wide (Ok n) w =
       let h = w.high in
       piece_ends doc at j e w.value n w.stands (dark_above w.value w.stands.allowed (omega arith) (λ z. omega arith))
-  piece_wide (Bad p) w = piece_bad doc at j e p (w dark)
+  piece_wide (Err p) w = piece_bad doc at j e p (w dark)
 
 pub ruleset piecing = (piece_over, piece_dark, piece_low, piece_delete, byte_inside, wide_there, piece_wide, rules)
 
@@ -210,20 +216,20 @@ module _ (doc : List ℕ) (at far first i : ℕ) (s : Smooth doc at far) (t : Sm
   along : Along doc at i
   along = u.on at (t.on at (s.on at (along_first doc at)))
 
-  pub lines_over : length doc ≤ i → Skips doc at (pieces_r at (drop at doc)) (End i)
+  pub lines_over : length doc ≤ i → Skips doc at (pieces_r at (drop at doc)) (Ok i)
   unfolding Skips
   lines_over h = pieces_over doc at i along u.inside h
 
   module _ (l : i < length doc) (r : Skip) (h : Skips doc i (piece_r i (drop i doc)) r) where
-    pub lines_end : (p : ℕ) → r ≡ Bad p → p ≡ i → Skips doc at (pieces_r at (drop at doc)) (End p)
+    pub lines_end : (p : ℕ) → r ≡ Err p → p ≡ i → Skips doc at (pieces_r at (drop at doc)) (Ok p)
     unfolding Skips
     lines_end p e k = rw k (pieces_end doc at i along l (bad_of doc i (piece_r i (drop i doc)) r p e h ∙ ap bad k))
 
-    pub lines_bad : (p : ℕ) → r ≡ Bad p → (p ≡ i → ⊥) → Skips doc at (pieces_r at (drop at doc)) (Bad p)
+    pub lines_bad : (p : ℕ) → r ≡ Err p → (p ≡ i → ⊥) → Skips doc at (pieces_r at (drop at doc)) (Err p)
     unfolding Skips
     lines_bad p e n = pieces_bad doc at i along l p (bad_of doc i (piece_r i (drop i doc)) r p e h) n
 
-module _ (doc : List ℕ) (i : ℕ) (r : Skip) (h : Skips doc i (piece_r i (drop i doc)) r) (n : ℕ) (e : r ≡ End n) where
+module _ (doc : List ℕ) (i : ℕ) (r : Skip) (h : Skips doc i (piece_r i (drop i doc)) r) (n : ℕ) (e : r ≡ Ok n) where
   one_piece : Ends doc i (piece_r i (drop i doc)) n
   one_piece = ends_of doc i (piece_r i (drop i doc)) r n e h
 

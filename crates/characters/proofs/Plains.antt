@@ -1,8 +1,8 @@
 -- Laws of runs of bytes of a class, as the loops over them meet them: the plain bytes of a string, the bytes of a bare key, and digits.
-use mathlib.Core.Path.{◌≡◌, refl, sym, ◌∙◌}
+use mathlib.Core.Path.{◌≡◌, refl, sym, ◌∙◌, subst}
 use mathlib.Core.List.{List}
 use mathlib.Core.Bool.{Bool, true, false}
-use Prim.Native.Nat.{ℕ, ◌+◌, ◌-◌, ◌≤◌, ◌<◌}
+use Prim.Native.Nat.{ℕ, ◌+◌, ◌-◌, ◌*◌, ◌≤◌, ◌<◌}
 use native.Mathlib.Nat.{add-zero}
 use native.Mathlib.Omega.{arith}
 use native.Mathlib.Decide.{dec_le}
@@ -11,7 +11,7 @@ use lib.Dec.{eqb}
 use borrow.Author.Rules.{rules}
 use borrow.Author.Tests.{eqb-true, le-leb, lt-leb}
 use Rattle.exact.specs.Class.{Class, is}
-use Rattle.exact.specs.Place.{get_d_any, run, run_over, run_none, run_more}
+use Rattle.exact.specs.Place.{get_d_any, run_over, run_none, run_more}
 use Rattle.characters.specs.Plains.{Quote, double, single, plain_of, RunTo, Passing, Near}
 
 -- ---- a byte is plain, or not
@@ -56,12 +56,22 @@ passing_first k doc at l = record { same = refl; from = omega arith; inside = l 
 pass_on : (k : Class) (doc : List ℕ) (at e f : ℕ) → Passing k doc at e → Passing k doc e f → Passing k doc at f
 pass_on k doc at e f p r = record { same = p.same ∙ r.same; from = omega (arith, p.from, r.from); inside = r.inside }
 
-pub pass_block : (k : Class) (doc : List ℕ) (at e f : ℕ) (x : Bool) → Passing k doc at e → (x ≡ true → Passing k doc e f) → x ≡ true → Passing k doc at f
-pass_block k doc at e f x p r z = pass_on k doc at e f p (r z)
+-- the same by blocks of 64: from the first on, one more, and as many as there are
+pub blocks_first : (k : Class) (doc : List ℕ) (at i : ℕ) → at ≤ length doc → i ≡ 0 → Passing k doc at (at + 64 * i)
+blocks_first k doc at i l e = let z : at + 64 * i ≡ at = omega arith in rw z (passing_first k doc at l)
+
+pub blocks_more : (k : Class) (doc : List ℕ) (at i : ℕ) (x : Bool) → Passing k doc at (at + 64 * i) → (x ≡ true → Passing k doc (at + 64 * i) (at + 64 * i + 64)) → x ≡ true → Passing k doc at (at + 64 * (i + 1))
+blocks_more k doc at i x p r z = let e : at + 64 * (i + 1) ≡ at + 64 * i + 64 = omega arith in rw e (pass_on k doc at (at + 64 * i) (at + 64 * i + 64) p (r z))
+
+pub blocks_all : (k : Class) (doc : List ℕ) (at i n : ℕ) → Passing k doc at (at + 64 * i) → i ≡ n → Passing k doc at (at + 64 * n)
+blocks_all k doc at i n p e = rw (← e) p
 
 module _ (k : Class) (doc : List ℕ) (at e : ℕ) (p : Passing k doc at e) where
   pub pass_over : length doc ≤ e → RunTo k doc at e
   pass_over l = record { is = sym (p.same ∙ run_over k doc e l); from = p.from; inside = p.inside }
+
+  pub pass_whole : length doc ≤ e → RunTo k doc at (length doc)
+  pass_whole l = let z : e ≡ length doc = omega (arith, p.inside) in subst (RunTo k doc at) z (pass_over l)
 
   -- .. as a test of the byte says it, for a class that does not have the end
   module _ (l : e < length doc) (x : Bool) (h : x ≡ is k (get_or doc e 0)) where
@@ -81,6 +91,9 @@ module _ (k : Class) (doc : List ℕ) (at e : ℕ) where
 
   pub near_ended : Passing k doc at e → RunTo k doc at e → Near k doc at e
   near_ended p r = record { passing = p; ending = λ _. r }
+
+  pub near_whole : Passing k doc at e → length doc ≤ e → Near k doc at (length doc)
+  near_whole p l = let z : e ≡ length doc = omega (arith, p.inside) in subst (Near k doc at) z (near_ended p (pass_over k doc at e p l))
 
   pub near_run : Near k doc at e → e - at < 8 → RunTo k doc at e
   near_run n l = n.ending l
@@ -112,4 +125,4 @@ module _ (k : Class) (doc : List ℕ) (at : ℕ) where
   pub counted_all : (n i : ℕ) → Counted k doc at n i → i ≡ 64 → eqb n 64 ≡ true → Passing k doc at (at + 64)
   counted_all n i c e h = let z : n ≡ i = eqb-true n 64 h ∙ sym e in rw e at (c.full z)
 
-pub ruleset plains = (passing_first, pass_over, pass_stop, pass_more, plain_ends, rules)
+pub ruleset plains = (passing_first, pass_over, pass_whole, pass_stop, pass_more, plain_ends, rules)

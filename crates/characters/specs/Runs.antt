@@ -7,15 +7,14 @@ use Rattle.std.proofs.Math.Seq.{slice, slice-cons, slice_empty}
 use Rattle.exact.specs.Class.{Class, is}
 use Rattle.exact.specs.Place.{peek, run_end, run_over, run_none, run_more}
 use Rattle.characters.specs.declared.Reading.{Reading}
-use Rattle.characters.specs.declared.Took.TheVariants.{Byte}
-use Rattle.characters.specs.declared.Read.TheVariants.{Scalar}
-use Rattle.characters.specs.declared.Skip.TheVariants.{End}
+use Rattle.std.specs.declared.option.Option.TheVariants.{Some}
+use Rattle.std.specs.declared.result.Result.TheVariants.{Ok}
 use Rattle.characters.specs.Reads.{ByteRead, ReadAt, WideAt}
 
 -- the bytes bs, taken one at a time, lead from `at` to e
 pub data Bytes (doc : List ℕ) : ℕ → List ℕ → ℕ → Type 0 where
   no_byte : {at : ℕ} → Bytes doc at [] at
-  a_byte : {at b e : ℕ} {n : Reading} {bs : List ℕ} → ByteRead doc at (Byte b n) → Bytes doc n.at bs e → Bytes doc at (b ∷ bs) e
+  a_byte : {at b e : ℕ} {n : Reading} {bs : List ℕ} → ByteRead doc at (Some (b, n)) → Bytes doc n.at bs e → Bytes doc at (b ∷ bs) e
 
 one_more : (doc : List ℕ) (at e : ℕ) (bs : List ℕ) → at < length doc → Bytes doc (at + 1) bs e → Bytes doc at (peek doc at ∷ bs) e
 unfolding ByteRead
@@ -72,7 +71,7 @@ run_steps c doc at n = go (length doc) at (omega arith)
         by (no h) false e p = subst (Passed c doc at) (sym (run_none c doc at n e)) (record { bytes = []; steps = no_byte; each = tt; next = e })
 
 -- THE BYTES OF ONE CHARACTER, passed at once, are a step of `scalar`
-pub wide_step : (doc : List ℕ) (at n : ℕ) → WideAt doc at (End n) → (v : ℕ) × ReadAt doc at (Scalar v (record { at = n }))
+pub wide_step : (doc : List ℕ) (at n : ℕ) → WideAt doc at (Ok n) → (v : ℕ) × ReadAt doc at (Ok (v, (record { at = n })))
 unfolding WideAt ReadAt
 wide_step doc at n w = (w.value, w.stands)
 

@@ -1,5 +1,5 @@
 -- Borders of characters and comments, by running the readers. Assumes nothing.
-use Rattle.std.specs.Prelude.{◌≡◌, refl, List, [], ◌∷◌}
+use Rattle.std.specs.Prelude.{◌≡◌, refl, [], ◌∷◌}
 use Rattle.exact.specs.Out.{ok, bad}
 use Rattle.language.specs.Characters.{ascii}
 use Rattle.utf8.specs.Utf8.{char_r}

@@ -7,21 +7,16 @@ use super::Reading;
 
 impl Reading {
     // The place behind the digits that stand here.
+    #[tactic(auto, using(crate::proofs::DigitPassing::passing))]
     pub fn digits(self, doc: &[u8]) -> Reading
         requires { self.at ≤ length doc.now }
         ensures { RunTo digit doc.now self.at result.at }
     {
-        let mut at = self.at;
-        while at < doc.len() {
-            let b = doc[at];
-            if b < 48 {
+        for at in self.at..doc.len() {
+            if doc[at] < b'0' || b'9' < doc[at] {
                 return Reading { at };
             }
-            if 57 < b {
-                return Reading { at };
-            }
-            at += 1;
         }
-        Reading { at }
+        Reading { at: doc.len() }
     }
 }

@@ -7,6 +7,7 @@ ghost use Rattle.characters.specs.Plains.{RunTo};
 use super::Reading;
 
 // A byte of a bare key: a letter, a digit, `-` or `_`. Lowercase letters are the most, and come first.
+#[tactic(auto, using(crate::proofs::KeyBytes::keybytes))]
 pub fn is_key(b: u32) -> bool
     ensures { result ≡ is keybyte b }
 {
@@ -30,18 +31,16 @@ pub fn is_key(b: u32) -> bool
 
 impl Reading {
     // The place behind the bytes of a bare key that stand here.
+    #[tactic(auto, using(crate::proofs::KeyBytes::keyruns))]
     pub fn key_bytes(self, doc: &[u8]) -> Reading
         requires { self.at ≤ length doc.now }
         ensures { RunTo keybyte doc.now self.at result.at }
     {
-        let mut e = self.at;
-        while e < doc.len() {
-            if is_key(doc[e] as u32) {
-                e += 1;
-            } else {
-                return Reading { at: e };
+        for at in self.at..doc.len() {
+            if !is_key(doc[at] as u32) {
+                return Reading { at };
             }
         }
-        Reading { at: e }
+        Reading { at: doc.len() }
     }
 }

@@ -28,78 +28,58 @@ pub struct Reading {
     pub at: usize,
 }
 
-// What taking a byte gives: the byte and the place behind it, or that the document is at its end.
-#[derive(Clone, Copy)]
-pub enum Took {
-    Byte(u8, Reading),
-    Over,
-}
+// What taking a byte gives: the byte and the place behind it; none at the document's end.
+pub type Took = Option<(u8, Reading)>;
 
 // What reading a character gives: its scalar value and the place behind it, or the place of the first byte that no character has there.
-#[derive(Clone, Copy)]
-pub enum Read {
-    Scalar(u32, Reading),
-    Not(usize),
-}
+pub type Read = Result<(u32, Reading), usize>;
 
 // What passing over a part of a line gives: the place behind it, or the place where it is refused.
-#[derive(Clone, Copy)]
-pub enum Skip {
-    End(usize),
-    Bad(usize),
-}
+pub type Skip = Result<usize, usize>;
 
 impl Reading {
     // The byte here, and the place behind it.
+    // Stays (point 4): readers go on from the place behind, and `doc.get(at)` with a sum beside it at each of them would be no plainer.
+    #[tactic(auto, using(crate::proofs::Taking::taking))]
     pub fn byte(self, doc: &[u8]) -> Took
         ensures { ByteRead doc.now self.at result }
     {
         let at = self.at;
         if at < doc.len() {
-            return Took::Byte(doc[at], Reading { at: at + 1 });
+            Some((doc[at], Reading { at: at + 1 }))
+        } else {
+            None
         }
-        Took::Over
     }
 
     // The byte b, taken: the place behind it, or the place where another stands.
+    #[tactic(auto, using(crate::proofs::Taking::taking))]
     pub fn take(self, doc: &[u8], b: u8) -> Skip
         ensures { Skips doc.now self.at (byte_r (is (only b)) self.at (drop self.at doc.now)) result }
     {
-        let at = self.at;
-        match self.byte(&*doc) {
-            Took::Over => Skip::Bad(at),
-            Took::Byte(got, n) => {
-                if got == b {
-                    return Skip::End(n.at);
-                }
-                Skip::Bad(at)
-            }
+        match self.byte(doc) {
+            Some((got, n)) if got == b => Ok(n.at),
+            _ => Err(self.at),
         }
     }
 
     // The scalar value of the character here, and the place behind it.
+    #[tactic(auto, using(crate::proofs::Chars::reading))]
     pub fn scalar(self, doc: &[u8]) -> Read
         ensures { ReadAt doc.now self.at result }
     {
         let at = self.at;
         if doc.len() <= at {
-            return Read::Not(at);
+            return Err(at);
         }
         let b = doc[at];
         if b < 128 {
-            return Read::Scalar(b as u32, Reading { at: at + 1 });
+            return Ok((b as u32, Reading { at: at + 1 }));
         }
-        let mut e = whole(&*doc, at);
-        if e == 0 {
-            match walk_end(&*doc, at) {
-                Skip::Bad(p) => {
-                    return Read::Not(p);
-                }
-                Skip::End(n) => {
-                    e = n;
-                }
-            }
-        }
-        Read::Scalar(value(&*doc, at, e), Reading { at: e })
+        let e = match whole(doc, at) {
+            Some(e) => e,
+            None => walk_end(doc, at)?,
+        };
+        Ok((value(doc, at, e), Reading { at: e }))
     }
 }

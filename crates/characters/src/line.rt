@@ -7,97 +7,94 @@ ghost use Rattle.characters.specs.Pieces.{Block, Smooth};
 ghost use Rattle.characters.specs.Reads.{Skips};
 ghost use Rattle.characters.specs.Runs.{Fed};
 
-use super::{Reading, Skip, Took};
+use super::{Reading, Skip};
 
 impl Reading {
     // The place behind the bytes b here, as many as there are.
+    #[tactic(auto, using(crate::proofs::Lines::running))]
     fn run(self, doc: &[u8], b: u8) -> Reading
         ensures { result.at ≡ run_end (only b) doc.now self.at }
     {
-        let mut i = self.at;
-        while i < doc.len() {
-            if doc[i] != b {
-                return Reading { at: i };
+        for at in self.at..doc.len() {
+            if doc[at] != b {
+                return Reading { at };
             }
-            i += 1;
         }
-        Reading { at: i }
+        Reading {
+            at: self.at.max(doc.len()),
+        }
     }
 
     // The place behind the spaces here.
+    #[tactic(auto, using(crate::proofs::Lines::running))]
     pub fn spaces(self, doc: &[u8]) -> Reading
         ensures { result.at ≡ run_end (only 32) doc.now self.at }
     {
-        self.run(&*doc, 32)
+        self.run(doc, 32)
     }
 
     // The place behind the LFs here.
+    #[tactic(auto, using(crate::proofs::Lines::running))]
     pub fn line_feeds(self, doc: &[u8]) -> Reading
         ensures { result.at ≡ run_end (only 10) doc.now self.at }
     {
-        self.run(&*doc, 10)
+        self.run(doc, 10)
     }
 
     // The place of the first LF from here on.
+    #[tactic(auto, using(crate::proofs::Lines::feeding))]
     pub fn line_end(self, doc: &[u8]) -> Reading
         requires { self.at ≤ length doc.now }
         ensures { Fed doc.now self.at result.at }
     {
-        let mut i = self.at;
-        while i < doc.len() {
-            if doc[i] == 10 {
-                return Reading { at: i };
+        for at in self.at..doc.len() {
+            if doc[at] == b'\n' {
+                return Reading { at };
             }
-            i += 1;
         }
-        Reading { at: i }
+        Reading { at: doc.len() }
     }
 
     // A piece of a line: spaces, and a character that is none.
+    #[tactic(auto, using(crate::proofs::Lines::piecing))]
     pub fn piece(self, doc: &[u8]) -> Skip
         ensures { Skips doc.now self.at (piece_r self.at (drop self.at doc.now)) result }
     {
-        let dark = self.spaces(&*doc);
-        match dark.byte(&*doc) {
-            Took::Over => Skip::Bad(dark.at),
-            Took::Byte(b, n) => match b {
-                33..=126 => Skip::End(n.at),
-                128..=255 => dark.wide(&*doc),
-                _ => Skip::Bad(dark.at),
-            },
+        let dark = self.spaces(doc);
+        match dark.byte(doc) {
+            Some((33..=126, n)) => Ok(n.at),
+            Some((128..=255, _)) => dark.wide(doc),
+            _ => Err(dark.at),
         }
     }
 
     // Whether the 64 bytes from here on are printable, and the last of them is no space. The loop has no exit, so that it becomes vector code.
+    #[tactic(auto, using(crate::proofs::Lines::printing))]
     fn printable(self, doc: &[u8]) -> bool
         requires { self.at + 64 ≤ length doc.now }
         ensures { result ≡ true → Block doc.now self.at }
     {
         let at = self.at;
-        if doc[at] < 32 {
-            return false;
-        }
-        if doc[at + 63] == 32 {
+        if doc[at] < 32 || doc[at + 63] == b' ' {
             return false;
         }
         let mut all = true;
-        let mut i = 0;
-        while i < 64 {
+        for i in 0..64 {
             let b = doc[at + i];
             all = all & (32 <= b) & (b <= 126);
-            i += 1;
         }
         all
     }
 
     // The place behind the blocks of 64 printable bytes that stand here.
+    #[tactic(auto, using(crate::proofs::Lines::smoothly))]
     fn blocks(self, doc: &[u8]) -> Reading
         requires { self.at ≤ length doc.now }
         ensures { Smooth doc.now self.at result.at }
     {
         let mut n = self;
         while 64 <= doc.len() - n.at {
-            if n.printable(&*doc) {
+            if n.printable(doc) {
                 n = Reading { at: n.at + 64 };
             } else {
                 return n;
@@ -107,109 +104,90 @@ impl Reading {
     }
 
     // Where the last character that is no space ends among the printable ones of ASCII from here on.
+    #[tactic(auto, using(crate::proofs::Lines::smoothly))]
     fn smooth(self, doc: &[u8]) -> Reading
         requires { self.at ≤ length doc.now }
         ensures { Smooth doc.now self.at result.at }
     {
-        let mut i = self.at;
         let mut last = self.at;
-        while i < doc.len() {
+        for i in self.at..doc.len() {
             let b = doc[i];
-            if b < 32 {
+            if b < 32 || 126 < b {
                 return Reading { at: last };
             }
-            if 126 < b {
-                return Reading { at: last };
-            }
-            i += 1;
-            if b != 32 {
-                last = i;
+            if b != b' ' {
+                last = i + 1;
             }
         }
         Reading { at: last }
     }
 
     // The pieces from here on, as many as there are. Blocks are looked for once: behind them there are spaces at a block's end, a wide character or the line's end.
+    #[tactic(auto, using(crate::proofs::Lines::lines))]
     pub fn pieces(self, doc: &[u8]) -> Skip
         requires { self.at ≤ length doc.now }
         ensures { Skips doc.now self.at (pieces_r self.at (drop self.at doc.now)) result }
     {
-        let far = self.blocks(&*doc);
-        let mut n = far.smooth(&*doc);
+        let far = self.blocks(doc);
+        let mut n = far.smooth(doc);
         while n.at < doc.len() {
-            match n.piece(&*doc) {
-                Skip::Bad(p) => {
-                    if p == n.at {
-                        return Skip::End(p);
-                    }
-                    return Skip::Bad(p);
+            match n.piece(doc) {
+                Ok(at) => {
+                    let m = Reading { at };
+                    n = m.smooth(doc);
                 }
-                Skip::End(e) => {
-                    let m = Reading { at: e };
-                    n = m.smooth(&*doc);
-                }
+                Err(p) if p == n.at => return Ok(p),
+                Err(p) => return Err(p),
             }
         }
-        Skip::End(n.at)
+        Ok(n.at)
     }
 
     // A comment.
+    #[tactic(auto, using(crate::proofs::Lines::commenting))]
     pub fn comment(self, doc: &[u8]) -> Skip
         ensures { Skips doc.now self.at (comment_r self.at (drop self.at doc.now)) result }
     {
-        match self.take(&*doc, 35) {
-            Skip::Bad(p) => Skip::Bad(p),
-            Skip::End(e) => {
-                let n = Reading { at: e };
-                n.pieces(&*doc)
-            }
-        }
+        let at = self.take(doc, b'#')?;
+        Reading { at }.pieces(doc)
     }
 
     // A line comment.
+    #[tactic(auto, using(crate::proofs::Lines::commenting))]
     pub fn line_comment(self, doc: &[u8]) -> Skip
         ensures { Skips doc.now self.at (line_comment_r self.at (drop self.at doc.now)) result }
     {
-        match self.take(&*doc, 32) {
-            Skip::Bad(p) => Skip::Bad(p),
-            Skip::End(e) => {
-                let n = Reading { at: e };
-                match n.take(&*doc, 32) {
-                    Skip::Bad(p) => Skip::Bad(p),
-                    Skip::End(f) => {
-                        let m = Reading { at: f };
-                        m.comment(&*doc)
-                    }
-                }
-            }
-        }
+        let second = self.take(doc, b' ')?;
+        let at = Reading { at: second }.take(doc, b' ')?;
+        Reading { at }.comment(doc)
     }
 
     // A line comment, or nothing: a space here decides.
+    #[tactic(auto, using(crate::proofs::Lines::commenting))]
     pub fn optional_comment(self, doc: &[u8]) -> Skip
         requires { self.at ≤ length doc.now }
         ensures { Skips doc.now self.at (optional_comment_r self.at (drop self.at doc.now)) result }
     {
-        match self.take(&*doc, 32) {
-            Skip::Bad(p) => Skip::End(p),
-            Skip::End(_) => self.line_comment(&*doc),
+        match self.take(doc, b' ') {
+            Ok(_) => self.line_comment(doc),
+            Err(p) => Ok(p),
         }
     }
 }
 
 // A comment at a place.
+#[tactic(auto, using(crate::proofs::Lines::commenting))]
 pub fn comment(doc: &[u8], at: usize) -> Skip
     ensures { Skips doc.now at (comment_r at (drop at doc.now)) result }
 {
-    let here = Reading { at };
-    here.comment(&*doc)
+    Reading { at }.comment(doc)
 }
 
 // A line comment at a place, or nothing.
+#[tactic(auto, using(crate::proofs::Lines::commenting))]
 pub fn optional_comment(doc: &[u8], at: usize) -> Skip
     requires { at ≤ length doc.now }
     ensures { Skips doc.now at (optional_comment_r at (drop at doc.now)) result }
 {
-    let here = Reading { at };
-    here.optional_comment(&*doc)
+    Reading { at }.optional_comment(doc)
 }

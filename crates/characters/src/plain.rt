@@ -5,24 +5,14 @@ ghost use Rattle.characters.specs.Plains.{Quote, plain_of, RunTo, Passing, Near}
 
 use super::Reading;
 
+// Stays (point 5), here and in strings: `Quote` is asked of a byte, since the document's bytes are compared with it; an enum would be turned into one each time.
 // Whether a byte is plain: a character below 128 that is neither the quote nor a backslash.
+#[tactic(auto, using(crate::proofs::Plains::plainbytes))]
 pub fn is_plain(b: u8, quote: u8) -> bool
     requires { Quote quote }
     ensures { result ≡ is (plain_of quote) b }
 {
-    if b < 32 {
-        return false;
-    }
-    if 126 < b {
-        return false;
-    }
-    if b == quote {
-        return false;
-    }
-    if b == 92 {
-        return false;
-    }
-    true
+    32 <= b && b <= 126 && b != quote && b != b'\\'
 }
 
 // Whether the 64 bytes from `at` on are all plain. They are counted, with no way out of the loop, so that many are tested at once.
@@ -31,70 +21,61 @@ fn all_plain(doc: &[u8], at: usize, quote: u8) -> bool
     ensures { result ≡ true → Passing (plain_of quote) doc.now at (at + 64) }
 {
     let mut n: u8 = 0;
-    let mut i = 0;
-    while i < 64 {
+    for i in 0..64 {
         if is_plain(doc[at + i], quote) {
             n += 1;
         }
-        i += 1;
     }
     n == 64
 }
 
 // The place behind as many 64 plain bytes as stand at `at`.
+#[tactic(auto, using(crate::proofs::Plains::blocks_first, crate::proofs::Plains::blocks_more, crate::proofs::Plains::blocks_all, crate::proofs::Plains::plains))]
 fn plain_blocks(doc: &[u8], at: usize, quote: u8) -> usize
     requires { (at ≤ length doc.now) × Quote quote }
     ensures { Passing (plain_of quote) doc.now at result }
 {
-    let mut e = at;
-    while 64 <= doc.len() - e {
-        if all_plain(&*doc, e, quote) {
-            e += 64;
-        } else {
-            return e;
+    let n = (doc.len() - at) / 64;
+    for i in 0..n {
+        if !all_plain(doc, at + 64 * i, quote) {
+            return at + 64 * i;
         }
     }
-    e
+    at + 64 * n
 }
 
 // The place behind the plain bytes that stand at `at`, 8 of them at most.
+#[tactic(auto, using(crate::proofs::Plains::near_ended, crate::proofs::Plains::near_full, crate::proofs::Plains::plains))]
 fn plain_near(doc: &[u8], at: usize, quote: u8) -> usize
     requires { (at ≤ length doc.now) × Quote quote }
     ensures { Near (plain_of quote) doc.now at result }
 {
-    let mut e = at;
-    while e < doc.len() {
-        if e - at == 8 {
-            return e;
-        }
-        if is_plain(doc[e], quote) {
-            e += 1;
-        } else {
+    for e in at..doc.len() {
+        if e - at == 8 || !is_plain(doc[e], quote) {
             return e;
         }
     }
-    e
+    doc.len()
 }
 
 impl Reading {
     // The place behind the plain bytes that stand here. Most runs are short: the first 8 bytes are read one at a time.
+    #[tactic(auto, using(crate::proofs::Plains::near_on, crate::proofs::Plains::near_run, crate::proofs::Plains::plains))]
     pub fn plain(self, doc: &[u8], quote: u8) -> Reading
         requires { (self.at ≤ length doc.now) × Quote quote }
         ensures { RunTo (plain_of quote) doc.now self.at result.at }
     {
         let at = self.at;
-        let near = plain_near(&*doc, at, quote);
+        let near = plain_near(doc, at, quote);
         if near - at < 8 {
             return Reading { at: near };
         }
-        let mut e = plain_blocks(&*doc, near, quote);
-        while e < doc.len() {
-            if is_plain(doc[e], quote) {
-                e += 1;
-            } else {
-                return Reading { at: e };
+        let far = plain_blocks(doc, near, quote);
+        for at in far..doc.len() {
+            if !is_plain(doc[at], quote) {
+                return Reading { at };
             }
         }
-        Reading { at: e }
+        Reading { at: doc.len() }
     }
 }

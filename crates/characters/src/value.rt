@@ -12,6 +12,7 @@ fn tail(doc: &[u8], i: usize) -> u32
     doc[i] as u32 - 128
 }
 
+// Stays (point 5): each of the three asks another range of its first byte, which no one type would hold.
 // The scalar value of two bytes, of three and of four: the first, and what the others add.
 fn of_two(a: u32, b: u32) -> u32
     requires between { Between 192 223 a }
@@ -41,19 +42,20 @@ fn of_four(a: u32, b: u32, c: u32, d: u32) -> u32
 }
 
 // The scalar value of the character from a up to e.
+#[tactic(auto, using(crate::proofs::Chars::valued))]
 pub fn value(doc: &[u8], a: usize, e: usize) -> u32
     requires { Wide doc.now a e }
     ensures { Stands doc.now a result e }
 {
     let first = doc[a] as u32;
-    let second = tail(&*doc, a + 1);
+    let second = tail(doc, a + 1);
     if e - a == 2 {
         return of_two(first, second);
     }
-    let third = tail(&*doc, a + 2);
+    let third = tail(doc, a + 2);
     if e - a == 3 {
         return of_three(first, second, third);
     }
-    let fourth = tail(&*doc, a + 3);
+    let fourth = tail(doc, a + 3);
     of_four(first, second, third, fourth)
 }

@@ -13,9 +13,8 @@ use borrow.Author.Rules.{rules}
 use Rattle.notation.specs.Class.{pick}
 use Rattle.language.specs.Tree.{unlined, width, row_list}
 use Rattle.language.specs.Lent.{lent}
-use Rattle.views.specs.Views.{viewed, place_of, Deeper}
+use Rattle.views.specs.Views.{viewed, place_of, Content, Deeper}
 use Rattle.uncut.specs.Filling.{members_of}
-use Rattle.wide.specs.Copies.{Copied}
 use Rattle.cutfill.specs.Placed.{places}
 use Rattle.cutfill.specs.Filling.{Rowed, FillCut, FillRoom, FillOne, FillLeaf, FillNode, Fills, Steps}
 use Rattle.cutfill.specs.Fields.{one_end, one_next, one_low, one_few, one_rowed, one_content, leaf_few, bare_steps, text_steps, inner_room, inner_few, node_steps}
@@ -54,8 +53,11 @@ module _ (stored starts : List ℕ) (d w at k n end r p x : ℕ) (g : FillLeaf s
   pub leaf_text_row : Rowed starts d at end r k p x (x + n) (r + 1)
   leaf_text_row = let f = few in one_rowed stored starts d at k n end r p x g.one (omega (arith, f.1)) (omega (arith, f.1)) (omega (arith, one_next stored starts d at k n end r p x g.one))
 
-  pub leaf_copied : {new : List ℕ} → Deeper starts d at new → Copied stored new (d + 1) n x w
-  leaf_copied q = let f = few in record { content_of = one_content stored starts d at k n end r p x g.one q; room = f.0 }
+  pub leaf_content : {new : List ℕ} → Deeper starts d at new → Content stored new (d + 1) n
+  leaf_content q = one_content stored starts d at k n end r p x g.one q
+
+  pub leaf_room : x + n ≤ w
+  leaf_room = let f = few in f.0
 
   module _ (h : FillOne stored starts d at k n end r p x) (table table' : List ℕ) where
     pub leaf_bare_told : (text : List ℕ) → k < 4 → table' ≡ sets table (width * r) (row_list unlined k (place_of starts d at) (place_of starts d (end - 1) + 1) 0 0 p (r + 1))
@@ -66,7 +68,7 @@ module _ (stored starts : List ℕ) (d w at k n end r p x : ℕ) (g : FillLeaf s
         → Deeper starts d at new → text' ≡ sets text x (take n (viewed stored new (d + 1))) → Steps starts d h.asked.trees at r p x end (r + 1) (x + n) 1 table table' text text'
     leaf_text_told text text' new l e q s = text_steps stored starts d at k n end r p x h g.other l e q s
 
-pub ruleset leaf_filling = (leaf_next, leaf_inner, leaf_opens, leaf_sum, leaf_bare_row, leaf_text_row, leaf_copied, leaf_bare_told, leaf_text_told, rules)
+pub ruleset leaf_filling = (leaf_next, leaf_inner, leaf_opens, leaf_sum, leaf_bare_row, leaf_text_row, leaf_content, leaf_room, leaf_bare_told, leaf_text_told, rules)
 
 -- ---- a container
 
@@ -93,6 +95,9 @@ module _ (stored starts : List ℕ) (d w at k n end r p x : ℕ) (g : FillNode s
   module _ {new : List ℕ} (q : Deeper starts d at new) where
     pub node_children : FillRoom stored new (d + 1) w 0 n (r + 1) r x
     node_children = inner_room stored starts d at k n end r p x g.one g.container q g.room
+
+    pub node_content : Content stored new (d + 1) n
+    node_content = let h = node_children in record { low = omega (arith, h.asked.deep); few = h.asked.few; fits = h.asked.inside }
 
     module _ {r' x' m : ℕ} {table table₁ text text' : List ℕ} (f : (i : FillCut stored new (d + 1) 0 n (r + 1) r x) → Fills i.trees (places new (d + 1) 0) (r + 1) r x r' x' m table table₁ text text') {c : ℕ} (z : c ≡ members_of k m) where
       pub node_row : Rowed starts d at end r k p 0 c r'

@@ -11,8 +11,9 @@ use Rattle.exact.specs.Tells.{Tells, tells_yes, tells_no}
 use Rattle.views.specs.Views.{viewed}
 use Rattle.views.specs.Spans.{Lies}
 use Rattle.views.specs.Extents.{Whole, Told}
+use Rattle.std.specs.declared.option.Option.{Option}
+use Rattle.std.specs.declared.option.Option.TheVariants.{Some, None}
 use Rattle.views.specs.declared.parts.Span.{Span}
-use Rattle.views.specs.declared.parts.Span.TheVariants.{Of, Nothing}
 use Rattle.cutfill.specs.Wholes.{Run}
 use Rattle.cutfill.specs.Trees.{Container}
 use Rattle.cutfill.specs.Filling.{Passes, FillCut, FillRoom, FillOne, FillLeaf, FillNode, Passed, Steps}
@@ -21,9 +22,6 @@ use Rattle.cutfill.specs.Steps.{cut_lies, cut_some, pass_asked, pass_steps, Left
 -- ---- fields that stand whole, or one that does not
 
 module _ {stored starts : List ℕ} {d w at stop r p x : ℕ} (g : FillRoom stored starts d w at stop r p x) where
-  pub some_lies : Lies stored starts d at stop
-  some_lies = cut_lies stored starts d at stop r p x g.asked
-
   module _ {place e : ℕ} (u : Run stored starts d at stop place e) where
     pub some_passes : Passes stored place e at w r p x
     some_passes = pass_asked stored starts d at stop r p x g.asked place e u g.room
@@ -32,34 +30,34 @@ module _ {stored starts : List ℕ} {d w at stop r p x : ℕ} (g : FillRoom stor
         → (h : FillCut stored starts d at stop r p x) → Steps starts d h.trees at r p x at' r' x' c table table' text text'
     some_passed l q h = pass_steps stored starts d at stop r p x h place e u l q
 
-  module _ {q : Span} (u : Told (viewed stored starts d) at stop q) where
-    pub some_none : at < stop → q ≡ Nothing → ⊥
+  module _ {q : Option Span} (u : Told (viewed stored starts d) at stop q) where
+    pub some_none : at < stop → q ≡ None → ⊥
     some_none l e =
-        let f : Told (viewed stored starts d) at stop Nothing = rw e at u in
+        let f : Told (viewed stored starts d) at stop None = rw e at u in
         cut_some stored starts d at stop r p x g.asked l f
 
-    module _ {k n end : ℕ} (z : q ≡ Of k n end) where
-      told : Whole (viewed stored starts d) at stop k n end
+    module _ {f : Span} (z : q ≡ Some f) where
+      told : Whole (viewed stored starts d) at stop f.tag f.bytes f.end
       told = rw z at u
 
-      one : FillOne stored starts d at k n end r p x
+      one : FillOne stored starts d at f.tag f.bytes f.end r p x
       one = record { stop = stop; asked = g.asked; told = told }
 
-      pub some_node : {b : Bool} → Tells (Container k) b → b ≡ true → FillNode stored starts d w at k n end r p x
+      pub some_node : {b : Bool} → Tells (Container f.tag) b → b ≡ true → FillNode stored starts d w at f.tag f.bytes f.end r p x
       unfolding one
       some_node {b} t y = record { one = one; container = tells_yes b y t; room = g.room }
 
-      pub some_leaf : {b : Bool} → Tells (Container k) b → b ≡ false → FillLeaf stored starts d w at k n end r p x
+      pub some_leaf : {b : Bool} → Tells (Container f.tag) b → b ≡ false → FillLeaf stored starts d w at f.tag f.bytes f.end r p x
       unfolding one
       some_leaf {b} t y = record { one = one; other = tells_no b y t; room = g.room }
 
-      pub some_fewer : (t : ℕ) → 3 * (stop - at) + 1 ≡ t → 3 * (end - at) < t
+      pub some_fewer : (t : ℕ) → 3 * (stop - at) + 1 ≡ t → 3 * (f.end - at) < t
       some_fewer t e = let y = told in omega (arith, y.below)
 
       pub some_one : {at' r' x' c : ℕ} {table table' text text' : List ℕ}
-          → ((h : FillOne stored starts d at k n end r p x) → Steps starts d h.asked.trees at r p x at' r' x' c table table' text text')
+          → ((h : FillOne stored starts d at f.tag f.bytes f.end r p x) → Steps starts d h.asked.trees at r p x at' r' x' c table table' text text')
           → (h : FillCut stored starts d at stop r p x) → Steps starts d h.trees at r p x at' r' x' c table table' text text'
-      some_one f h = f (record { stop = stop; asked = h; told = told })
+      some_one g h = g (record { stop = stop; asked = h; told = told })
 
 -- ---- the loop
 

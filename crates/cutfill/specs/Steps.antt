@@ -16,10 +16,10 @@ use Rattle.stored.proofs.LengthsLaws.{forms_length, form_longer, few_rows, few_t
 use Rattle.stored.specs.Old as old
 use Rattle.stored.specs.Bytes.{At, at_left, at_right, at_as, at_place, at_slice}
 use Rattle.fields.specs.Puts.{puts_as}
-use Rattle.views.specs.Views.{viewed, view_file, view_less}
+use Rattle.views.specs.Views.{viewed, view_file, view_less, Content}
 use Rattle.views.specs.Spans.{Lies}
 use Rattle.views.specs.Extents.{Told}
-use Rattle.views.specs.declared.parts.Span.TheVariants.{Nothing}
+use Rattle.std.specs.declared.option.Option.TheVariants.{None}
 use Rattle.uncut.specs.Filling as uncut
 use Rattle.wide.specs.Walk.{beside_forms}
 use Rattle.cutfill.specs.Placed.{places, places_are, places_file, beside_all, beside_none, run_forms, run_placed}
@@ -44,7 +44,7 @@ module _ (stored starts : List ℕ) (d at stop r p x : ℕ) (h : FillCut stored 
   cut_few = let l = view_less stored starts d in omega (arith, h.few, h.inside)
 
   -- a field stands there
-  pub cut_some : at < stop → Told v at stop Nothing → ⊥
+  pub cut_some : at < stop → Told v at stop None → ⊥
   unfolding content
   cut_some l f = by h.trees h.kept h.here h.total
     where
@@ -224,6 +224,10 @@ module _ (stored starts : List ℕ) where
   pub root_room : {w : ℕ} → FillRoot stored w → FillRoom stored starts 0 w 0 (length stored) 0 0 0
   unfolding root_cut text_of
   root_room g = record { asked = root_cut g; room = omega (arith, g.room, length-append (text_of g.tree) []) }
+
+  pub root_content : {w : ℕ} → FillRoot stored w → Content stored starts 0 (length stored)
+  unfolding root_cut
+  root_content g = let h = root_cut g in record { low = omega arith; few = h.few; fits = h.inside }
 
   pub root_filled : {w r x n : ℕ} {table table' text text' : List ℕ} → ((i : FillCut stored starts 0 0 (length stored) 0 0 0) → Fills i.trees (places starts 0 0) 0 0 0 r x n table table' text text')
       → (h : FillRoot stored w) → FilledRooms h.tree table table' text text'

@@ -1,4 +1,5 @@
 // The rooms are filled from a content that is cut: fields that stand whole in a run are filled as those of a short file, the others by views of what is inside them.
+// Stays (point 5): the rooms lent, and the row and the text byte that come next, go as parameters. A struct that holds the `&mut` slices would need a clause in every contract that it still holds the same ones.
 #![tactic(auto)]
 
 ghost use Rattle.std.specs.Prelude.{◌≡◌, ◌+◌, ◌-◌, ◌*◌, ◌≤◌, ◌<◌, length};
@@ -6,7 +7,6 @@ ghost use Rattle.std.proofs.lemmas.List.Edits.{sets};
 ghost use Rattle.exact.specs.Tells.{Tells};
 ghost use Rattle.language.specs.Tree.{width, unlined, row_list};
 ghost use Rattle.views.specs.Views.{place_of};
-ghost use Rattle.views.specs.Spans.{Lies};
 ghost use Rattle.uncut.specs.Short.{longest};
 ghost use Rattle.uncut.specs.Filling.{members_of};
 ghost use Rattle.cutfill.specs.Wholes.{Chain, Run};
@@ -17,11 +17,11 @@ ghost use Rattle.cutfill.specs.Placed.{places};
 use language::Kind;
 use rooms::{put_row, row_of};
 use uncut::{behind, is_field};
-use views::{LEVELS, Reach, Span, deeper, extent, place};
+use views::{LEVELS, Reach, Span, View, deeper, extent, place};
 use wide::{near, text_of};
 
 // Where filling has come to: the place of the content, the row and the text byte behind what is filled, and how many fields that are. Rows are told the row of their parent, `up`.
-#[derive(Clone, Copy)]
+#[derive(Clone, Copy, PartialEq, Eq, Debug)]
 pub struct Came {
     at: usize,
     row: usize,
@@ -31,8 +31,7 @@ pub struct Came {
 
 // The row r of the field from one place of a content up to another.
 fn row_at(
-    starts: &[u32; LEVELS],
-    d: usize,
+    v: View,
     at: usize,
     end: usize,
     table: &mut [u32],
@@ -43,13 +42,13 @@ fn row_at(
     to: usize,
     next: usize,
 )
-    requires { Rowed starts.now d at end r tag up from to next }
-    ensures { table.new ≡ sets table.old (width * r) (row_list unlined tag (place_of starts.now d at) (place_of starts.now d (end - 1) + 1) from to up next) }
+    requires { Rowed v.starts.now v.d at end r tag up from to next }
+    ensures { table.new ≡ sets table.old (width * r) (row_list unlined tag (place_of v.entry.starts.now v.entry.d at) (place_of v.entry.starts.now v.entry.d (end - 1) + 1) from to up next) }
 {
     let w = row_of(
         Kind(tag as u32),
-        place(starts, d, at),
-        place(starts, d, end - 1) + 1,
+        place(v.starts, v.d, at),
+        place(v.starts, v.d, end - 1) + 1,
         from,
         to,
         up as u32,
@@ -64,28 +63,28 @@ fn whole_end(run: &[u8]) -> usize
     ensures { Chain run.now result }
 {
     let mut e = 0;
-    while is_field(&*run, e, run.len()) {
-        e = behind(&*run, e);
+    while is_field(run, e, run.len()) {
+        e = behind(run, e);
     }
     e
 }
 
 // The fields of a content that stand whole from a place on before the nearest cut: where they stand, and how many bytes they have.
-fn whole(stored: &[u8], starts: &[u32; LEVELS], d: usize, at: usize, stop: usize) -> Reach
-    requires { Lies stored.now starts.now d at stop }
-    ensures { Run stored.now starts.now d at stop result.place result.left }
+fn whole(v: View, at: usize) -> Reach
+    requires { at ≤ v.n }
+    ensures { Run v.entry.stored.now v.entry.starts.now v.entry.d at v.entry.n result.place result.left }
 {
-    let w = near(&*stored, starts, d, at, stop);
-    let p = w.place;
-    let e = whole_end(&stored[p..p + w.left]);
-    Reach { place: p, left: e }
+    let w = near(v, at);
+    Reach {
+        place: w.place,
+        left: whole_end(&v.stored[w.place..w.place + w.left]),
+    }
 }
 
-// Those fields, n bytes from p on.
+// Those fields.
 fn passed(
     stored: &[u8],
-    p: usize,
-    n: usize,
+    w: Reach,
     at: usize,
     table: &mut [u32],
     text: &mut [u8],
@@ -93,12 +92,13 @@ fn passed(
     up: usize,
     x: usize,
 ) -> Came
-    requires { Passes stored.now p n at (length text.old) r up x }
-    ensures { Passed stored.now p n at r up x result.at result.row result.text result.count table.old table.new text.old text.new }
+    requires { Passes stored.now w.place w.left at (length text.old) r up x }
+    ensures { Passed stored.now w.place w.left at r up x result.at result.row result.text result.count table.old table.new text.old text.new }
 {
-    let f = uncut::children(&stored[p..p + n], p, 0, n, table, text, r, up, x);
+    let run = &stored[w.place..w.place + w.left];
+    let f = uncut::children(run, w.place, 0, w.left, table, text, r, up, x);
     Came {
-        at: at + n,
+        at: at + w.left,
         row: f.row,
         text: f.text,
         count: f.count,
@@ -109,90 +109,86 @@ fn passed(
 fn is_container(tag: usize) -> bool
     ensures { Tells (Container tag) result }
 {
-    if tag < 8 {
-        return false;
-    }
-    if 9 < tag {
-        return false;
-    }
-    true
+    matches!(tag, 8..=9)
 }
 
 // The count of a container's members: an object's are two children each.
 fn members(tag: usize, n: usize) -> usize
     ensures { result ≡ members_of tag n }
 {
-    if tag == 9 {
-        return n / 2;
-    }
-    n
+    if tag == 9 { n / 2 } else { n }
 }
 
-// A scalar or a key, with a content of n bytes. Kinds 1 to 3 have no text.
+// A scalar or a key. Kinds 1 to 3 have no text.
 fn leaf(
-    stored: &[u8],
-    starts: &[u32; LEVELS],
-    d: usize,
+    v: View,
     at: usize,
-    tag: usize,
-    n: usize,
-    end: usize,
+    f: Span,
     table: &mut [u32],
     text: &mut [u8],
     r: usize,
     up: usize,
     x: usize,
 ) -> Came
-    requires { FillLeaf stored.now starts.now d (length text.old) at tag n end r up x }
-    ensures { (h : FillOne stored.now starts.now d at tag n end r up x) → Steps starts.now d h.asked.trees at r up x result.at result.row result.text result.count table.old table.new text.old text.new }
+    requires { FillLeaf v.stored.now v.starts.now v.d (length text.old) at f.tag f.bytes f.end r up x }
+    ensures { (h : FillOne v.entry.stored.now v.entry.starts.now v.entry.d at f.tag f.bytes f.end r up x) → Steps v.entry.starts.now v.entry.d h.asked.trees at r up x result.at result.row result.text result.count table.old table.new text.old text.new }
 {
-    if tag < 4 {
-        row_at(starts, d, at, end, table, r, tag, up, 0, 0, r + 1);
+    if f.tag < 4 {
+        row_at(v, at, f.end, table, r, f.tag, up, 0, 0, r + 1);
         return Came {
-            at: end,
+            at: f.end,
             row: r + 1,
             text: x,
             count: 1,
         };
     }
-    row_at(starts, d, at, end, table, r, tag, up, x, x + n, r + 1);
-    let s = deeper(starts, d, at);
-    text_of(&*stored, &s, d + 1, n, text, x);
+    let y = x + f.bytes;
+    row_at(v, at, f.end, table, r, f.tag, up, x, y, r + 1);
+    let s = deeper(v.starts, v.d, at);
+    let content = View {
+        stored: v.stored,
+        starts: &s,
+        d: v.d + 1,
+        n: f.bytes,
+    };
+    text_of(content, text, x);
     Came {
-        at: end,
+        at: f.end,
         row: r + 1,
-        text: x + n,
+        text: y,
         count: 1,
     }
 }
 
-// The cycle. A container, with a content of n bytes: its children, and then its own row.
+// The cycle. A container: its children, and then its own row.
 #[cycle(children_container_some_fields)]
 fn container(
-    stored: &[u8],
-    starts: &[u32; LEVELS],
-    d: usize,
+    v: View,
     at: usize,
-    tag: usize,
-    n: usize,
-    end: usize,
+    f: Span,
     table: &mut [u32],
     text: &mut [u8],
     r: usize,
     up: usize,
     x: usize,
 ) -> Came
-    requires { FillNode stored.now starts.now d (length text.old) at tag n end r up x }
-    ensures { (h : FillOne stored.now starts.now d at tag n end r up x) → Steps starts.now d h.asked.trees at r up x result.at result.row result.text result.count table.old table.new text.old text.new }
+    requires { FillNode v.stored.now v.starts.now v.d (length text.old) at f.tag f.bytes f.end r up x }
+    ensures { (h : FillOne v.entry.stored.now v.entry.starts.now v.entry.d at f.tag f.bytes f.end r up x) → Steps v.entry.starts.now v.entry.d h.asked.trees at r up x result.at result.row result.text result.count table.old table.new text.old text.new }
 {
-    let s = deeper(starts, d, at);
-    let f = children(&*stored, &s, d + 1, n, table, text, r + 1, r, x);
-    let c = members(tag, f.count);
-    row_at(starts, d, at, end, table, r, tag, up, 0, c, f.row);
+    let s = deeper(v.starts, v.d, at);
+    let content = View {
+        stored: v.stored,
+        starts: &s,
+        d: v.d + 1,
+        n: f.bytes,
+    };
+    let c = children(content, table, text, r + 1, r, x);
+    let n = members(f.tag, c.count);
+    row_at(v, at, f.end, table, r, f.tag, up, 0, n, c.row);
     Came {
-        at: end,
-        row: f.row,
-        text: f.text,
+        at: f.end,
+        row: c.row,
+        text: c.text,
         count: 1,
     }
 }
@@ -200,62 +196,49 @@ fn container(
 // Fields of a content from a place on: those that stand whole before the nearest cut, or one that does not.
 #[cycle(children_container_some_fields)]
 fn some_fields(
-    stored: &[u8],
-    starts: &[u32; LEVELS],
-    d: usize,
+    v: View,
     at: usize,
-    stop: usize,
     table: &mut [u32],
     text: &mut [u8],
     r: usize,
     up: usize,
     x: usize,
 ) -> Came
-    requires { (at < stop) × FillRoom stored.now starts.now d (length text.old) at stop r up x }
-    ensures { (h : FillCut stored.now starts.now d at stop r up x) → Steps starts.now d h.trees at r up x result.at result.row result.text result.count table.old table.new text.old text.new }
+    requires { (at < v.n) × FillRoom v.stored.now v.starts.now v.d (length text.old) at v.n r up x }
+    ensures { (h : FillCut v.entry.stored.now v.entry.starts.now v.entry.d at v.entry.n r up x) → Steps v.entry.starts.now v.entry.d h.trees at r up x result.at result.row result.text result.count table.old table.new text.old text.new }
 {
-    let w = whole(&*stored, starts, d, at, stop);
+    let w = whole(v, at);
     if 0 < w.left {
-        return passed(&*stored, w.place, w.left, at, table, text, r, up, x);
+        return passed(v.stored, w, at, table, text, r, up, x);
     }
-    match extent(&*stored, starts, d, at, stop) {
-        Span::Nothing => Came {
-            at: stop,
+    match extent(v, at) {
+        None => Came {
+            at: v.n,
             row: r,
             text: x,
             count: 0,
         },
-        Span::Of(tag, n, end) => {
-            if is_container(tag) {
-                return container(&*stored, starts, d, at, tag, n, end, table, text, r, up, x);
+        Some(f) => {
+            if is_container(f.tag) {
+                return container(v, at, f, table, text, r, up, x);
             }
-            leaf(&*stored, starts, d, at, tag, n, end, table, text, r, up, x)
+            leaf(v, at, f, table, text, r, up, x)
         }
     }
 }
 
-// The fields of a content that ends at `stop`.
+// The fields of a content.
 #[cycle(children_container_some_fields)]
-fn children(
-    stored: &[u8],
-    starts: &[u32; LEVELS],
-    d: usize,
-    stop: usize,
-    table: &mut [u32],
-    text: &mut [u8],
-    r: usize,
-    up: usize,
-    x: usize,
-) -> Came
-    requires { FillRoom stored.now starts.now d (length text.old) 0 stop r up x }
-    ensures { (h : FillCut stored.now starts.now d 0 stop r up x) → Fills h.trees (places starts.now d 0) r up x result.row result.text result.count table.old table.new text.old text.new }
+fn children(v: View, table: &mut [u32], text: &mut [u8], r: usize, up: usize, x: usize) -> Came
+    requires { FillRoom v.stored.now v.starts.now v.d (length text.old) 0 v.n r up x }
+    ensures { (h : FillCut v.entry.stored.now v.entry.starts.now v.entry.d 0 v.entry.n r up x) → Fills h.trees (places v.entry.starts.now v.entry.d 0) r up x result.row result.text result.count table.old table.new text.old text.new }
 {
     let mut at = 0;
     let mut row = r;
     let mut y = x;
     let mut n = 0;
-    while at < stop {
-        let f = some_fields(&*stored, starts, d, at, stop, table, text, row, up, y);
+    while at < v.n {
+        let f = some_fields(v, at, table, text, row, up, y);
         at = f.at;
         row = f.row;
         y = f.text;
@@ -275,5 +258,11 @@ pub fn fill(stored: &[u8], table: &mut [u32], text: &mut [u8])
     ensures { (h : FillRoot stored.now (length text.old)) → FilledRooms h.tree table.old table.new text.old text.new }
 {
     let starts = [0u32; LEVELS];
-    children(&*stored, &starts, 0, stored.len(), table, text, 0, 0, 0);
+    let v = View {
+        stored,
+        starts: &starts,
+        d: 0,
+        n: stored.len(),
+    };
+    children(v, table, text, 0, 0, 0);
 }

@@ -13,7 +13,7 @@ use Rattle.distinct.specs.Roads.{Road}
 use Rattle.distinct.specs.Window.{Firsts, firsts_none, firsts_more, Leads}
 use Rattle.distinct.specs.Windows.{Open, open_good, open_next, open_less, Room, Gathering, gather_first, gather_more, gather_room, gather_even}
 use Rattle.views.specs.Views.{viewed, Content, Deeper}
-use Rattle.wide.specs.Copies.{Copied}
+use Rattle.std.specs.Prelude.{Option}
 use Rattle.cutkeys.specs.declared.copies.Short.{Short}
 use Rattle.cutkeys.specs.declared.keys.Size.{Size}
 use Rattle.cutkeys.specs.Places.{end_of}
@@ -22,7 +22,7 @@ use Rattle.cutkeys.specs.Keys.{Keyed, all_keys}
 use Rattle.cutkeys.specs.Runs.{Run, run_none}
 use Rattle.cutkeys.specs.Found.{Sized}
 use Rattle.cutkeys.specs.CutsSame.{own_content, own_text, own_deep, own_few}
-use Rattle.cutkeys.specs.Shorts.{short_at, short_keys, SeenShort, SeeksShort}
+use Rattle.cutkeys.specs.Shorts.{short_at, short_keys, SeenShort, short_in, SeeksShort}
 
 -- ---- what is copied behind the others
 
@@ -84,28 +84,25 @@ module _ (stored starts : List ℕ) (d stop : ℕ) where
   abbrev first : ℕ
   first = first_of (all_keys stored starts d stop) (short_at stored starts d) 0
 
-  pub copying_first : (room froms tos : List ℕ) → Open D 0 → Room froms tos → length room ≤ lent → (k : Short) → SeeksShort stored starts d stop 0 k → Copying stored starts d stop room froms tos 0 0 k.place
+  pub copying_first : (room froms tos : List ℕ) → Open D 0 → Room froms tos → length room ≤ lent → (k : Option Short) → SeeksShort stored starts d stop 0 k → Copying stored starts d stop room froms tos 0 0 (short_in stop k)
   copying_first room froms tos o r f k s =
       record {
         gathering = subst (Gathering E room froms tos first 0) (sym s.is) (gather_first E room first froms tos (kept_open D (short_at stored starts d) 0 o) r);
         before = record { fits = omega arith; few = f; ends = λ k l. absurd (omega arith) };
       }
 
-  pub copying_seen : (at : ℕ) (k : Short) → SeeksShort stored starts d stop at k → SeenShort stored starts d stop k
-  copying_seen at k s = s.seen
-
-  module _ (room froms tos : List ℕ) (n x : ℕ) (k : Short) (c : Copying stored starts d stop room froms tos n x k.place) where
-    pub copying_leads : Leads E room froms tos first n k.place
+  module _ (room froms tos : List ℕ) (n x r : ℕ) (c : Copying stored starts d stop room froms tos n x r) where
+    pub copying_leads : Leads E room froms tos first n r
     copying_leads = c.gathering.leads
 
     pub copying_below : x ≤ length room
     copying_below = c.before.fits
 
     pub copying_room : (n ≡ length froms → ⊥) → n < length froms
-    copying_room f = gather_room E room first froms tos n k.place c.gathering f
+    copying_room f = gather_room E room first froms tos n r c.gathering f
 
     pub copying_even : (n ≡ length froms → ⊥) → n < length tos
-    copying_even f = gather_even E room first froms tos n k.place c.gathering f
+    copying_even f = gather_even E room first froms tos n r c.gathering f
 
     pub copying_few : Fits w32 x
     copying_few = omega (arith, c.before.fits, c.before.few)
@@ -113,79 +110,76 @@ module _ (stored starts : List ℕ) (d stop : ℕ) where
     pub copying_small : n ≤ 8192
     copying_small = c.gathering.leads.held.few
 
-    module _ (s : SeenShort stored starts d stop k) (l : k.place < stop) where
-      keyed : Keyed stored starts d stop k.place
-      keyed = open_good D k.place s.keys l
+  module _ (room froms tos : List ℕ) (n x : ℕ) (k : Short) (c : Copying stored starts d stop room froms tos n x k.place) (s : SeenShort stored starts d stop k) where
+    keyed : Keyed stored starts d stop k.place
+    keyed = open_good D k.place s.keys s.low
 
-      pub copying_deep : d < 34
-      copying_deep = own_deep stored starts d stop k.place keyed
+    pub copying_deep : d < 34
+    copying_deep = own_deep stored starts d stop k.place keyed
 
-      pub copying_inner : Fits w64 (d + 1)
-      copying_inner = let z = copying_deep in omega arith
+    pub copying_inner : Fits w64 (d + 1)
+    copying_inner = let z = copying_deep in omega arith
 
-      pub copying_place : k.place ≤ lent
-      copying_place = own_few stored starts d stop k.place keyed
+    pub copying_place : k.place ≤ lent
+    copying_place = own_few stored starts d stop k.place keyed
 
-      pub copying_run : Run stored starts d k.next stop k.spot k.left
-      copying_run = s.run
+    pub copying_run : Run stored starts d k.next stop k.reach.place k.reach.left
+    copying_run = s.run
 
-      pub copying_open : Open D k.next
-      copying_open = open_next D k.place s.keys l k.next (s.next l)
+    pub copying_open : Open D k.next
+    copying_open = open_next D k.place s.keys s.low k.next s.next
 
-      module _ (q : Short) (z : SeeksShort stored starts d stop k.next q) where
-        next_is : q.place ≡ E.next k.place
-        next_is = z.is ∙ ap (first_of D (short_at stored starts d)) (s.next l)
+    module _ (q : Option Short) (z : SeeksShort stored starts d stop k.next q) where
+      next_is : (short_in stop q) ≡ E.next k.place
+      next_is = z.is ∙ ap (first_of D (short_at stored starts d)) s.next
 
-        pub copying_less : stop - q.place < stop - k.place
-        copying_less = open_less E k.place c.gathering.keys l q.place next_is
+      pub copying_less : stop - (short_in stop q) < stop - k.place
+      copying_less = open_less E k.place c.gathering.keys s.low (short_in stop q) next_is
 
-      -- there is room for the text, which is the content of the view a
-      module _ (a : List ℕ) (h : Deeper starts d k.place a) (m : k.bytes ≤ length room - x) where
-        abbrev v : List ℕ
-        v = viewed stored starts d
+    -- there is room for the text, which is the content of the view a
+    module _ (a : List ℕ) (h : Deeper starts d k.place a) (m : k.bytes ≤ length room - x) where
+      abbrev v : List ℕ
+      v = viewed stored starts d
 
-        abbrev t : List ℕ
-        t = take k.bytes (viewed stored a (d + 1))
+      abbrev t : List ℕ
+      t = take k.bytes (viewed stored a (d + 1))
 
-        abbrev size : Size
-        size = record { bytes = k.bytes; end = end_of v k.place }
+      abbrev size : Size
+      size = record { bytes = k.bytes; end = end_of v k.place }
 
-        sized : Sized v k.place size
-        sized = record { bytes = s.bytes l; end = refl }
+      sized : Sized v k.place size
+      sized = record { bytes = s.bytes; end = refl }
 
-        content : Content stored a (d + 1) k.bytes
-        content = own_content stored starts d stop k.place keyed size sized a h
+      pub copying_content : Content stored a (d + 1) k.bytes
+      copying_content = own_content stored starts d stop k.place keyed size sized a h
 
-        long : length t ≡ k.bytes
-        long = length-take-le k.bytes (viewed stored a (d + 1)) content.fits
+      long : length t ≡ k.bytes
+      long = length-take-le k.bytes (viewed stored a (d + 1)) copying_content.fits
 
-        room_is : x + k.bytes ≤ length room
-        room_is = omega (arith, c.before.fits)
+      pub copying_copied : x + k.bytes ≤ length room
+      copying_copied = omega (arith, c.before.fits)
 
-        pub copying_copied : Copied stored a (d + 1) k.bytes x (length room)
-        copying_copied = record { content_of = content; room = room_is }
+      pub copying_sum : Fits w32 (x + k.bytes)
+      copying_sum = let r = copying_copied in omega (arith, c.before.few)
 
-        pub copying_sum : Fits w32 (x + k.bytes)
-        copying_sum = let r = room_is in omega (arith, c.before.few)
+      module _ (f : n ≡ length froms → ⊥) (q : Option Short) (z : SeeksShort stored starts d stop k.next q) where
+        kept : Gathering E (sets room x t) froms tos first n k.place
+        kept = gather_text E room (sets room x t) froms tos (length-sets room x t) (copied_text room froms tos n x c.before t) c.gathering
 
-        module _ (f : n ≡ length froms → ⊥) (q : Short) (z : SeeksShort stored starts d stop k.next q) where
-          kept : Gathering E (sets room x t) froms tos first n k.place
-          kept = gather_text E room (sets room x t) froms tos (length-sets room x t) (copied_text room froms tos n x c.before t) c.gathering
+        more : Copying stored starts d stop (sets room x t) (set froms n x) (set tos n (x + length t)) (n + 1) (x + length t) (short_in stop q)
+        more =
+            let r = copying_copied in
+            record {
+              gathering =
+                  gather_more E (sets room x t) first froms tos n k.place kept f s.low x (x + length t)
+                  (record { order = omega arith; fits = omega (arith, length-sets room x t, long) })
+                  (sym (own_text stored starts d stop k.place keyed size sized a h) ∙ sym (slice_sets room x t (omega (arith, long)))) (short_in stop q) (next_is q z);
+              before = copied_before room froms tos n x c.before t (copying_even room froms tos n x k.place c f) (omega (arith, long));
+            }
 
-          more : Copying stored starts d stop (sets room x t) (set froms n x) (set tos n (x + length t)) (n + 1) (x + length t) q.place
-          more =
-              let r = room_is in
-              record {
-                gathering =
-                    gather_more E (sets room x t) first froms tos n k.place kept f l x (x + length t)
-                    (record { order = omega arith; fits = omega (arith, length-sets room x t, long) })
-                    (sym (own_text stored starts d stop k.place keyed size sized a h) ∙ sym (slice_sets room x t (omega (arith, long)))) q.place (next_is q z);
-                before = copied_before room froms tos n x c.before t (copying_even f) (omega (arith, long));
-              }
+        pub copying_more : (room' : List ℕ) → room' ≡ sets room x t → Copying stored starts d stop room' (set froms n x) (set tos n (x + k.bytes)) (n + 1) (x + k.bytes) (short_in stop q)
+        copying_more room' e =
+            subst (λ (j : ℕ). Copying stored starts d stop room' (set froms n x) (set tos n (x + j)) (n + 1) (x + j) (short_in stop q)) long
+            (subst (λ (w : List ℕ). Copying stored starts d stop w (set froms n x) (set tos n (x + length t)) (n + 1) (x + length t) (short_in stop q)) (sym e) more)
 
-          pub copying_more : (room' : List ℕ) → room' ≡ sets room x t → Copying stored starts d stop room' (set froms n x) (set tos n (x + k.bytes)) (n + 1) (x + k.bytes) q.place
-          copying_more room' e =
-              subst (λ (j : ℕ). Copying stored starts d stop room' (set froms n x) (set tos n (x + j)) (n + 1) (x + j) q.place) long
-              (subst (λ (w : List ℕ). Copying stored starts d stop w (set froms n x) (set tos n (x + length t)) (n + 1) (x + length t) q.place) (sym e) more)
-
-pub ruleset copying = (run_none, copying_first, copying_seen, copying_leads, copying_below, copying_room, copying_even, copying_few, copying_small, copying_deep, copying_inner, copying_place, copying_run, copying_open, copying_less, copying_copied, copying_sum, copying_more, rules)
+pub ruleset copying = (run_none, copying_first, copying_leads, copying_below, copying_room, copying_even, copying_few, copying_small, copying_deep, copying_inner, copying_place, copying_run, copying_open, copying_less, copying_content, copying_copied, copying_sum, copying_more, rules)

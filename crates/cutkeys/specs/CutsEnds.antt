@@ -1,6 +1,6 @@
 -- TEXTS BY THEIR LENGTH AND LAST BYTES (`Ends`): one of another length, or with other last bytes, is another text (`Bars`). Assumes nothing.
 use Rattle.std.specs.Prelude.{◌≡◌, refl, List, Bool, true, false, ℕ, ◌+◌, ◌-◌, ◌≤◌, ◌<◌, length, get_or, take, drop, set}
-use Rattle.std.proofs.Common.{sym, ap, subst, ◌∙◌, arith, length-set, length-drop, ext_get_or, length-take-le, drop-drop, get_or-drop, get_or-take, get_or-set_same, get_or-set_other, Fits, rules}
+use Rattle.std.proofs.Common.{sym, ap, subst, ◌∙◌, arith, length-set, length-drop, ext_get_or, length-take-le, take-take, drop-drop, get_or-drop, get_or-take, get_or-set_same, get_or-set_other, Fits, rules}
 use Rattle.std.proofs.Math.Decide.{dec_le}
 use Rattle.std.proofs.Math.Seq.{slice, length-slice}
 use Rattle.std.specs.Int.{w64}
@@ -82,7 +82,7 @@ module _ (v : List ℕ) (k i : ℕ) (room : List ℕ) (h : Tail v k i room) wher
   pub tail_over : (m : ℕ) → m ≤ i → i ≤ m → Tail v k m room
   tail_over m l o = subst (λ (c : ℕ). Tail v k c room) (let z : i ≡ m = omega arith in z) h
 
-module _ (stored starts : List ℕ) (d k m i : ℕ) (c : Content stored starts d (k + m)) (l : i < m) where
+module _ (stored starts : List ℕ) (d n k m i : ℕ) (c : Content stored starts d n) (o : m ≤ n) (e : k ≡ n - m) (l : i < m) where
   pub tail_asked : ByteAsked stored starts d (k + i)
   tail_asked = record { low = c.low; few = c.few; inside_view = omega (arith, c.fits) }
 
@@ -111,3 +111,12 @@ tail_ends stored starts room d m n c l o h =
         get_or-drop (n - m) (take n v) j 0
         ∙ (get_or-take n v (n - m + j) 0 (omega arith)
         ∙ (sym (h.same j k) ∙ sym (get_or-drop 0 (take m room) j 0 ∙ (ap (λ (i : ℕ). get_or (take m room) i 0) (let z : 0 + j ≡ j = omega arith in z) ∙ get_or-take m room j 0 k))))
+
+-- .. as a slice of the room
+pub ends_last : (t room : List ℕ) (m n : ℕ) → m ≤ length room → Ends t room m n → Ends t (take m room) (length (take m room)) n
+ends_last t room m n l h =
+    let e : length (take m room) ≡ m = length-take-le m room l in
+    record {
+      long = h.long;
+      tail = subst (λ (j : ℕ). drop (n - j) t ≡ slice 0 j (take m room)) (sym e) (h.tail ∙ ap (λ (u : List ℕ). drop 0 u) (sym (take-take m m room (omega arith))));
+    }

@@ -8,12 +8,12 @@ use Rattle.distinct.specs.Names.{Part}
 use Rattle.distinct.specs.Roads.{Road, walks_le, Comes, comes_first, comes_on}
 use Rattle.distinct.specs.Windows.{Open, open_good, open_next}
 use Rattle.uncut.specs.Heads as heads
-use Rattle.views.specs.Views.{viewed, view_less}
-use Rattle.views.specs.Spans.{Lies}
+use Rattle.views.specs.Views.{viewed, view_less, Content}
 use Rattle.wide.specs.Near.{Nearby}
+use Rattle.std.specs.Prelude.{Option, Some}
 use Rattle.cutkeys.specs.declared.keys.Pair.{Pair}
 use Rattle.cutkeys.specs.Places.{text_at}
-use Rattle.cutkeys.specs.Keys.{Framed, all_keys}
+use Rattle.cutkeys.specs.Keys.{all_keys}
 use Rattle.cutkeys.specs.Runs.{Runs, near_runs}
 use Rattle.cutkeys.specs.Near.{Pairs, Paired, pair_next, pair_text}
 use Rattle.cutkeys.specs.Alone.{Other, other_here, other_later}
@@ -50,9 +50,9 @@ module _ (s room : List ℕ) (m n : ℕ) where
       pub past_few : i ≤ 65535
       past_few = omega (arith, h.short)
 
-      module _ (k : Pair) (p : Paired s i k) (f : k.end ≡ 0 → ⊥) where
+      module _ (o : Option Pair) (p : Paired s i o) (k : Pair) (f : o ≡ Some k) where
         pairs : Pairs s i k.end k.next
-        pairs = p.near (omega arith)
+        pairs = p.near k f
 
         pub past_part : Part s (i + 3) k.end
         past_part = record { order = pairs.begins; fits = omega (arith, pairs.fits) }
@@ -75,7 +75,6 @@ pub record Skipped (stored starts : List ℕ) (d stop : ℕ) (room : List ℕ) (
 
 pub record SkipAsked (stored starts : List ℕ) (d stop : ℕ) (room : List ℕ) (m n q : ℕ) : Type 0 where
   pub keys : Open (all_keys stored starts d stop) q
-  pub frame : Framed stored starts d stop
   pub some : m ≤ n
   pub held : m ≤ length room
 
@@ -83,15 +82,12 @@ not_other : {text : ℕ → List ℕ} {p q : ℕ} {t : List ℕ} {us : List ℕ}
 not_other n (other_here m e) = absurd (n e)
 not_other n (other_later x) = x
 
-module _ (stored starts : List ℕ) (d stop : ℕ) (room : List ℕ) (m n q : ℕ) (h : SkipAsked stored starts d stop room m n q) where
+module _ (stored starts : List ℕ) (d stop : ℕ) (room : List ℕ) (m n q : ℕ) (c : Content stored starts d stop) (h : SkipAsked stored starts d stop room m n q) where
   abbrev D : Road
   D = all_keys stored starts d stop
 
-  skip_below : q ≤ stop
+  pub skip_below : q ≤ stop
   skip_below = walks_le D h.keys.walks
-
-  pub skip_lies : Lies stored starts d q stop
-  skip_lies = record { low = omega (arith, h.frame.deep); few = h.frame.few; order = skip_below; inside_view = h.frame.fits }
 
   module _ (place left : ℕ) (z : Nearby stored starts d q stop place left) where
     abbrev s : List ℕ
@@ -101,7 +97,7 @@ module _ (stored starts : List ℕ) (d stop : ℕ) (room : List ℕ) (m n q : �
     runs = near_runs stored starts d q stop place left z
 
     pub skip_end_fits : place + left ≤ lent
-    skip_end_fits = omega (arith, z.inside, h.frame.few)
+    skip_end_fits = omega (arith, z.inside, c.few)
 
     pub skip_inside : place + left ≤ length stored
     skip_inside = z.inside
@@ -120,13 +116,13 @@ module _ (stored starts : List ℕ) (d stop : ℕ) (room : List ℕ) (m n q : �
         record {
           keys = open_next D (q + i) w.keys l (q + f) (sym o);
           onward = omega arith;
-          pass = λ p t j. subst (Comes D (Other (text_at (viewed stored starts d)) p t) q) o (comes_on D (w.pass p t j) l (λ us a c. not_other (λ k. b.bars t j (k ∙ u)) c) (λ us a c. other_later c));
+          pass = λ p t j. subst (Comes D (Other (text_at (viewed stored starts d)) p t) q) o (comes_on D (w.pass p t j) l (λ us a y'. not_other (λ k. b.bars t j (k ∙ u)) y') (λ us a y'. other_later y'));
         }
 
     pub skip_told : (i : ℕ) → Passes s room m n i → Skipped stored starts d stop room m n q (q + i)
     skip_told i x = skips x
 
     pub skip_fits : (i : ℕ) → Passes s room m n i → Fits w64 (q + i)
-    skip_fits i x = omega (arith, walks_le D (skips x).keys.walks, view_less stored starts d, h.frame.few, h.frame.fits)
+    skip_fits i x = omega (arith, walks_le D (skips x).keys.walks, view_less stored starts d, c.few, c.fits)
 
-pub ruleset skipping = (skip_lies, skip_end_fits, skip_inside, skip_past, skip_told, skip_fits, rules)
+pub ruleset skipping = (skip_below, skip_end_fits, skip_inside, skip_past, skip_told, skip_fits, rules)

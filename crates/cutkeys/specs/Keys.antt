@@ -27,6 +27,9 @@ pub record Stands (v : List ℕ) (stop p : ℕ) : Type 0 where
   pub true_tag : kind ≡ PART → ⊥
   pub below : p + length (cut kind inner) ≤ stop
 
+pub stands_low : {v : List ℕ} {stop p : ℕ} → Stands v stop p → p ≤ stop
+stands_low s = omega (arith, s.below)
+
 pub stands_end : {v : List ℕ} {stop p : ℕ} → Stands v stop p → end_of v p ≤ stop
 stands_end {v} s = omega (arith, end_of_lem v s.kind s.inner s.true_tag s.here, s.below)
 

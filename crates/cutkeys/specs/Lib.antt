@@ -14,4 +14,5 @@ pub mod Spared
 pub mod Shorts
 pub mod Copies
 pub mod CutsWindow
+pub mod Content
 pub mod Apart

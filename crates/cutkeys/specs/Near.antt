@@ -1,20 +1,23 @@
 -- A KEY'S FIELD AND ITS VALUE'S IN BYTES THAT ARE NOT CUT (`Pairs`): they tell what the content does of the key that stands there (`pair_names`). Assumes nothing.
 use Rattle.std.specs.Prelude.{◌≡◌, List, Bool, true, ℕ, ◌+◌, ◌-◌, ◌*◌, ◌≤◌, ◌<◌}
 use Rattle.std.proofs.Common.{sym, subst, ◌∙◌, ext_get_or, rules}
-use Rattle.std.proofs.Math.Path.{ap}
+use Rattle.std.proofs.Math.Path.{refl, ap}
 use native.Mathlib.Omega.{arith}
 use Rattle.std.proofs.Math.ListN.{length, get_or}
 use Rattle.std.proofs.Math.Seq.{slice, length-slice}
+use Rattle.exact.specs.Class.{clash}
 use Rattle.exact.specs.Tells.{Tells, tells_yes}
 use Rattle.uncut.specs.Heads as heads
 use Rattle.uncut.specs.Heads.{end_at, Behind}
 use Rattle.views.specs.Views.{viewed, place_of}
+use Rattle.std.specs.Prelude.{Option, Some, None, is_some}
+use Rattle.cutkeys.specs.declared.keys.Text.{Text}
 use Rattle.cutkeys.specs.declared.keys.Named.{Named}
 use Rattle.cutkeys.specs.declared.keys.Pair.{Pair}
 use Rattle.cutkeys.specs.Places.{size_of, end_of, text_at, beyond, Opens, opens, opens_short, opens_long, size_of_lem}
 use Rattle.cutkeys.specs.Keys.{Stands, Keyed}
 use Rattle.cutkeys.specs.Runs.{Runs, get_d_slice, Made}
-use Rattle.cutkeys.specs.Whole.{whole_of, whole_so, Names, text_inside, text_short}
+use Rattle.cutkeys.specs.Whole.{whole_of, whole_so, Names, same_text, text_inside, text_short}
 
 -- the key's field at i ends at e, and behind it stands the head of a field that is no part and ends at f
 pub record Pairs (s : List ℕ) (i e f : ℕ) : Type 0 where
@@ -24,13 +27,21 @@ pub record Pairs (s : List ℕ) (i e f : ℕ) : Type 0 where
   pub true_tag : get_or s e 0 ≡ 11 → ⊥
   pub next : f ≡ end_at s e
 
--- what is told of the place i: that they stand there, if the end is not 0
-pub record Paired (s : List ℕ) (i : ℕ) (r : Pair) : Type 0 where
-  pub near : 0 < r.end → Pairs s i r.end r.next
+-- what is told of the place i: that they stand there, if a pair is told
+pub record Paired (s : List ℕ) (i : ℕ) (o : Option Pair) : Type 0 where
+  pub near : (r : Pair) → o ≡ Some r → Pairs s i r.end r.next
+
+pair_or : Pair → Option Pair → Pair
+pair_or x (Some y) = y
+pair_or x None = x
+
+same_pair : {x y : Pair} → ◌≡◌ {A = Option Pair} (Some x) (Some y) → x ≡ y
+unfolding pair_or
+same_pair {x} e = ap (pair_or x) e
 
 module _ (s : List ℕ) (i : ℕ) (o : i ≤ length s) (m : length s ≤ 65535) where
-  pub pair_none : Paired s i (record { end = 0; next = 0 })
-  pair_none = record { near = λ l. absurd (omega arith) }
+  pub pair_none : Paired s i None
+  pair_none = record { near = λ r e. absurd (clash (ap is_some e) refl) }
 
   pub pair_lies : heads.Lies s i (length s)
   pair_lies = record { order = o; inside = omega arith; few = omega arith }
@@ -53,8 +64,8 @@ module _ (s : List ℕ) (i : ℕ) (o : i ≤ length s) (m : length s ≤ 65535) 
         pub pair_value_few : e ≤ 65538
         pair_value_few = let k = pair_fits in omega arith
 
-        pub pair_stands : (get_or s e 0 ≡ 11 → ⊥) → (f : ℕ) → Behind s e f → Paired s i (record { end = e; next = f })
-        pair_stands n f g = record { near = λ z. record { is = h.is; begins = omega (arith, h.is, heads.end_after s i); fits = pair_value; true_tag = n; next = g.is } }
+        pub pair_stands : (get_or s e 0 ≡ 11 → ⊥) → (f : ℕ) → Behind s e f → Paired s i (Some (record { end = e; next = f }))
+        pair_stands n f g = record { near = λ r z. subst (λ (k : Pair). Pairs s i k.end k.next) (same_pair z) (record { is = h.is; begins = omega (arith, h.is, heads.end_after s i); fits = pair_value; true_tag = n; next = g.is }) }
 
 pub ruleset pairing = (pair_none, pair_lies, pair_head, pair_few, pair_fits, pair_value, pair_value_few, pair_stands, rules)
 
@@ -146,23 +157,26 @@ module _ (stored starts : List ℕ) (d at stop place : ℕ) (s : List ℕ) (r : 
             ∙ (sym (r.bytes (i + 3 + j) (omega (arith, p.fits))) ∙ sym (get_d_slice (i + 3) e s j (omega arith))))
 
   -- THE KEY at `at`
-  module _ (k : Keyed stored starts d stop at) (q : Pair) (w : Paired s 0 q) (n : q.end ≡ 0 → ⊥) where
+  module _ (k : Keyed stored starts d stop at) (o : Option Pair) (w : Paired s 0 o) (q : Pair) (n : o ≡ Some q) where
     pub pair_beyond : beyond v at ≡ at + q.next
     pair_beyond =
         let z : at + 0 ≡ at = omega arith in
-        sym (ap (beyond v) z) ∙ pair_next (subst (Keyed stored starts d stop) (sym z) k) (w.near (omega arith))
+        sym (ap (beyond v) z) ∙ pair_next (subst (Keyed stored starts d stop) (sym z) k) (w.near q n)
 
     pub pair_names : (left : ℕ) (x : Named) → Made at place left q.end q.next x → Names starts d at (size_of v at) (beyond v at) x
     pair_names left x y =
         let z : at + 0 ≡ at = omega arith in
-        let p = w.near (omega arith) in
+        let p = w.near q n in
         let k0 = subst (Keyed stored starts d stop) (sym z) k in
         let g = key_size k0 p in
         let a = r.same 2 (omega (arith, p.begins, p.fits)) in
         let m = ap (size_of v) z in
         record {
-          whole = y.whole ∙ sym (subst (λ j. whole_of starts d j (size_of v j) ≡ true) z (pair_whole k0 p));
+          text =
+              record {
+                whole = ap is_some y.text ∙ sym (subst (λ j. whole_of starts d j (size_of v j) ≡ true) z (pair_whole k0 p));
+                from = λ t e. ap (λ (u : Text). u.from) (sym (same_text (sym y.text ∙ e))) ∙ omega arith;
+                to = λ t e. ap (λ (u : Text). u.to) (sym (same_text (sym y.text ∙ e))) ∙ omega arith;
+              };
           next = y.next ∙ sym pair_beyond;
-          from = λ e. omega (arith, y.from);
-          to = λ e. omega (arith, y.to);
         }

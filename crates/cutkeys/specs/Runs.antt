@@ -1,11 +1,12 @@
 -- BYTES OF A CONTENT THAT STAND ONE BEHIND ANOTHER (`Runs`), which a walk over keys carries along (`Run`): a key told by its bytes there tells where the next one stands (`made_run`). Assumes nothing.
-use Rattle.std.specs.Prelude.{◌≡◌, List, true, ℕ, ◌+◌, ◌-◌, ◌≤◌, ◌<◌, length, get_or, take, drop}
+use Rattle.std.specs.Prelude.{◌≡◌, List, ℕ, ◌+◌, ◌-◌, ◌≤◌, ◌<◌, length, get_or, take, drop}
 use Rattle.std.proofs.Common.{sym, ap, ◌∙◌, arith, length-drop, get_or-drop, get_or-take, length-take-le}
 use Rattle.std.proofs.Math.Decide.{dec_le}
 use Rattle.std.proofs.Math.Seq.{slice}
 use Rattle.language.specs.Lent.{lent}
 use Rattle.views.specs.Views.{viewed, place_of}
 use Rattle.wide.specs.Near.{Nearby}
+use Rattle.std.specs.Prelude.{Some}
 use Rattle.cutkeys.specs.declared.keys.Named.{Named}
 
 -- BYTES s of a content from `at` on that stand from `place` on
@@ -90,20 +91,18 @@ pub record MadeAsked (at place left end next : ℕ) : Type 0 where
   pub few : place + left ≤ lent
 
 pub record Made (at place rest end far : ℕ) (k : Named) : Type 0 where
-  pub from : k.from ≡ place + 3
-  pub to : k.to ≡ place + end
-  pub whole : k.whole ≡ true
+  pub text : k.text ≡ Some (record { from = place + 3; to = place + end })
   pub next : k.next ≡ at + far
-  pub spot : far ≤ rest → k.spot ≡ place + far
-  pub left : far ≤ rest → k.left ≡ rest - far
-  pub no_spot : rest < far → k.spot ≡ 0
-  pub no_left : rest < far → k.left ≡ 0
+  pub spot : far ≤ rest → k.reach.place ≡ place + far
+  pub left : far ≤ rest → k.reach.left ≡ rest - far
+  pub no_spot : rest < far → k.reach.place ≡ 0
+  pub no_left : rest < far → k.reach.left ≡ 0
 
 -- THE RUN OF THE NEXT KEY
 module _ (at place left end next : ℕ) where
-  pub made_run : (stored starts : List ℕ) (d stop : ℕ) → Run stored starts d at stop place left → (k : Named) → Made at place left end next k → Run stored starts d k.next stop k.spot k.left
+  pub made_run : (stored starts : List ℕ) (d stop : ℕ) → Run stored starts d at stop place left → (k : Named) → Made at place left end next k → Run stored starts d k.next stop k.reach.place k.reach.left
   made_run stored starts d stop r k m = by (dec_le next left)
     where
-      by : Dec (next ≤ left) → Run stored starts d k.next stop k.spot k.left
+      by : Dec (next ≤ left) → Run stored starts d k.next stop k.reach.place k.reach.left
       by (yes h) = rw m.next (rw (m.spot h) (rw (m.left h) (run_shift stored starts d at stop place left r next h)))
-      by (no h) = let l : left < next = omega arith in run_unknown stored starts d k.next stop k.spot k.left (m.no_spot l) (m.no_left l)
+      by (no h) = let l : left < next = omega arith in run_unknown stored starts d k.next stop k.reach.place k.reach.left (m.no_spot l) (m.no_left l)

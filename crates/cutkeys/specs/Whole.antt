@@ -6,6 +6,7 @@ use Rattle.std.proofs.Math.Decide.{dec_le}
 use Rattle.std.proofs.Math.Seq.{slice}
 use Rattle.std.specs.Int.{w64}
 use Rattle.std.proofs.lemmas.Bool.{lt-leb}
+use borrow.Author.Tests.{ne_eqb}
 use Rattle.exact.specs.Class.{clash}
 use Rattle.language.specs.Lent.{lent}
 use Rattle.language.specs.Kind.{pick}
@@ -15,7 +16,9 @@ use Rattle.stored.proofs.PartsLaws.{cut_short, cut_length}
 use Rattle.stored.specs.Bytes.{At, at_as, at_right, at_slice}
 use Rattle.distinct.specs.Names.{Part}
 use Rattle.distinct.specs.Roads.{Road}
-use Rattle.views.specs.Views.{viewed, place_of, view_place, Seen, Reached, run_slice}
+use Rattle.views.specs.Views.{viewed, place_of, view_place, view_less, Seen, Reached, run_slice, Content}
+use Rattle.std.specs.Prelude.{Option, Some, None, is_some}
+use Rattle.cutkeys.specs.declared.keys.Text.{Text}
 use Rattle.cutkeys.specs.declared.keys.Named.{Named}
 use Rattle.cutkeys.specs.Places.{size_of, text_at, size_of_lem, text_of}
 use Rattle.cutkeys.specs.Keys.{Stands, Framed, all_keys}
@@ -56,12 +59,28 @@ whole_yes starts d p n e = by (dec_le n 65535)
 pub whole_so : (starts : List ℕ) (d p n : ℕ) → n ≤ 65535 → place_of starts d (p + 2 + n) ≡ place_of starts d (p + 2) + n → whole_of starts d p n ≡ true
 whole_so starts d p n l e = whole_short starts d p n l ∙ eq-eqb (place_of starts d (p + 2 + n)) (place_of starts d (p + 2) + n) e
 
+-- what is told of where the text of n bytes of the key at p stands
+pub record Texts (starts : List ℕ) (d p n : ℕ) (t : Option Text) : Type 0 where
+  pub whole : is_some t ≡ whole_of starts d p n
+  pub from : (x : Text) → t ≡ Some x → x.from ≡ place_of starts d (p + 2) + 1
+  pub to : (x : Text) → t ≡ Some x → x.to ≡ place_of starts d (p + 2) + 1 + n
+
 -- what is told of the key at p, with a text of n bytes
 pub record Names (starts : List ℕ) (d p n q : ℕ) (k : Named) : Type 0 where
-  pub whole : k.whole ≡ whole_of starts d p n
+  pub text : Texts starts d p n k.text
   pub next : k.next ≡ q
-  pub from : k.whole ≡ true → k.from ≡ place_of starts d (p + 2) + 1
-  pub to : k.whole ≡ true → k.to ≡ place_of starts d (p + 2) + 1 + n
+
+-- a text that is there
+text_or : Text → Option Text → Text
+text_or x (Some y) = y
+text_or x None = x
+
+pub same_text : {x y : Text} → ◌≡◌ {A = Option Text} (Some x) (Some y) → x ≡ y
+unfolding text_or
+same_text {x} e = ap (text_or x) e
+
+pub no_text : {x : Text} → ◌≡◌ {A = Option Text} None (Some x) → ⊥
+no_text e = clash (ap is_some e) refl
 
 pub record KeyAsked (starts : List ℕ) (d p n : ℕ) : Type 0 where
   pub low : d ≤ 34
@@ -69,12 +88,22 @@ pub record KeyAsked (starts : List ℕ) (d p n : ℕ) : Type 0 where
   pub first : Seen starts d (p + 2)
   pub last : Seen starts d (p + 2 + n)
 
+-- .. of a key whose text ends before the content does
+pub text_asked : {stored starts : List ℕ} {d stop : ℕ} → Content stored starts d stop → (p n : ℕ) → p + 3 + n ≤ stop → KeyAsked starts d p n
+text_asked {stored} {starts} {d} c p n l =
+    record {
+      low = c.low;
+      small = omega (arith, view_less stored starts d, c.few, c.fits);
+      first = record { stored = stored; few = c.few; inside_view = omega (arith, c.fits) };
+      last = record { stored = stored; few = c.few; inside_view = omega (arith, c.fits) };
+    }
+
 pub seen_few : {starts : List ℕ} {d i : ℕ} → Seen starts d i → place_of starts d i < lent
 seen_few {starts} {d} {i} h = omega (arith, view_place h.stored starts d i h.inside_view, h.few)
 
-module _ (starts : List ℕ) (d p n next : ℕ) where
-  pub names_wide : 65535 < n → Names starts d p n next (record { from = 0; to = 0; whole = false; next = next; spot = 0; left = 0 })
-  names_wide l = record { whole = sym (whole_wide starts d p n l); next = refl; from = λ e. absurd (clash e refl); to = λ e. absurd (clash e refl) }
+module _ (starts : List ℕ) (d p n : ℕ) where
+  pub names_wide : 65535 < n → Texts starts d p n None
+  names_wide l = record { whole = sym (whole_wide starts d p n l); from = λ x e. absurd (no_text e); to = λ x e. absurd (no_text e) }
 
   module _ (h : KeyAsked starts d p n) (a : ℕ) (f : a ≡ place_of starts d (p + 2)) where
     pub names_first : Fits w64 (a + 1)
@@ -87,16 +116,21 @@ module _ (starts : List ℕ) (d p n next : ℕ) where
       pub names_last : Fits w64 (e + 1)
       names_last = let m = seen_few h.last in omega arith
 
-      pub names_short : Names starts d p n next (record { from = a + 1; to = e + 1; whole = eqb e (a + n); next = next; spot = 0; left = 0 })
-      names_short =
+      is_short : eqb e (a + n) ≡ whole_of starts d p n
+      is_short = ap (λ i. eqb i (a + n)) g ∙ (ap (λ i. eqb (place_of starts d (p + 2 + n)) (i + n)) f ∙ sym (whole_short starts d p n l))
+
+      pub names_short : e ≡ a + n → Texts starts d p n (Some (record { from = a + 1; to = e + 1 }))
+      names_short y =
           record {
-            whole = ap (λ i. eqb i (a + n)) g ∙ (ap (λ i. eqb (place_of starts d (p + 2 + n)) (i + n)) f ∙ sym (whole_short starts d p n l));
-            next = refl;
-            from = λ z. omega arith;
-            to = λ z. let y = eqb-true e (a + n) z in omega arith;
+            whole = sym (eq-eqb e (a + n) y) ∙ is_short;
+            from = λ x z. ap (λ (t : Text). t.from) (sym (same_text z)) ∙ omega arith;
+            to = λ x z. ap (λ (t : Text). t.to) (sym (same_text z)) ∙ omega arith;
           }
 
-pub ruleset naming = (names_wide, names_first, names_sum, names_last, names_short)
+      pub names_cut : (e ≡ a + n → ⊥) → Texts starts d p n None
+      names_cut y = record { whole = sym (ne_eqb e (a + n) y) ∙ is_short; from = λ x z. absurd (no_text z); to = λ x z. absurd (no_text z) }
+
+pub ruleset naming = (text_asked, names_wide, names_first, names_sum, names_last, names_short, names_cut)
 
 module _ (stored starts : List ℕ) (d : ℕ) where
   abbrev v : List ℕ

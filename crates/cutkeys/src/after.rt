@@ -1,22 +1,22 @@
 // Keys that stand whole, from a place on, each sought in a window of others: whether one has the text of one of the n there, which stand in `text`.
+// Stays (points 5, 6): the rooms of a window and its count go as parameters, since `distinct` takes them so. A struct of them would be taken apart again for each call.
 ghost use Rattle.std.specs.Prelude.{◌≤◌, length};
 ghost use Rattle.distinct.specs.Names.{Held};
 ghost use Rattle.distinct.specs.Chains.{InChains};
 ghost use Rattle.distinct.specs.Ranks.{InOrder};
 ghost use Rattle.distinct.specs.Window.{TouchedLooked, TouchedTold, ClashTold};
 ghost use Rattle.distinct.specs.Windows.{Open};
-ghost use Rattle.cutkeys.specs.Whole.{whole_keys};
+ghost use Rattle.cutkeys.specs.Content.{wholes_of};
 
-use super::keys::seek;
-use distinct::{Sought, Standing, in_chains, in_order, ranked_all};
-use repeats::Walk;
-use views::LEVELS;
+use super::keys::{UNKNOWN, seek};
+use distinct::{in_chains, in_order, ranked_all};
+use repeats::TooLong;
+use views::View;
 
 // In their chains.
+#[tactic(auto, using(crate::proofs::WholeLaws::finding, distinct::specs::Windows::trailing))]
 pub fn chained_behind(
-    stored: &[u8],
-    starts: &[u32; LEVELS],
-    d: usize,
+    v: View,
     text: &[u8],
     froms: &[u32],
     tos: &[u32],
@@ -24,76 +24,58 @@ pub fn chained_behind(
     links: &[u16],
     n: usize,
     from: usize,
-    stop: usize,
-) -> Walk
-    requires { InChains text.now froms.now tos.now heads.now links.now n × Open (whole_keys stored.now starts.now d stop) from }
-    ensures { TouchedLooked (whole_keys stored.now starts.now d stop) text.now froms.now tos.now n from result }
+) -> Result<bool, TooLong>
+    requires { InChains text.now froms.now tos.now heads.now links.now n × Open (wholes_of v) from }
+    ensures { TouchedLooked (wholes_of v.entry) text.now froms.now tos.now n from result }
 {
-    let mut k = seek(&*stored, starts, d, from, stop, 0, 0);
-    while k.place < stop {
-        match in_chains(
-            &*text, &*froms, &*tos, &*heads, &*links, n, &*stored, k.from, k.to,
-        ) {
-            Sought::At(_) => return Walk::Met,
-            Sought::Long => return Walk::Long,
-            Sought::Nowhere => {
-                k = seek(&*stored, starts, d, k.next, stop, k.spot, k.left);
-            }
+    let mut found = seek(v, from, UNKNOWN);
+    while let Some(k) = found {
+        let t = k.text;
+        if in_chains(text, froms, tos, heads, links, n, v.stored, t.from, t.to)?.is_some() {
+            return Ok(true);
         }
+        found = seek(v, k.next, k.reach);
     }
-    Walk::Past
+    Ok(false)
 }
 
 // In their order.
+#[tactic(auto, using(crate::proofs::WholeLaws::finding, distinct::specs::Windows::trailing))]
 pub fn ranked_behind(
-    stored: &[u8],
-    starts: &[u32; LEVELS],
-    d: usize,
+    v: View,
     text: &[u8],
     froms: &[u32],
     tos: &[u32],
     order: &[u16],
     n: usize,
     from: usize,
-    stop: usize,
 ) -> bool
-    requires { InOrder text.now froms.now tos.now order.now n × Open (whole_keys stored.now starts.now d stop) from }
-    ensures { TouchedTold (whole_keys stored.now starts.now d stop) text.now froms.now tos.now n from result }
+    requires { InOrder text.now froms.now tos.now order.now n × Open (wholes_of v) from }
+    ensures { TouchedTold (wholes_of v.entry) text.now froms.now tos.now n from result }
 {
-    let mut k = seek(&*stored, starts, d, from, stop, 0, 0);
-    while k.place < stop {
-        match in_order(&*text, &*froms, &*tos, &*order, n, &*stored, k.from, k.to) {
-            Standing::At(_) => {
-                return true;
-            }
-            Standing::Gap(_) => {
-                k = seek(&*stored, starts, d, k.next, stop, k.spot, k.left);
-            }
+    let mut found = seek(v, from, UNKNOWN);
+    while let Some(k) = found {
+        let t = k.text;
+        if in_order(text, froms, tos, order, n, v.stored, t.from, t.to).is_ok() {
+            return true;
         }
+        found = seek(v, k.next, k.reach);
     }
     false
 }
 
 // Whether two keys have one text, of which one is in the window, by the order of their texts.
 pub fn by_ranks(
-    stored: &[u8],
-    starts: &[u32; LEVELS],
-    d: usize,
+    v: View,
     text: &[u8],
     froms: &[u32],
     tos: &[u32],
     order: &mut [u16],
     n: usize,
     next: usize,
-    stop: usize,
 ) -> bool
-    requires { Held text.now froms.now tos.now n × (n ≤ length order.old) × Open (whole_keys stored.now starts.now d stop) next }
-    ensures { ClashTold (whole_keys stored.now starts.now d stop) text.now froms.now tos.now n next result }
+    requires { Held text.now froms.now tos.now n × (n ≤ length order.old) × Open (wholes_of v) next }
+    ensures { ClashTold (wholes_of v.entry) text.now froms.now tos.now n next result }
 {
-    if ranked_all(&*text, &*froms, &*tos, order, n) {
-        return true;
-    }
-    ranked_behind(
-        &*stored, starts, d, &*text, &*froms, &*tos, &*order, n, next, stop,
-    )
+    ranked_all(text, froms, tos, order, n) || ranked_behind(v, text, froms, tos, order, n, next)
 }

@@ -1,222 +1,209 @@
-// A key of a content that is cut: where its text stands, and whether it stands there whole; and the first such key from a place on.
-ghost use Rattle.std.specs.Prelude.{◌≡◌, ◌≤◌, length};
+// A key of a content that is cut: where its text stands, if it stands there whole; and the first such key from a place on.
+ghost use Rattle.std.specs.Prelude.{◌≡◌, ◌+◌, ◌≤◌, length};
 ghost use Rattle.distinct.specs.Windows.{Open};
-ghost use Rattle.views.specs.Views.{viewed};
-ghost use Rattle.cutkeys.specs.Places.{size_of, beyond};
-ghost use Rattle.cutkeys.specs.Keys.{Keyed, all_keys};
-ghost use Rattle.cutkeys.specs.Whole.{Names, KeyAsked};
-ghost use Rattle.cutkeys.specs.Runs.{Run, Made, MadeAsked};
+ghost use Rattle.views.specs.Contents.{all};
+ghost use Rattle.cutkeys.specs.Keys.{Stands};
+ghost use Rattle.cutkeys.specs.Whole.{Texts};
+ghost use Rattle.cutkeys.specs.Runs.{Made, MadeAsked};
 ghost use Rattle.cutkeys.specs.Near.{Paired};
-ghost use Rattle.cutkeys.specs.Found.{Fielded, Sized, Seeks};
+ghost use Rattle.cutkeys.specs.Found.{Sized};
+ghost use Rattle.cutkeys.specs.Content.{keys_of, whole_from, IsKey, RunAt, KeyTold, SeekTold};
 
 use stored::WIDEST;
 use uncut::{behind, is_field};
-use views::{LEVELS, Span, extent, place};
+use views::{Reach, View, extent, place};
 use wide::near;
 
-// A key: where its text stands in the stored bytes, if it stands there whole, and the place of the key behind it and its value; and where that one stands, with how many bytes before the nearest cut, or 0 and 0 if that is not known.
-#[derive(Clone, Copy)]
-pub struct Named {
+// Where a text stands in the stored bytes.
+#[derive(Clone, Copy, PartialEq, Eq, Debug)]
+pub struct Text {
     pub from: usize,
     pub to: usize,
-    pub whole: bool,
-    pub next: usize,
-    pub spot: usize,
-    pub left: usize,
 }
 
-// The first key from a place on that stands whole: its place, where its text stands, and the place of the key behind it, and where that one stands, as above; or that there is none, by the place where the content ends.
+// Where a key stands if that is not known: with no bytes before the nearest cut.
+pub const UNKNOWN: Reach = Reach { place: 0, left: 0 };
+
+// A key: where its text stands, if it stands there whole, and the place of the key behind it and its value; and where that one stands, or `UNKNOWN`.
+#[derive(Clone, Copy)]
+pub struct Named {
+    pub text: Option<Text>,
+    pub next: usize,
+    pub reach: Reach,
+}
+
+// A key that stands whole: its place, where its text stands, and the place of the key behind it, and where that one stands, as above.
 #[derive(Clone, Copy)]
 pub struct Found {
     pub place: usize,
-    pub from: usize,
-    pub to: usize,
+    pub text: Text,
     pub next: usize,
-    pub spot: usize,
-    pub left: usize,
+    pub reach: Reach,
 }
 
-// Where a key's field ends and where its value's does, before a cut; or 0.
-#[derive(Clone, Copy)]
+// Where a key's field ends and where its value's does, before a cut.
+#[derive(Clone, Copy, PartialEq, Eq, Debug)]
 pub struct Pair {
     pub end: usize,
     pub next: usize,
 }
 
 // The bytes of a field's content, and the place behind it.
-#[derive(Clone, Copy)]
+#[derive(Clone, Copy, PartialEq, Eq, Debug)]
 pub struct Size {
     pub bytes: usize,
     pub end: usize,
 }
 
 // The key's field at a place of bytes that are not cut, where the head of its value's is among them and no part's.
-pub fn near_pair(s: &[u8], i: usize) -> Pair
+#[tactic(auto, using(crate::specs::Near::pairing))]
+pub fn near_pair(s: &[u8], i: usize) -> Option<Pair>
     requires { (i ≤ length s.now) × (length s.now ≤ 65535) }
     ensures { Paired s.now i result }
 {
-    if is_field(&*s, i, s.len()) {
-        let e = behind(&*s, i);
-        if 3 <= s.len() - e {
-            if s[e] != 11 {
-                return Pair {
-                    end: e,
-                    next: behind(&*s, e),
-                };
-            }
+    if is_field(s, i, s.len()) {
+        let e = behind(s, i);
+        if 3 <= s.len() - e && s[e] != 11 {
+            return Some(Pair {
+                end: e,
+                next: behind(s, e),
+            });
         }
     }
-    Pair { end: 0, next: 0 }
+    None
 }
 
 // The field that stands at a place.
-pub fn size_of(stored: &[u8], starts: &[u32; LEVELS], d: usize, at: usize, stop: usize) -> Size
-    requires { Fielded stored.now starts.now d stop at }
-    ensures { Sized (viewed stored.now starts.now d) at result }
+#[tactic(auto, using(crate::specs::Found::fielding))]
+pub fn size_of(v: View, at: usize) -> Size
+    requires { Stands (all v) v.n at }
+    ensures { Sized (all v.entry) at result }
 {
-    match extent(&*stored, starts, d, at, stop) {
-        Span::Nothing => Size {
-            bytes: 0,
-            end: stop,
+    match extent(v, at) {
+        None => Size { bytes: 0, end: v.n },
+        Some(f) => Size {
+            bytes: f.bytes,
+            end: f.end,
         },
-        Span::Of(_, n, end) => Size { bytes: n, end },
     }
 }
 
-// The key at a place with a text of n bytes.
-fn key_of(starts: &[u32; LEVELS], d: usize, at: usize, n: usize, next: usize) -> Named
-    requires { KeyAsked starts.now d at n }
-    ensures { Names starts.now d at n next result × (result.spot ≡ 0) × (result.left ≡ 0) }
+// Where the text of n bytes of the key at a place stands, if it stands there whole.
+#[tactic(auto, using(crate::specs::Whole::naming))]
+fn whole_text(v: View, at: usize, n: usize) -> Option<Text>
+    requires { at + 3 + n ≤ v.n }
+    ensures { Texts v.entry.starts.now v.entry.d at n result }
 {
     if WIDEST < n {
-        return Named {
-            from: 0,
-            to: 0,
-            whole: false,
-            next,
-            spot: 0,
-            left: 0,
-        };
+        return None;
     }
-    let a = place(starts, d, at + 2);
-    let e = place(starts, d, at + 2 + n);
-    Named {
-        from: a + 1,
-        to: e + 1,
-        whole: e == a + n,
-        next,
-        spot: 0,
-        left: 0,
+    let a = place(v.starts, v.d, at + 2);
+    let e = place(v.starts, v.d, at + 2 + n);
+    if e == a + n {
+        return Some(Text {
+            from: a + 1,
+            to: e + 1,
+        });
     }
+    None
 }
 
 // The key at a place, where it or its value's head is cut or has parts.
-fn cut_key_at(stored: &[u8], starts: &[u32; LEVELS], d: usize, at: usize, stop: usize) -> Named
-    requires { Keyed stored.now starts.now d stop at }
-    ensures { Names starts.now d at (size_of (viewed stored.now starts.now d) at) (beyond (viewed stored.now starts.now d) at) result × Run stored.now starts.now d result.next stop result.spot result.left }
+#[tactic(auto, using(crate::specs::Found::keying))]
+fn cut_key_at(v: View, at: usize) -> Named
+    requires { IsKey v at }
+    ensures { KeyTold v.entry at result }
 {
-    let k = size_of(&*stored, starts, d, at, stop);
-    let v = size_of(&*stored, starts, d, k.end, stop);
-    key_of(starts, d, at, k.bytes, v.end)
+    let k = size_of(v, at);
+    let next = size_of(v, k.end).end;
+    let text = whole_text(v, at, k.bytes);
+    Named {
+        text,
+        next,
+        reach: UNKNOWN,
+    }
 }
 
-// The key at a place that stands at p with so many bytes before the nearest cut, by the ends of its field and of its value's.
-fn pair_key(at: usize, p: usize, left: usize, end: usize, next: usize) -> Named
-    requires { MadeAsked at p left end next }
-    ensures { Made at p left end next result }
+// The key at a place that stands where r says, by the ends of its field and of its value's.
+fn pair_key(at: usize, r: Reach, k: Pair) -> Named
+    requires { MadeAsked at r.place r.left k.end k.next }
+    ensures { Made at r.place r.left k.end k.next result }
 {
-    if next <= left {
-        return Named {
-            from: p + 3,
-            to: p + end,
-            whole: true,
-            next: at + next,
-            spot: p + next,
-            left: left - next,
+    let text = Some(Text {
+        from: r.place + 3,
+        to: r.place + k.end,
+    });
+    let next = at + k.next;
+    if k.next <= r.left {
+        let reach = Reach {
+            place: r.place + k.next,
+            left: r.left - k.next,
         };
+        return Named { text, next, reach };
     }
     Named {
-        from: p + 3,
-        to: p + end,
-        whole: true,
-        next: at + next,
-        spot: 0,
-        left: 0,
+        text,
+        next,
+        reach: UNKNOWN,
     }
 }
 
 // The key at a place of which it is not known where it stands.
-fn far_key_at(stored: &[u8], starts: &[u32; LEVELS], d: usize, at: usize, stop: usize) -> Named
-    requires { Keyed stored.now starts.now d stop at }
-    ensures { Names starts.now d at (size_of (viewed stored.now starts.now d) at) (beyond (viewed stored.now starts.now d) at) result × Run stored.now starts.now d result.next stop result.spot result.left }
+#[tactic(auto, using(crate::specs::Found::running))]
+fn far_key_at(v: View, at: usize) -> Named
+    requires { IsKey v at }
+    ensures { KeyTold v.entry at result }
 {
-    let r = near(&*stored, starts, d, at, stop);
-    let p = r.place;
-    let k = near_pair(&stored[p..p + r.left], 0);
-    if k.end == 0 {
-        return cut_key_at(&*stored, starts, d, at, stop);
+    let r = near(v, at);
+    match near_pair(&v.stored[r.place..r.place + r.left], 0) {
+        Some(k) => pair_key(at, r, k),
+        None => cut_key_at(v, at),
     }
-    pair_key(at, p, r.left, k.end, k.next)
 }
 
-// The key at a place that stands at `spot` with `left` bytes before the nearest cut, or 0 and 0: keys of one run of bytes are told without asking where it begins.
-pub fn key_at(
-    stored: &[u8],
-    starts: &[u32; LEVELS],
-    d: usize,
-    at: usize,
-    stop: usize,
-    spot: usize,
-    left: usize,
-) -> Named
-    requires { Keyed stored.now starts.now d stop at × Run stored.now starts.now d at stop spot left }
-    ensures { Names starts.now d at (size_of (viewed stored.now starts.now d) at) (beyond (viewed stored.now starts.now d) at) result × Run stored.now starts.now d result.next stop result.spot result.left }
+// The key at a place that stands where `reach` says: keys of one run of bytes are told without asking where it begins.
+#[tactic(auto, using(crate::specs::Found::running))]
+pub fn key_at(v: View, at: usize, reach: Reach) -> Named
+    requires { IsKey v at × RunAt v at reach }
+    ensures { KeyTold v.entry at result }
 {
-    let k = near_pair(&stored[spot..spot + left], 0);
-    if k.end == 0 {
-        return far_key_at(&*stored, starts, d, at, stop);
+    match near_pair(&v.stored[reach.place..reach.place + reach.left], 0) {
+        Some(k) => pair_key(at, reach, k),
+        None => far_key_at(v, at),
     }
-    pair_key(at, spot, left, k.end, k.next)
 }
 
 // The first key from a place on that stands whole; where the one at that place stands is given, as above.
-pub fn seek(
-    stored: &[u8],
-    starts: &[u32; LEVELS],
-    d: usize,
-    from: usize,
-    stop: usize,
-    spot: usize,
-    left: usize,
-) -> Found
-    requires { Open (all_keys stored.now starts.now d stop) from × Run stored.now starts.now d from stop spot left }
-    ensures { Seeks stored.now starts.now d stop from result }
+#[tactic(auto, using(crate::specs::Found::seeking))]
+pub fn seek(v: View, from: usize, reach: Reach) -> Option<Found>
+    requires { Open (keys_of v) from × RunAt v from reach }
+    ensures { SeekTold v.entry from result }
 {
     let mut p = from;
-    let mut a = spot;
-    let mut n = left;
-    while p < stop {
-        let k = key_at(&*stored, starts, d, p, stop, a, n);
-        if k.whole {
-            return Found {
+    let mut here = reach;
+    while p < v.n {
+        let k = key_at(v, p, here);
+        if let Some(text) = k.text {
+            return Some(Found {
                 place: p,
-                from: k.from,
-                to: k.to,
+                text,
                 next: k.next,
-                spot: k.spot,
-                left: k.left,
-            };
+                reach: k.reach,
+            });
         }
         p = k.next;
-        a = k.spot;
-        n = k.left;
+        here = k.reach;
     }
-    Found {
-        place: p,
-        from: 0,
-        to: 0,
-        next: p,
-        spot: 0,
-        left: 0,
+    None
+}
+
+// The place of the first key that stands whole, or where the content ends.
+pub fn first_whole(v: View) -> usize
+    requires { Open (keys_of v) 0 }
+    ensures { result ≡ whole_from v.entry 0 }
+{
+    match seek(v, 0, UNKNOWN) {
+        Some(k) => k.place,
+        None => v.n,
     }
 }

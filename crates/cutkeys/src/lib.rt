@@ -2,8 +2,7 @@
 #![tactic(auto)]
 
 ghost use Rattle.std.specs.Prelude.{◌<◌};
-ghost use Rattle.views.specs.Views.{viewed};
-ghost use Rattle.views.specs.Spans.{Lies};
+ghost use Rattle.views.specs.Contents.{all};
 ghost use Rattle.wide.specs.Keys.{Counted, ApartTold};
 
 mod after;
@@ -13,16 +12,14 @@ mod keys;
 mod windows;
 
 use cuts::cut_apart;
-use views::LEVELS;
+use views::View;
 use windows::windows;
 
-// Whether no two keys of a content that ends at `stop`, n in all, have one text.
-pub fn apart(stored: &[u8], starts: &[u32; LEVELS], d: usize, stop: usize, n: usize) -> bool
-    requires { (d < 34) × Lies stored.now starts.now d 0 stop × Counted (viewed stored.now starts.now d) stop n }
-    ensures { ApartTold (viewed stored.now starts.now d) stop result }
+// Whether no two keys of a content have one text; it has `members` of them.
+#[tactic(auto, using(crate::specs::Apart::telling))]
+pub fn apart(v: View, members: usize) -> bool
+    requires { (v.d < 34) × Counted (all v) v.n members }
+    ensures { ApartTold (all v.entry) v.entry.n result }
 {
-    if windows(&*stored, starts, d, stop, n) {
-        return cut_apart(&*stored, starts, d, stop);
-    }
-    false
+    windows(v, members) && cut_apart(v)
 }

@@ -1,232 +1,174 @@
 // The keys of a content that is cut whose texts stand whole in the stored bytes, a window of them at a time, as in `windows`.
-ghost use Rattle.std.specs.Prelude.{◌≤◌, ◌<◌, length};
+// Stays (point 2), as in `after`: tried as a third kind of `distinct::Keys`; a key that is asked for by its place alone is looked for anew, so that loading an object of 12,000 keys below 30 arrays takes 1.94 of the instructions, and one of 6,000 keys at the root 1.17.
+// Stays (point 5): the rooms of a window go as parameters, as `distinct` takes them. A struct that holds the `&mut` slices would need a clause in every contract that it still holds the same ones.
+// Stays (point 6): the places and the chains are arrays of fixed size, since no heap is a rule here.
+ghost use Rattle.std.specs.Prelude.{◌≤◌, ◌<◌, length, IfOk};
 ghost use Rattle.distinct.specs.Roads.{ApartTold};
 ghost use Rattle.distinct.specs.Window.{Rooms};
 ghost use Rattle.distinct.specs.Windows.{Open, Room, Gathered, Windowed};
 ghost use Rattle.distinct.specs.Entering.{Enters};
-ghost use Rattle.cutkeys.specs.Kept.{first_of};
-ghost use Rattle.cutkeys.specs.Keys.{all_keys};
-ghost use Rattle.cutkeys.specs.Whole.{whole_at, whole_keys};
+ghost use Rattle.cutkeys.specs.Content.{keys_of, wholes_of, whole_from};
 
 use super::after::{by_ranks, chained_behind};
-use super::keys::seek;
-use distinct::{Entered, Sought, Taken, Went, chained};
-use repeats::Walk;
-use views::LEVELS;
+use super::keys::{UNKNOWN, first_whole, seek};
+use distinct::{Taken, chained};
+use repeats::TooLong;
+use views::View;
 
 // Rooms are cleared first, so few keys and some have smaller ones. An object of more keys than the largest room takes is passed once for each window.
 const FEW: usize = 512;
 
 const SOME: usize = 2048;
 
-const MOST: usize = 5632;
+const MOST: usize = 5120;
 
 // The places of the texts of the keys from `from` on, as many as there is room for.
-fn gather(
-    stored: &[u8],
-    starts: &[u32; LEVELS],
-    d: usize,
-    froms: &mut [u32],
-    tos: &mut [u32],
-    from: usize,
-    stop: usize,
-) -> Taken
-    requires { Open (whole_keys stored.now starts.now d stop) from × Room froms.old tos.old }
-    ensures { Gathered (whole_keys stored.now starts.now d stop) stored.now froms.new tos.new from result }
+#[tactic(auto, using(crate::proofs::WholeLaws::finding, distinct::specs::Windows::gathering))]
+fn gather(v: View, froms: &mut [u32], tos: &mut [u32], from: usize) -> Taken
+    requires { Open (wholes_of v) from × Room froms.old tos.old }
+    ensures { Gathered (wholes_of v.entry) v.entry.stored.now froms.new tos.new from result }
 {
-    let mut k = seek(&*stored, starts, d, from, stop, 0, 0);
+    let mut found = seek(v, from, UNKNOWN);
     let mut n = 0;
-    while k.place < stop {
+    while let Some(k) = found {
         if n == froms.len() {
             return Taken { n, next: k.place };
         }
-        froms[n] = k.from as u32;
-        tos[n] = k.to as u32;
+        froms[n] = k.text.from as u32;
+        tos[n] = k.text.to as u32;
         n += 1;
-        k = seek(&*stored, starts, d, k.next, stop, k.spot, k.left);
+        found = seek(v, k.next, k.reach);
     }
-    Taken { n, next: k.place }
+    Taken { n, next: v.n }
 }
 
-// The same, and each takes its place in the chains as it is passed: places are worked out while texts are compared.
+// The same, and each takes its place in the chains as it is passed: places are worked out while texts are compared. None if two of them have one text.
+#[tactic(auto, using(crate::proofs::WholeLaws::finding))]
 fn enter(
-    stored: &[u8],
-    starts: &[u32; LEVELS],
-    d: usize,
+    v: View,
     froms: &mut [u32],
     tos: &mut [u32],
     heads: &mut [u16],
     links: &mut [u16],
     from: usize,
-    stop: usize,
-) -> Entered
-    requires { Open (whole_keys stored.now starts.now d stop) from × Rooms froms.old tos.old heads.old links.old }
-    ensures { Enters (whole_keys stored.now starts.now d stop) stored.now froms.new tos.new heads.new links.new from result }
+) -> Result<Option<Taken>, TooLong>
+    requires { Open (wholes_of v) from × Rooms froms.old tos.old heads.old links.old }
+    ensures { Enters (wholes_of v.entry) v.entry.stored.now froms.new tos.new heads.new links.new from result }
 {
-    let mut k = seek(&*stored, starts, d, from, stop, 0, 0);
+    let mut found = seek(v, from, UNKNOWN);
     let mut n = 0;
-    while k.place < stop {
+    while let Some(k) = found {
         if n == froms.len() {
-            return Entered::In(n, k.place);
+            return Ok(Some(Taken { n, next: k.place }));
         }
-        froms[n] = k.from as u32;
-        tos[n] = k.to as u32;
-        match chained(&*stored, &*froms, &*tos, heads, links, n + 1, n) {
-            Sought::At(_) => {
-                return Entered::Twice;
-            }
-            Sought::Long => {
-                return Entered::Long;
-            }
-            Sought::Nowhere => {
-                n += 1;
-                k = seek(&*stored, starts, d, k.next, stop, k.spot, k.left);
-            }
+        froms[n] = k.text.from as u32;
+        tos[n] = k.text.to as u32;
+        if chained(v.stored, froms, tos, heads, links, n + 1, n)?.is_some() {
+            return Ok(None);
         }
+        n += 1;
+        found = seek(v, k.next, k.reach);
     }
-    Entered::In(n, k.place)
+    Ok(Some(Taken { n, next: v.n }))
 }
 
 // The window from a place on, by the order of texts.
+#[tactic(auto, using(distinct::specs::Windows::windowing))]
 fn ranked_window(
-    stored: &[u8],
-    starts: &[u32; LEVELS],
-    d: usize,
+    v: View,
     froms: &mut [u32],
     tos: &mut [u32],
     order: &mut [u16],
     from: usize,
-    stop: usize,
-) -> Went
-    requires { Open (whole_keys stored.now starts.now d stop) from × (from < stop) × Room froms.old tos.old × (length froms.old ≤ length order.old) }
-    ensures { Windowed (whole_keys stored.now starts.now d stop) from result }
+) -> Option<usize>
+    requires { Open (wholes_of v) from × (from < v.n) × Room froms.old tos.old × (length froms.old ≤ length order.old) }
+    ensures { Windowed (wholes_of v.entry) from result }
 {
-    let w = gather(&*stored, starts, d, froms, tos, from, stop);
-    if by_ranks(
-        &*stored, starts, d, &*stored, &*froms, &*tos, order, w.n, w.next, stop,
-    ) {
-        return Went::Twice;
+    let w = gather(v, froms, tos, from);
+    if by_ranks(v, v.stored, froms, tos, order, w.n, w.next) {
+        return None;
     }
-    Went::On(w.next)
+    Some(w.next)
 }
 
-// The same by chains, over rooms with nothing in them, or where a chain is too long in the other way.
-fn window(
-    stored: &[u8],
-    starts: &[u32; LEVELS],
-    d: usize,
+// The same by chains, over rooms with nothing in them.
+fn chained_window(
+    v: View,
     froms: &mut [u32],
     tos: &mut [u32],
     heads: &mut [u16],
     links: &mut [u16],
     from: usize,
-    stop: usize,
-) -> Went
-    requires { Open (whole_keys stored.now starts.now d stop) from × (from < stop) × Rooms froms.old tos.old heads.old links.old }
-    ensures { Windowed (whole_keys stored.now starts.now d stop) from result }
+) -> Result<Option<usize>, TooLong>
+    requires { Open (wholes_of v) from × (from < v.n) × Rooms froms.old tos.old heads.old links.old }
+    ensures { IfOk result (Windowed (wholes_of v.entry) from) }
 {
-    match enter(&*stored, starts, d, froms, tos, heads, links, from, stop) {
-        Entered::Twice => Went::Twice,
-        Entered::Long => ranked_window(&*stored, starts, d, froms, tos, links, from, stop),
-        Entered::In(n, next) => match chained_behind(
-            &*stored, starts, d, &*stored, &*froms, &*tos, &*heads, &*links, n, next, stop,
-        ) {
-            Walk::Met => Went::Twice,
-            Walk::Past => Went::On(next),
-            Walk::Long => ranked_window(&*stored, starts, d, froms, tos, links, from, stop),
-        },
+    match enter(v, froms, tos, heads, links, from)? {
+        None => Ok(None),
+        Some(w) => {
+            if chained_behind(v, v.stored, froms, tos, heads, links, w.n, w.next)? {
+                Ok(None)
+            } else {
+                Ok(Some(w.next))
+            }
+        }
     }
 }
 
-// The same in rooms for few keys.
-#[inline(never)]
-fn few_window(stored: &[u8], starts: &[u32; LEVELS], d: usize, from: usize, stop: usize) -> Went
-    requires { Open (whole_keys stored.now starts.now d stop) from × (from < stop) }
-    ensures { Windowed (whole_keys stored.now starts.now d stop) from result }
-{
-    let mut froms = [0u32; FEW];
-    let mut tos = [0u32; FEW];
-    let mut heads = [0u16; 4096];
-    let mut links = [0u16; FEW];
-    window(
-        &*stored, starts, d, &mut froms, &mut tos, &mut heads, &mut links, from, stop,
-    )
-}
-
-// The same in rooms for some keys.
-#[inline(never)]
-fn some_window(stored: &[u8], starts: &[u32; LEVELS], d: usize, from: usize, stop: usize) -> Went
-    requires { Open (whole_keys stored.now starts.now d stop) from × (from < stop) }
-    ensures { Windowed (whole_keys stored.now starts.now d stop) from result }
-{
-    let mut froms = [0u32; SOME];
-    let mut tos = [0u32; SOME];
-    let mut heads = [0u16; 4096];
-    let mut links = [0u16; SOME];
-    window(
-        &*stored, starts, d, &mut froms, &mut tos, &mut heads, &mut links, from, stop,
-    )
-}
-
-// The same in the largest rooms.
-#[inline(never)]
-fn most_window(stored: &[u8], starts: &[u32; LEVELS], d: usize, from: usize, stop: usize) -> Went
-    requires { Open (whole_keys stored.now starts.now d stop) from × (from < stop) }
-    ensures { Windowed (whole_keys stored.now starts.now d stop) from result }
-{
-    let mut froms = [0u32; MOST];
-    let mut tos = [0u32; MOST];
-    let mut heads = [0u16; 4096];
-    let mut links = [0u16; MOST];
-    window(
-        &*stored, starts, d, &mut froms, &mut tos, &mut heads, &mut links, from, stop,
-    )
-}
-
-// The same by the class of rooms for n keys, from the smallest on. It calls itself for the next one, so that no frame holds the rooms of two, and no caller's frame any.
-fn by_class(
-    stored: &[u8],
-    starts: &[u32; LEVELS],
-    d: usize,
+// The same in the one way, or where a chain is too long in the other.
+fn window(
+    v: View,
+    froms: &mut [u32],
+    tos: &mut [u32],
+    heads: &mut [u16],
+    links: &mut [u16],
     from: usize,
-    stop: usize,
-    n: usize,
-    class: usize,
-) -> Went
-    requires { Open (whole_keys stored.now starts.now d stop) from × (from < stop) }
-    ensures { Windowed (whole_keys stored.now starts.now d stop) from result }
+) -> Option<usize>
+    requires { Open (wholes_of v) from × (from < v.n) × Rooms froms.old tos.old heads.old links.old }
+    ensures { Windowed (wholes_of v.entry) from result }
 {
-    match class {
-        0 => {
-            if n <= FEW {
-                return few_window(&*stored, starts, d, from, stop);
-            }
-            by_class(&*stored, starts, d, from, stop, n, 1)
-        }
-        1 => {
-            if n <= SOME {
-                return some_window(&*stored, starts, d, from, stop);
-            }
-            by_class(&*stored, starts, d, from, stop, n, 2)
-        }
-        _ => most_window(&*stored, starts, d, from, stop),
+    match chained_window(v, froms, tos, heads, links, from) {
+        Ok(w) => w,
+        Err(_) => ranked_window(v, froms, tos, links, from),
     }
 }
 
-// Whether no two keys from `from` up to `stop` have one text; n says how many they are, and picks the rooms.
-pub fn windows(stored: &[u8], starts: &[u32; LEVELS], d: usize, stop: usize, n: usize) -> bool
-    requires { Open (all_keys stored.now starts.now d stop) 0 }
-    ensures { ApartTold (whole_keys stored.now starts.now d stop) (first_of (all_keys stored.now starts.now d stop) (whole_at stored.now starts.now d) 0) result }
+// The same in rooms for N keys. It is put into no caller, whose frame would hold the rooms.
+#[inline(never)]
+fn window_of<const N: usize>(v: View, from: usize) -> Option<usize>
+    requires { Open (wholes_of v) from × (from < v.n) × (0 < N) × (N ≤ 8192) }
+    ensures { Windowed (wholes_of v.entry) from result }
 {
-    let mut p = seek(&*stored, starts, d, 0, stop, 0, 0).place;
-    while p < stop {
-        match by_class(&*stored, starts, d, p, stop, n, 0) {
-            Went::Twice => {
-                return false;
-            }
-            Went::On(next) => {
-                p = next;
-            }
+    let mut froms = [0u32; N];
+    let mut tos = [0u32; N];
+    let mut heads = [0u16; 4096];
+    let mut links = [0u16; N];
+    window(v, &mut froms, &mut tos, &mut heads, &mut links, from)
+}
+
+// The same in the smallest rooms for n keys.
+fn some_window(v: View, from: usize, n: usize) -> Option<usize>
+    requires { Open (wholes_of v) from × (from < v.n) }
+    ensures { Windowed (wholes_of v.entry) from result }
+{
+    match n {
+        ..=FEW => window_of::<FEW>(v, from),
+        ..=SOME => window_of::<SOME>(v, from),
+        _ => window_of::<MOST>(v, from),
+    }
+}
+
+// Whether no two keys that stand whole have one text; n says how many keys there are, and picks the rooms.
+#[tactic(auto, using(crate::proofs::WholeLaws::windows_first, crate::proofs::WholeLaws::window_falls, distinct::specs::Windows::onwards))]
+pub fn windows(v: View, n: usize) -> bool
+    requires { Open (keys_of v) 0 }
+    ensures { ApartTold (wholes_of v.entry) (whole_from v.entry 0) result }
+{
+    let mut p = first_whole(v);
+    while p < v.n {
+        match some_window(v, p, n) {
+            None => return false,
+            Some(next) => p = next,
         }
     }
     true

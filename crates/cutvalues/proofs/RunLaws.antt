@@ -4,88 +4,65 @@ use mathlib.Core.List.{List}
 use mathlib.Core.Bool.{Bool, true, false}
 use Prim.Native.Nat.{ℕ, ◌+◌, ◌-◌, ◌*◌, ◌≤◌, ◌<◌}
 use native.Mathlib.Omega.{arith}
-use lib.ListN.{length, take, drop, length-drop, length-take}
-use lib.Seq.{slice}
+use lib.ListN.{length}
 use mir.Syntax.{w64}
 use mir.Val.{Fits}
 use borrow.Author.Rules.{rules}
-use Rattle.exact.specs.Place.{slice_at}
 use Rattle.exact.specs.Tells.{Tells, tells_yes, tells_no}
 use Rattle.language.specs.Lent.{lent}
 use Rattle.language.specs.Tree.{Forest}
 use Rattle.sound.specs.Members.{Member, some_member, few_members}
 use Rattle.uncut.specs.Short.{longest}
 use Rattle.uncut.specs.declared.tested.Tested.{Tested}
-use Rattle.uncut.specs.declared.tested.Tested.TheVariants.{Good, Bad}
 use Rattle.uncut.specs.Heads.{Behind, Lies, Whole}
 use Rattle.uncut.specs.Tested.{few_forms, Stand, Tests}
 use Rattle.uncut.specs.Walk.{Passed, passed_none, passed_more}
+use Rattle.std.specs.declared.option.Option.{Option}
+use Rattle.std.specs.declared.option.Option.TheVariants.{Some, None}
 use Rattle.wide.specs.declared.Walked.{Walked}
-use Rattle.wide.specs.declared.Walked.TheVariants as wide
-use Rattle.cutvalues.specs.declared.runs.Ran.{Ran}
+use Rattle.wide.specs.Tests as wide
 use Rattle.cutvalues.specs.Bridge.{Heads}
-use Rattle.cutvalues.specs.Runs.{RunAsked, moved_to, Movable, Met, Stuck, Seen, Several}
+use Rattle.cutvalues.specs.Runs.{moved_to, Movable, Met, Stuck, Seen, Several}
 
 -- ---- told from a place on
 
-module _ (at : ℕ) (t : Tested) where
-  pub moved_bad : t ≡ Bad → wide.Bad ≡ moved_to at t
+module _ (at : ℕ) (t : Option Tested) where
+  pub moved_bad : t ≡ None → None ≡ moved_to at t
   moved_bad e = rw e refl
 
-  module _ (i n : ℕ) (e : t ≡ Good i n) where
-    pub moved_good : wide.Good (at + i) n (i - 3 * n) ≡ moved_to at t
+  module _ (v : Tested) (e : t ≡ Some v) where
+    pub moved_good : wide.Good (at + v.to) v.rows (v.to - 3 * v.rows) ≡ moved_to at t
     moved_good = rw e refl
 
     module _ (w : Movable at t) where
-      pub moved_sum : Fits w64 (at + i)
-      moved_sum = let h = w.heads i n e in omega (arith, w.low, h.1)
+      pub moved_sum : Fits w64 (at + v.to)
+      moved_sum = let h = w.heads v e in omega (arith, w.low, h.1)
 
-      pub moved_heads : Fits w64 (3 * n)
-      moved_heads = let h = w.heads i n e in omega (arith, h.0, h.1)
+      pub moved_heads : Fits w64 (3 * v.rows)
+      moved_heads = let h = w.heads v e in omega (arith, h.0, h.1)
 
-      pub moved_text : 3 * n ≤ i
-      moved_text = (w.heads i n e).0
+      pub moved_text : 3 * v.rows ≤ v.to
+      moved_text = (w.heads v e).0
 
 pub ruleset moving = (moved_bad, moved_good, moved_sum, moved_heads, moved_text, rules)
 
--- ---- in the first bytes of a run
+-- ---- a run
 
-part : (p left : ℕ) (l : List ℕ) → take (p + left - p) (drop p l) ≡ slice p (p + left) l
-part p left l = let k : p + (p + left - p) ≡ p + left = omega arith in slice_at p (p + left - p) l ∙ ap (λ (n : ℕ). slice p n l) k
+module _ (run : List ℕ) where
+  pub run_met : (Q : Forest → Type 0) (at : ℕ) (t : Option Tested) (w : Option Walked) → Tests run Q 0 (length run) t → w ≡ moved_to at t → Met run Q (length run) at w
+  run_met Q at t w h e = record { tested = t; tells = h; moved = e }
 
-module _ (stored : List ℕ) (p left : ℕ) where
-  pub run_tells : (b : Bool) → Tells (Whole (take (p + left - p) (drop p stored)) 0 left) b → Tells (Whole (slice p (p + left) stored) 0 left) b
-  run_tells b t = rw (part p left stored) at t
+  module _ (f : length run ≤ 65535) where
+    pub run_lies : Lies run 0 (length run)
+    run_lies = record { order = omega arith; inside = omega arith; few = omega arith }
 
-  pub run_met : (Q : Forest → Type 0) (at : ℕ) (t : Tested) (w : Walked) → Tests (take (p + left - p) (drop p stored)) Q 0 left t → w ≡ moved_to at t → Met (slice p (p + left) stored) Q left at w
-  run_met Q at t w h e = record { tested = t; tells = subst (λ (l : List ℕ). Tests l Q 0 left t) (part p left stored) h; moved = e }
-
-  pub run_several : (o : Bool) (k : ℕ) (r : Ran) → Several (take (p + left - p) (drop p stored)) o k r → Several (slice p (p + left) stored) o k r
-  run_several o k r t = subst (λ (l : List ℕ). Several l o k r) (part p left stored) t
-
-  module _ (a : RunAsked stored p left) where
-    pub run_fits : Fits w64 (p + left)
-    run_fits = omega (arith, a.inside, a.small)
-
-    pub run_inside : p + left ≤ length stored
-    run_inside = a.inside
-
-    run_length : length (take (p + left - p) (drop p stored)) ≡ left
-    run_length = length-take (p + left - p) (drop p stored) ∙ omega (arith, length-drop p stored, a.inside)
-
-    pub run_few : length (take (p + left - p) (drop p stored)) ≤ 65535
-    run_few = omega (arith, run_length, a.few)
-
-    pub run_lies : Lies (take (p + left - p) (drop p stored)) 0 left
-    run_lies = record { order = omega arith; inside = omega (arith, run_length); few = omega (arith, a.few) }
-
-    pub run_movable : (Q : Forest → Type 0) (at : ℕ) (t : Tested) → at ≤ lent → Tests (take (p + left - p) (drop p stored)) Q 0 left t → Movable at t
-    run_movable Q at t l h = record { low = l; heads = λ i n e. by i n (rw e at h) }
+    pub run_movable : (Q : Forest → Type 0) (at : ℕ) (t : Option Tested) → at ≤ lent → Tests run Q 0 (length run) t → Movable at t
+    run_movable Q at t l h = record { low = l; heads = λ v e. by v.to v.rows (rw e at h) }
       where
-        by : (i n : ℕ) → Stand (take (p + left - p) (drop p stored)) Q 0 left i n → (3 * n ≤ i) × (i ≤ 65535)
-        by i n s = (omega (arith, s.end, s.rows, few_forms s.members), omega (arith, s.below, a.few))
+        by : (i n : ℕ) → Stand run Q 0 (length run) i n → (3 * n ≤ i) × (i ≤ 65535)
+        by i n s = (omega (arith, s.end, s.rows, few_forms s.members), omega (arith, s.below, f))
 
-pub ruleset running = (run_tells, run_met, run_several, run_fits, run_inside, run_few, run_lies, run_movable, rules)
+pub ruleset running = (run_met, run_lies, run_movable, rules)
 
 -- ---- whether a whole member stands at a place
 
@@ -141,21 +118,21 @@ module _ (near : List ℕ) (o : Bool) (k : ℕ) where
     pub going_product : Fits w64 (3 * rows)
     going_product = omega (arith, going_heads, w.lies.order, w.lies.few)
 
-    module _ (q : Tested) (t : Tests near (Member o k) at (length near) q) where
-      pub going_stuck : (b : Bool) → Tells (Heads near o at (length near)) b → b ≡ true → q ≡ Bad → Stuck near o k
+    module _ (q : Option Tested) (t : Tests near (Member o k) at (length near) q) where
+      pub going_stuck : (b : Bool) → Tells (Heads near o at (length near)) b → b ≡ true → q ≡ None → Stuck near o k
       going_stuck b u f e = record { at = at; count = n; rows = rows; passed = w.passed; heads = tells_yes b f u; bad = rw e at t }
 
-      module _ (i m : ℕ) (e : q ≡ Good i m) where
-        stands : Stand near (Member o k) at (length near) i m
-        stands = let z : Tests near (Member o k) at (length near) (Good i m) = rw e at t in z
+      module _ (m : Tested) (e : q ≡ Some m) where
+        stands : Stand near (Member o k) at (length near) m.to m.rows
+        stands = let z : Tests near (Member o k) at (length near) (Some m) = rw e at t in z
 
-        pub going_more : Going near o k i (n + 1) (rows + m)
+        pub going_more : Going near o k m.to (n + 1) (rows + m.rows)
         going_more = let s = stands in record { lies = record { order = s.below; inside = omega arith; few = w.lies.few }; passed = passed_more near o w.passed s }
 
-        pub going_less : length near - i < length near - at
+        pub going_less : length near - m.to < length near - at
         going_less = let s = stands in omega (arith, s.end, s.below, few_forms s.members, some_member s.good)
 
-        pub going_rows : Fits w64 (rows + m)
+        pub going_rows : Fits w64 (rows + m.rows)
         going_rows = let g = going_more in let p = g.passed in omega (arith, p.count, few_forms p.front, p.place, p.inside, w.lies.few)
 
         pub going_count : Fits w64 (n + 1)

@@ -7,7 +7,7 @@ use Rattle.stored.specs.Form.{head, content, forms}
 use Rattle.stored.proofs.LengthsLaws.{form_least, forms_length, form_longer}
 use Rattle.stored.specs.Bytes.{at_as, at_join}
 use Rattle.sound.specs.Members.{is_a_key, Member, pair, element, Many, many_none, many_more, some_member}
-use Rattle.wide.specs.declared.Walked.TheVariants.{Bad}
+use Rattle.std.specs.declared.option.Option.TheVariants.{None}
 use Rattle.wide.specs.Walk.{beside_forms, rest_of, Passed, Went}
 
 beside_length : (ts us : Forest) → length (forms (beside ts us)) ≡ length (forms ts) + length (forms us)
@@ -60,5 +60,5 @@ module _ (v : List ℕ) (o : Bool) {k from end at n rows bytes : ℕ} (w : Passe
         inside = s.inside;
       }
 
-  pub passed_stuck : Went v o k at end Bad → Went v o k from end Bad
+  pub passed_stuck : Went v o k at end None → Went v o k from end None
   passed_stuck f m ts x h t = let z = rest_of v o w.many x w.here h t at w.place w.inside in f z.count z.members z.many z.here z.total

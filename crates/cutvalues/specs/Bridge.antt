@@ -16,12 +16,11 @@ use Rattle.stored.specs.Old as old
 use Rattle.stored.proofs.OldLengthsLaws.{content_length, short_old, short_now}
 use Rattle.stored.specs.Bytes.{At, at_left, at_right, at_as, at_byte, at_join, at_place, slice_at}
 use Rattle.sound.specs.Members.{One, one, Member, pair, element, container_kind, Many, many_pairs, contained, array_distinct}
-use Rattle.uncut.specs.declared.tested.Tested.TheVariants as short
 use Rattle.uncut.specs.Heads.{end_at, Whole}
 use Rattle.uncut.specs.Tested as uncut
 use Rattle.uncut.specs.Walk as walk
-use Rattle.wide.specs.declared.Walked.TheVariants.{Good, Bad}
-use Rattle.wide.specs.Tests.{Tests, one_form, two_forms, alone, none_alone}
+use Rattle.std.specs.declared.option.Option.TheVariants.{None}
+use Rattle.wide.specs.Tests.{Good, Tests, one_form, two_forms, alone, none_alone}
 use Rattle.wide.specs.Walk.{Passed}
 
 -- few members have the fields of Ticket 4, and as many text bytes as are no heads
@@ -131,10 +130,10 @@ module _ {v near : List ℕ} {at m : ℕ} (h : Near v near at m) where
         (i, tree_inside u (subst (λ a. Whole near a m) p w.1) (at_place q (at_right v (form t) (form u) refl y)))
 
     -- WHERE NO MEMBER STANDS in the run, none stands in the content, if whole fields are there
-    pub bridge_stuck : (o : Bool) {k stop : ℕ} → Heads near o e m → uncut.Tests near (Member o k) e m short.Bad → Tests v (Member o k) (at + e) stop Bad
+    pub bridge_stuck : (o : Bool) {k stop : ℕ} → Heads near o e m → uncut.Tests near (Member o k) e m None → Tests v (Member o k) (at + e) stop None
     bridge_stuck o {k} w f ts q x l = by o w f q x
       where
-        by : (o : Bool) → Heads near o e m → uncut.Tests near (Member o k) e m short.Bad → {ts : Forest} → Member o k ts → At v (at + e) (forms ts) → ⊥
+        by : (o : Bool) → Heads near o e m → uncut.Tests near (Member o k) e m None → {ts : Forest} → Member o k ts → At v (at + e) (forms ts) → ⊥
         by false w f (element {t = t} s) x =
             let i = tree_inside t w (at_as (one_form t) x) in
             f (more t none) (element s) (at_as (sym (uncut.one_form t)) i.here) (omega (arith, i.ends, w.ends, ap length (uncut.one_form t), ap length i.same))
@@ -172,7 +171,7 @@ module _ {v near : List ℕ} {at m : ℕ} (h : Near v near at m) where
 
   module _ {P : Tree → Type 0} {stop : ℕ} (below : at + m ≤ stop) where
     -- A FIELD THAT IS GOOD
-    pub bridge_good : {i n : ℕ} → ((t : Tree) → P t → length (old.form t) ≡ head * size t + length (text_of t)) → uncut.Tests near (One P) 0 m (short.Good i n) → Tests v (One P) at stop (Good (at + i) n (i - 3 * n))
+    pub bridge_good : {i n : ℕ} → ((t : Tree) → P t → length (old.form t) ≡ head * size t + length (text_of t)) → uncut.Tests near (One P) 0 m (uncut.Good i n) → Tests v (One P) at stop (Good (at + i) n (i - 3 * n))
     bridge_good {i} {n} p s =
         let o = uncut.lone near s in
         let t = o.tree in
@@ -182,7 +181,7 @@ module _ {v near : List ℕ} {at m : ℕ} (h : Near v near at m) where
         alone v t o.good (first_at (at_as (sym f) (outward (old.form t) (omega arith) o.here))) (at + i) n (i - 3 * n) (omega (arith, o.end)) o.rows (omega (arith, o.end, o.rows)) (omega (arith, o.below))
 
     -- WHERE NO TREE STANDS in the run, none stands in the content, if a whole field is there
-    pub bridge_bad : Whole near 0 m → uncut.Tests near (One P) 0 m short.Bad → Tests v (One P) at stop Bad
+    pub bridge_bad : Whole near 0 m → uncut.Tests near (One P) 0 m None → Tests v (One P) at stop None
     bridge_bad w f =
         none_alone v
         (λ t q x o.

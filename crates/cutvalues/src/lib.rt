@@ -1,294 +1,245 @@
 // Whether a value stands in a content that is cut, or in stored bytes that are more than one field holds. What lies whole before the nearest cut is tested where it stands, as in `tested`.
+// Stays (point 5): a view goes with a place, an allowance and the kind of its container, which are others for each field: a struct of them would be made anew for each call.
 #![tactic(auto)]
 
-ghost use Rattle.std.specs.Prelude.{true, false, ◌+◌, ◌<◌, ◌≤◌};
+ghost use Rattle.std.specs.Prelude.{true, ◌+◌, ◌<◌, ◌≤◌};
 ghost use Rattle.sound.specs.Members.{Sane, One, IsKey, Member, container_kind};
-ghost use Rattle.views.specs.Views.{viewed};
+ghost use Rattle.views.specs.Contents.{all};
 ghost use Rattle.views.specs.Extents.{Whole};
-ghost use Rattle.views.specs.Spans.{Lies};
 ghost use Rattle.wide.specs.Tests.{Tests};
 ghost use Rattle.wide.specs.Walk.{Went};
-ghost use Rattle.cutvalues.specs.Runs.{RanOn, Stretched, Closing, ClosedTold, NoContainer};
+ghost use Rattle.cutvalues.specs.Runs.{Standing, RanOn, Stretched, Closing, ClosedTold, NoContainer};
 
 mod runs;
 
 use cutkeys::apart;
-use cuttexts::{is_scalar, is_script};
-use runs::{Ran, is_whole, run_key, run_members, run_value};
-use views::{LEVELS, Span, deeper, extent};
+use runs::{Ran, run_key, run_value, several};
+use texts::{is_scalar, is_script};
+use uncut::is_field;
+use views::{Span, View, deeper, extent};
 use wide::{Walked, near};
 
-// A key that is cut: the content of n bytes of its field, which ends at `end`.
-fn named(stored: &[u8], starts: &[u32; LEVELS], d: usize, at: usize, n: usize, end: usize) -> Walked
-    requires { (d < 34) × Lies stored.now starts.now d at end × Whole (viewed stored.now starts.now d) at end 10 n end }
-    ensures { Tests (viewed stored.now starts.now d) (One IsKey) at end result }
+// The bytes from a place on that stand before the nearest cut.
+fn run_at(v: View, at: usize) -> &[u8]
+    requires { at ≤ v.n }
+    ensures { Standing (all v.entry) at v.entry.n result.now }
 {
-    let s = deeper(starts, d, at);
-    if is_script(&*stored, &s, d + 1, n) {
-        return Walked::Good(end, 1, n);
-    }
-    Walked::Bad
+    let r = near(v, at);
+    &v.stored[r.place..r.place + r.left]
 }
 
-// The same before `stop`.
-fn cut_key(stored: &[u8], starts: &[u32; LEVELS], d: usize, at: usize, stop: usize) -> Walked
-    requires { (d < 34) × Lies stored.now starts.now d at stop }
-    ensures { Tests (viewed stored.now starts.now d) (One IsKey) at stop result }
+// A key that is cut.
+fn named(v: View, at: usize, f: Span) -> Option<Walked>
+    requires { (v.d < 34) × (at ≤ v.n) × Whole (all v) at v.n 10 f.bytes f.end }
+    ensures { Tests (all v.entry) (One IsKey) at v.entry.n result }
 {
-    match extent(&*stored, starts, d, at, stop) {
-        Span::Nothing => Walked::Bad,
-        Span::Of(tag, n, end) => {
-            if tag != 10 {
-                return Walked::Bad;
-            }
-            named(&*stored, starts, d, at, n, end)
-        }
+    let s = deeper(v.starts, v.d, at);
+    let text = View {
+        stored: v.stored,
+        starts: &s,
+        d: v.d + 1,
+        n: f.bytes,
+    };
+    if is_script(text) {
+        return Some(Walked {
+            to: f.end,
+            rows: 1,
+            bytes: f.bytes,
+        });
     }
+    None
 }
 
-// A key before `stop`.
-fn key(stored: &[u8], starts: &[u32; LEVELS], d: usize, at: usize, stop: usize) -> Walked
-    requires { (d < 34) × Lies stored.now starts.now d at stop }
-    ensures { Tests (viewed stored.now starts.now d) (One IsKey) at stop result }
+// The same, if a field stands there that is a key's.
+fn cut_key(v: View, at: usize) -> Option<Walked>
+    requires { (v.d < 34) × (at ≤ v.n) }
+    ensures { Tests (all v.entry) (One IsKey) at v.entry.n result }
 {
-    let r = near(&*stored, starts, d, at, stop);
-    if is_whole(&*stored, r.place, r.left) {
-        return run_key(&*stored, r.place, r.left, at);
+    let f = extent(v, at)?;
+    if f.tag != 10 {
+        return None;
     }
-    cut_key(&*stored, starts, d, at, stop)
+    named(v, at, f)
 }
 
-// A scalar that is cut: the content of n bytes of the field under its tag, which ends at `end`.
-fn cut_scalar(
-    stored: &[u8],
-    starts: &[u32; LEVELS],
-    d: usize,
-    at: usize,
-    tag: usize,
-    n: usize,
-    end: usize,
-    allow: usize,
-) -> Walked
-    requires { (d < 34) × Lies stored.now starts.now d at end × Whole (viewed stored.now starts.now d) at end tag n end × NoContainer tag }
-    ensures { Tests (viewed stored.now starts.now d) (One (Sane allow)) at end result }
+// A key.
+fn key(v: View, at: usize) -> Option<Walked>
+    requires { (v.d < 34) × (at ≤ v.n) }
+    ensures { Tests (all v.entry) (One IsKey) at v.entry.n result }
 {
-    let s = deeper(starts, d, at);
-    if is_scalar(&*stored, &s, d + 1, n, tag) {
-        return Walked::Good(end, 1, n);
+    let run = run_at(v, at);
+    if is_field(run, 0, run.len()) {
+        return run_key(run, at);
     }
-    Walked::Bad
+    cut_key(v, at)
 }
 
-// Whether the members of a content of n bytes make a container: no two keys of an object are equal.
-fn closed(
-    stored: &[u8],
-    starts: &[u32; LEVELS],
-    d: usize,
-    n: usize,
-    members: usize,
-    object: bool,
-) -> bool
-    requires { (d < 34) × Lies stored.now starts.now d 0 n × Closing (viewed stored.now starts.now d) object n members }
-    ensures { ClosedTold (viewed stored.now starts.now d) object n result }
+// A scalar that is cut.
+fn cut_scalar(v: View, at: usize, f: Span, allow: usize) -> Option<Walked>
+    requires { (v.d < 34) × (at ≤ v.n) × Whole (all v) at v.n f.tag f.bytes f.end × NoContainer f.tag }
+    ensures { Tests (all v.entry) (One (Sane allow)) at v.entry.n result }
 {
-    if object {
-        return apart(&*stored, starts, d, n, members);
+    let s = deeper(v.starts, v.d, at);
+    let text = View {
+        stored: v.stored,
+        starts: &s,
+        d: v.d + 1,
+        n: f.bytes,
+    };
+    if is_scalar(text, f.tag) {
+        return Some(Walked {
+            to: f.end,
+            rows: 1,
+            bytes: f.bytes,
+        });
     }
-    true
+    None
+}
+
+// Whether the members of a content make a container: no two keys of an object are equal. It is put into no caller, whose frame stands once for each level.
+#[inline(never)]
+#[tactic(auto, using(crate::proofs::CutLaws::closing))]
+fn closed(v: View, members: usize, object: bool) -> bool
+    requires { (v.d < 34) × Closing (all v) object v.n members }
+    ensures { ClosedTold (all v.entry) object v.entry.n result }
+{
+    !object || apart(v, members)
 }
 
 // The members that stand whole before the nearest cut.
-fn near_members(
-    stored: &[u8],
-    starts: &[u32; LEVELS],
-    d: usize,
-    at: usize,
-    n: usize,
-    allow: usize,
-    object: bool,
-) -> Ran
-    requires { Lies stored.now starts.now d at n }
-    ensures { RanOn (viewed stored.now starts.now d) object allow at n result }
+fn near_members(v: View, at: usize, allow: usize, object: bool) -> Option<Ran>
+    requires { at ≤ v.n }
+    ensures { RanOn (all v.entry) object allow at v.entry.n result }
 {
-    let r = near(&*stored, starts, d, at, n);
-    match run_members(&*stored, r.place, r.left, allow, object) {
-        Ran::Bad => Ran::Bad,
-        Ran::Good(end, members, rows, bytes) => Ran::Good(at + end, members, rows, bytes),
-    }
+    let r = several(run_at(v, at), allow, object)?;
+    Some(Ran {
+        end: at + r.end,
+        members: r.members,
+        rows: r.rows,
+        bytes: r.bytes,
+    })
 }
 
-// The cycle. A value before `stop`, with an allowance of containers one inside another.
+// The cycle. A value, with an allowance of containers one inside another.
 #[cycle(child_children_container_cut_value_pair_stretch_value)]
-pub fn value(
-    stored: &[u8],
-    starts: &[u32; LEVELS],
-    d: usize,
-    at: usize,
-    stop: usize,
-    allow: usize,
-) -> Walked
-    requires { (d + allow ≤ 32) × Lies stored.now starts.now d at stop }
-    ensures { Tests (viewed stored.now starts.now d) (One (Sane allow)) at stop result }
+pub fn value(v: View, at: usize, allow: usize) -> Option<Walked>
+    requires { (v.d + allow ≤ 32) × (at ≤ v.n) }
+    ensures { Tests (all v.entry) (One (Sane allow)) at v.entry.n result }
 {
-    let r = near(&*stored, starts, d, at, stop);
-    if is_whole(&*stored, r.place, r.left) {
-        return run_value(&*stored, r.place, r.left, at, allow);
+    let run = run_at(v, at);
+    if is_field(run, 0, run.len()) {
+        return run_value(run, at, allow);
     }
-    cut_value(&*stored, starts, d, at, stop, allow)
+    cut_value(v, at, allow)
 }
 
 // The same, where it is cut.
 #[cycle(child_children_container_cut_value_pair_stretch_value)]
-fn cut_value(
-    stored: &[u8],
-    starts: &[u32; LEVELS],
-    d: usize,
-    at: usize,
-    stop: usize,
-    allow: usize,
-) -> Walked
-    requires { (d + allow ≤ 32) × Lies stored.now starts.now d at stop }
-    ensures { Tests (viewed stored.now starts.now d) (One (Sane allow)) at stop result }
+fn cut_value(v: View, at: usize, allow: usize) -> Option<Walked>
+    requires { (v.d + allow ≤ 32) × (at ≤ v.n) }
+    ensures { Tests (all v.entry) (One (Sane allow)) at v.entry.n result }
 {
-    match extent(&*stored, starts, d, at, stop) {
-        Span::Nothing => Walked::Bad,
-        Span::Of(tag, n, end) => match tag {
-            8 => container(&*stored, starts, d, at, n, end, allow, false),
-            9 => container(&*stored, starts, d, at, n, end, allow, true),
-            _ => cut_scalar(&*stored, starts, d, at, tag, n, end, allow),
-        },
+    let f = extent(v, at)?;
+    match f.tag {
+        8 => container(v, at, f, allow, false),
+        9 => container(v, at, f, allow, true),
+        _ => cut_scalar(v, at, f, allow),
     }
 }
 
-// A container whose content of n bytes is cut: its members have one container less allowed.
+// A container whose content is cut: its members have one container less allowed.
 #[cycle(child_children_container_cut_value_pair_stretch_value)]
-fn container(
-    stored: &[u8],
-    starts: &[u32; LEVELS],
-    d: usize,
-    at: usize,
-    n: usize,
-    end: usize,
-    allow: usize,
-    object: bool,
-) -> Walked
-    requires { (d + allow ≤ 32) × Lies stored.now starts.now d at end × Whole (viewed stored.now starts.now d) at end (container_kind object) n end }
-    ensures { Tests (viewed stored.now starts.now d) (One (Sane allow)) at end result }
+fn container(v: View, at: usize, f: Span, allow: usize, object: bool) -> Option<Walked>
+    requires { (v.d + allow ≤ 32) × (at ≤ v.n) × Whole (all v) at v.n (container_kind object) f.bytes f.end }
+    ensures { Tests (all v.entry) (One (Sane allow)) at v.entry.n result }
 {
     if allow == 0 {
-        return Walked::Bad;
+        return None;
     }
-    let s = deeper(starts, d, at);
-    match children(&*stored, &s, d + 1, n, allow - 1, object) {
-        Walked::Bad => Walked::Bad,
-        Walked::Good(members, rows, bytes) => {
-            if closed(&*stored, &s, d + 1, n, members, object) {
-                return Walked::Good(end, rows + 1, bytes);
-            }
-            Walked::Bad
-        }
+    let s = deeper(v.starts, v.d, at);
+    let content = View {
+        stored: v.stored,
+        starts: &s,
+        d: v.d + 1,
+        n: f.bytes,
+    };
+    let c = children(content, allow - 1, object)?;
+    if closed(content, c.to, object) {
+        return Some(Walked {
+            to: f.end,
+            rows: c.rows + 1,
+            bytes: c.bytes,
+        });
     }
+    None
 }
 
 // Its members: how many they are, and how many rows and text bytes they have.
 #[cycle(child_children_container_cut_value_pair_stretch_value)]
-fn children(
-    stored: &[u8],
-    starts: &[u32; LEVELS],
-    d: usize,
-    n: usize,
-    allow: usize,
-    object: bool,
-) -> Walked
-    requires { (d + allow ≤ 32) × Lies stored.now starts.now d 0 n }
-    ensures { Went (viewed stored.now starts.now d) object allow 0 n result }
+fn children(v: View, allow: usize, object: bool) -> Option<Walked>
+    requires { v.d + allow ≤ 32 }
+    ensures { Went (all v.entry) object allow 0 v.entry.n result }
 {
     let mut at = 0;
     let mut members = 0;
     let mut rows = 0;
     let mut bytes = 0;
-    while at < n {
-        match stretch(&*stored, starts, d, at, n, allow, object) {
-            Ran::Bad => {
-                return Walked::Bad;
-            }
-            Ran::Good(next, k, m, b) => {
-                at = next;
-                members += k;
-                rows += m;
-                bytes += b;
-            }
-        }
+    while at < v.n {
+        let r = stretch(v, at, allow, object)?;
+        at = r.end;
+        members += r.members;
+        rows += r.rows;
+        bytes += r.bytes;
     }
-    Walked::Good(members, rows, bytes)
+    Some(Walked {
+        to: members,
+        rows,
+        bytes,
+    })
 }
 
 // Some of them: those before the nearest cut, and the one behind them, which is cut.
 #[cycle(child_children_container_cut_value_pair_stretch_value)]
-fn stretch(
-    stored: &[u8],
-    starts: &[u32; LEVELS],
-    d: usize,
-    at: usize,
-    n: usize,
-    allow: usize,
-    object: bool,
-) -> Ran
-    requires { (d + allow ≤ 32) × Lies stored.now starts.now d at n × (at < n) }
-    ensures { Stretched (viewed stored.now starts.now d) object allow at n result }
+fn stretch(v: View, at: usize, allow: usize, object: bool) -> Option<Ran>
+    requires { (v.d + allow ≤ 32) × (at < v.n) }
+    ensures { Stretched (all v.entry) object allow at v.entry.n result }
 {
-    match near_members(&*stored, starts, d, at, n, allow, object) {
-        Ran::Bad => Ran::Bad,
-        Ran::Good(end, members, rows, bytes) => {
-            if n <= end {
-                return Ran::Good(end, members, rows, bytes);
-            }
-            match child(&*stored, starts, d, end, n, allow, object) {
-                Walked::Bad => Ran::Bad,
-                Walked::Good(next, m, b) => Ran::Good(next, members + 1, rows + m, bytes + b),
-            }
-        }
+    let r = near_members(v, at, allow, object)?;
+    if v.n <= r.end {
+        return Some(r);
     }
+    let c = child(v, r.end, allow, object)?;
+    Some(Ran {
+        end: c.to,
+        members: r.members + 1,
+        rows: r.rows + c.rows,
+        bytes: r.bytes + c.bytes,
+    })
 }
 
 // An element, or a key and its value.
 #[cycle(child_children_container_cut_value_pair_stretch_value)]
-fn child(
-    stored: &[u8],
-    starts: &[u32; LEVELS],
-    d: usize,
-    at: usize,
-    stop: usize,
-    allow: usize,
-    object: bool,
-) -> Walked
-    requires { (d + allow ≤ 32) × Lies stored.now starts.now d at stop }
-    ensures { Tests (viewed stored.now starts.now d) (Member object allow) at stop result }
+fn child(v: View, at: usize, allow: usize, object: bool) -> Option<Walked>
+    requires { (v.d + allow ≤ 32) × (at ≤ v.n) }
+    ensures { Tests (all v.entry) (Member object allow) at v.entry.n result }
 {
     if object {
-        return pair(&*stored, starts, d, at, stop, allow);
+        return pair(v, at, allow);
     }
-    value(&*stored, starts, d, at, stop, allow)
+    value(v, at, allow)
 }
 
 // A key and its value.
 #[cycle(child_children_container_cut_value_pair_stretch_value)]
-fn pair(
-    stored: &[u8],
-    starts: &[u32; LEVELS],
-    d: usize,
-    at: usize,
-    stop: usize,
-    allow: usize,
-) -> Walked
-    requires { (d + allow ≤ 32) × Lies stored.now starts.now d at stop }
-    ensures { Tests (viewed stored.now starts.now d) (Member true allow) at stop result }
+fn pair(v: View, at: usize, allow: usize) -> Option<Walked>
+    requires { (v.d + allow ≤ 32) × (at ≤ v.n) }
+    ensures { Tests (all v.entry) (Member true allow) at v.entry.n result }
 {
-    match key(&*stored, starts, d, at, stop) {
-        Walked::Bad => Walked::Bad,
-        Walked::Good(next, _, named) => match value(&*stored, starts, d, next, stop, allow) {
-            Walked::Bad => Walked::Bad,
-            Walked::Good(end, rows, bytes) => Walked::Good(end, rows + 1, named + bytes),
-        },
-    }
+    let k = key(v, at)?;
+    let w = value(v, k.to, allow)?;
+    Some(Walked {
+        to: w.to,
+        rows: w.rows + 1,
+        bytes: k.bytes + w.bytes,
+    })
 }

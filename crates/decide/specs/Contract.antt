@@ -1,5 +1,5 @@
 -- WHAT THE FUNCTIONS OF THE DECISION PROMISE EACH OTHER. The promise does not rest on these. Assumes nothing.
-use Rattle.std.specs.Prelude.{◌≡◌, List, Bool, true, false, ℕ}
+use Rattle.std.specs.Prelude.{◌≡◌, List, Bool, true, false, ℕ, Option, Some, None}
 use Rattle.language.specs.Kind.{OBJECT}
 use Rattle.language.specs.Sound.{Sound}
 use Rattle.questions.specs.Walk.{Reply, Finds}
@@ -7,7 +7,6 @@ use Rattle.upgrade.specs.Version.{Higher}
 use Rattle.upgrade.specs.Sheet.{VERSION, FLOOR, IMAGE}
 use Rattle.upgrade.specs.Decides.{SheetIn}
 use Rattle.decide.specs.declared.sheets.Sheet.{Sheet}
-use Rattle.decide.specs.declared.sheets.Sheet.TheVariants.{Rows, Other}
 use Rattle.decide.specs.Rows.{kind_at, count_at, Inside, VersionRow, ImageRow, number_at}
 
 module _ (table : List ℕ) (rows : ℕ) (text : List ℕ) where
@@ -20,34 +19,47 @@ module _ (table : List ℕ) (rows : ℕ) (text : List ℕ) where
   pub data Object : Type 0 where
     object : Sound table rows text → kind_at table 0 ≡ OBJECT → count_at table 0 ≡ 3 → Object
 
-  -- the row that finding a key in the root answers, or 0
-  pub record Sought (key : List ℕ) (r : ℕ) : Type 0 where
+  -- the row that finding a key in the root answers, or the root's own, 0
+  pub record SoughtRow (key : List ℕ) (r : ℕ) : Type 0 where
     pub reply : Reply
     pub finds : Finds table rows text key 0 reply
     pub is : r ≡ reply.value
 
-  -- the row of a version under a key, or 0 where there is none
-  pub data VersionUnder (key : List ℕ) : ℕ → Type 0 where
-    under : {r : ℕ} → Sought key r → VersionRow table rows text r → VersionUnder key r
-    none_under : {r : ℕ} → Sought key r → (VersionRow table rows text r → ⊥) → VersionUnder key 0
+  abbrev pub Sought : List ℕ → Option ℕ → Type 0
+  Sought key (Some r) = SoughtRow key r
+  Sought key None = SoughtRow key 0
+
+  -- the row of a version under a key, where there is one
+  pub record VersionAt (key : List ℕ) (r : ℕ) : Type 0 where
+    pub sought : SoughtRow key r
+    pub row : VersionRow table rows text r
+
+  pub record NoVersion (key : List ℕ) : Type 0 where
+    pub r : ℕ
+    pub sought : SoughtRow key r
+    pub other : VersionRow table rows text r → ⊥
+
+  abbrev pub VersionUnder : List ℕ → Option ℕ → Type 0
+  VersionUnder key (Some r) = VersionAt key r
+  VersionUnder key None = NoVersion key
 
   -- whether an image is under its key
   pub data ImageUnder : Bool → Type 0 where
-    image : {r : ℕ} → Sought IMAGE r → ImageRow table rows text r → ImageUnder true
-    no_image : {r : ℕ} → Sought IMAGE r → (ImageRow table rows text r → ⊥) → ImageUnder false
+    image : {r : ℕ} → SoughtRow IMAGE r → ImageRow table rows text r → ImageUnder true
+    no_image : {r : ℕ} → SoughtRow IMAGE r → (ImageRow table rows text r → ⊥) → ImageUnder false
 
   -- a sheet, by the rows of its version and its floor
   pub record SheetRows (v f : ℕ) : Type 0 where
     pub whole : Object
-    pub version : Sought VERSION v
+    pub version : SoughtRow VERSION v
     pub version_row : VersionRow table rows text v
-    pub floor : Sought FLOOR f
+    pub floor : SoughtRow FLOOR f
     pub floor_row : VersionRow table rows text f
     pub image : ImageUnder true
 
-  abbrev pub SheetTold : Sheet → Type 0
-  SheetTold (Rows v f) = SheetRows v f
-  SheetTold Other = (v f : List ℕ) → SheetIn table rows text v f → ⊥
+  abbrev pub SheetTold : Option Sheet → Type 0
+  SheetTold (Some s) = SheetRows s.version s.floor
+  SheetTold None = (v f : List ℕ) → SheetIn table rows text v f → ⊥
 
 -- two versions, each in a row of its table
 pub record Versions (table : List ℕ) (rows : ℕ) (text : List ℕ) (r : ℕ) (other : List ℕ) (rows' : ℕ) (text' : List ℕ) (s : ℕ) : Type 0 where

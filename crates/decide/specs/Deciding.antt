@@ -14,7 +14,7 @@ use Rattle.upgrade.specs.Order.{Equal, higher_once, equal_not_higher}
 use Rattle.upgrade.specs.Sheet.{VERSION, FLOOR, IMAGE}
 use Rattle.upgrade.specs.Decides.{BADSHEET, BADINST, INSTALL, KEEP, BLOCKED, SheetIn, Decides, installs, keeps, blocks, decides, bad_sheet, bad_installed}
 use Rattle.decide.specs.Rows.{count_at, Natural, zero_text, zero_natural, value_of, VersionRow, ImageRow, place_text, number_at}
-use Rattle.decide.specs.Contract.{InstalledRow, Object, Sought, SheetRows, AboveRow}
+use Rattle.decide.specs.Contract.{InstalledRow, Object, SoughtRow, SheetRows, AboveRow}
 use Rattle.decide.specs.Sheets.{row_installed, installed_row, rows_sheet, sheet_shown}
 
 -- ---- places
@@ -74,13 +74,13 @@ module _ {table : List ℕ} {rows : ℕ} {text : List ℕ} where
   pub no_object : (Object table rows text → ⊥) → (v f : List ℕ) → SheetIn table rows text v f → ⊥
   no_object n v f x = n (sheet_shown table rows text x).whole
 
-  pub no_version : {r : ℕ} → Sought table rows text VERSION r → (VersionRow table rows text r → ⊥) → (v f : List ℕ) → SheetIn table rows text v f → ⊥
+  pub no_version : {r : ℕ} → SoughtRow table rows text VERSION r → (VersionRow table rows text r → ⊥) → (v f : List ℕ) → SheetIn table rows text v f → ⊥
   no_version q n v f x = n ((sheet_shown table rows text x).version _ q)
 
-  pub no_floor : {r : ℕ} → Sought table rows text FLOOR r → (VersionRow table rows text r → ⊥) → (v f : List ℕ) → SheetIn table rows text v f → ⊥
+  pub no_floor : {r : ℕ} → SoughtRow table rows text FLOOR r → (VersionRow table rows text r → ⊥) → (v f : List ℕ) → SheetIn table rows text v f → ⊥
   no_floor q n v f x = n ((sheet_shown table rows text x).floor _ q)
 
-  pub no_image : {r : ℕ} → Sought table rows text IMAGE r → (ImageRow table rows text r → ⊥) → (v f : List ℕ) → SheetIn table rows text v f → ⊥
+  pub no_image : {r : ℕ} → SoughtRow table rows text IMAGE r → (ImageRow table rows text r → ⊥) → (v f : List ℕ) → SheetIn table rows text v f → ⊥
   no_image q n v f x = n ((sheet_shown table rows text x).image _ q)
 
 -- ---- the decision

@@ -1,16 +1,15 @@
 -- VERSIONS AND IMAGES IN ROWS: what the code tests of a row and of the texts that the questions answer, and the number of each place. The promise does not rest on these. Assumes nothing.
 use mathlib.Core.Path.{◌≡◌, refl, sym, ap, subst, ◌∙◌}
-use Rattle.std.specs.Prelude.{true, List, [], ◌∷◌, ℕ, ◌+◌, ◌*◌, ◌≤◌, ◌<◌, length, get_or, ltb, ℤ, pos, negsuc, ◌<ℤ◌}
+use Rattle.std.specs.Prelude.{true, List, [], ◌∷◌, ℕ, ◌+◌, ◌*◌, ◌≤◌, ◌<◌, length, get_or, ltb, ℤ, pos, negsuc, ◌<ℤ◌, Ok, Err}
 use Rattle.std.proofs.Common.{arith, ltb→lt}
 use Rattle.notation.specs.Class.{pick}
 use Rattle.language.specs.Kind.{INTEGER, BYTES, ARRAY}
 use Rattle.language.specs.Tree.{width}
 use Rattle.language.specs.Lent.{words_in}
 use Rattle.questions.specs.Text.{text_of}
-use Rattle.integers.specs.declared.Compared.{Compared}
-use Rattle.integers.specs.declared.Compared.TheVariants.{Less, Equal, Greater, NotInt}
+use Rattle.std.specs.declared.cmp.Ordering.TheVariants.{Less, Equal, Greater}
 use Rattle.integers.specs.Integer.{is_integer, empty, natural, integer}
-use Rattle.integers.specs.Order.{compared_verdict, compared}
+use Rattle.integers.specs.Order.{Compared, not_int, compared_verdict, compared}
 use Rattle.integers.specs.Ordered.{Told, compare_order, compare_integers}
 use Rattle.integers.specs.Sized.{Says}
 use Rattle.upgrade.specs.Version.{most}
@@ -74,38 +73,43 @@ not_less {z} {n} e h = let k : pos n <ℤ pos 0 = subst (λ (y : ℤ). y <ℤ po
 
 -- WHAT COMPARING WITH ZERO TELLS
 module _ {s : List ℕ} where
-  pub natural_greater : compared_verdict Greater ≡ compared s zero_text → Natural s
+  pub natural_greater : compared_verdict (Ok Greater) ≡ compared s zero_text → Natural s
   unfolding integer natural
   natural_greater h =
-      let p = compare_integers s zero_text Greater (λ e. let z : ◌≡◌ {A = ℕ} 0 1 = cc in omega arith) h in
-      let g = at_least (integer s) ((compare_order s zero_text p.0 p.1 Greater).0 h) in
+      let p = compare_integers s zero_text (Ok Greater) (λ e. cc) h in
+      let g = at_least (integer s) ((compare_order s zero_text p.0 p.1 (Ok Greater)).0 h) in
       record { text = p.0; value = g.0; is = g.1 }
 
-  pub natural_equal : compared_verdict Equal ≡ compared s zero_text → Natural s
+  pub natural_equal : compared_verdict (Ok Equal) ≡ compared s zero_text → Natural s
   unfolding integer natural
   natural_equal h =
-      let p = compare_integers s zero_text Equal (λ e. let z : ◌≡◌ {A = ℕ} 0 1 = cc in omega arith) h in
-      record { text = p.0; value = 0; is = (compare_order s zero_text p.0 p.1 Equal).0 h }
+      let p = compare_integers s zero_text (Ok Equal) (λ e. cc) h in
+      record { text = p.0; value = 0; is = (compare_order s zero_text p.0 p.1 (Ok Equal)).0 h }
 
-  pub natural_less : compared_verdict Less ≡ compared s zero_text → Natural s → ⊥
+  pub natural_less : compared_verdict (Ok Less) ≡ compared s zero_text → Natural s → ⊥
   unfolding is_integer empty integer natural
-  natural_less h n = not_less n.is ((compare_order s zero_text n.text refl Less).0 h)
+  natural_less h n = not_less n.is ((compare_order s zero_text n.text refl (Ok Less)).0 h)
 
-  pub natural_not : compared_verdict NotInt ≡ compared s zero_text → Natural s → ⊥
+  pub natural_not : compared_verdict not_int ≡ compared s zero_text → Natural s → ⊥
   unfolding is_integer empty integer natural
-  natural_not h n = (compare_order s zero_text n.text refl NotInt).0 h
+  natural_not h n = (compare_order s zero_text n.text refl not_int).0 h
 
 -- WHAT COMPARING TWO OF THEM TELLS
 less_numbers : {m n : ℕ} → pos m <ℤ pos n → m < n
 less_numbers {m} {n} h = ltb→lt m n h.lt
 
-told_says : (c : Compared) (m n : ℕ) → Told c (pos m) (pos n) → Says c m n
-told_says Less m n h = less_numbers h
-told_says Equal m n h = ap number h
-told_says Greater m n h = less_numbers h
-told_says NotInt m n h = h
+-- what an answer of `compare` says of two numbers
+abbrev pub Said : Compared → ℕ → ℕ → Type 0
+Said (Ok o) m n = Says o m n
+Said (Err _) m n = ⊥
 
-pub naturals_say : (s t : List ℕ) (c : Compared) → Natural s → Natural t → compared_verdict c ≡ compared s t → Says c (value_of s) (value_of t)
+told_says : (c : Compared) (m n : ℕ) → Told c (pos m) (pos n) → Said c m n
+told_says (Ok Less) m n h = less_numbers h
+told_says (Ok Equal) m n h = ap number h
+told_says (Ok Greater) m n h = less_numbers h
+told_says (Err _) m n h = h
+
+pub naturals_say : (s t : List ℕ) (c : Compared) → Natural s → Natural t → compared_verdict c ≡ compared s t → Said c (value_of s) (value_of t)
 naturals_say s t c m n h =
     told_says c (value_of s) (value_of t) (mathlib.Core.Path.subst₂ (λ (x y : ℤ). Told c x y) (value_is m) (value_is n) ((compare_order s t m.text n.text c).0 h))
 

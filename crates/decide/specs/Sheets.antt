@@ -18,7 +18,7 @@ use Rattle.decide.specs.Rows.{kind_at, count_at, Inside, VersionRow, ImageRow, n
 use Rattle.decide.specs.Trees.{Stands, version_reads, row_version, image_row, row_image, no_container}
 use Rattle.decide.specs.Found.{Seen, seen, unseen, find_seen}
 use Rattle.decide.specs.Exactly.{pairs_alone, three_named, named_three}
-use Rattle.decide.specs.Contract.{InstalledRow, Object, object, Sought, ImageUnder, image, SheetRows}
+use Rattle.decide.specs.Contract.{InstalledRow, Object, object, SoughtRow, ImageUnder, image, SheetRows}
 
 module _ (table : List ℕ) (rows : ℕ) (text : List ℕ) where
   -- a tree that a table holds stands from the first row on
@@ -77,7 +77,7 @@ module _ (table : List ℕ) (rows : ℕ) (text : List ℕ) where
     unfolding size
     few = omega (arith, x.holds.count)
 
-    pub sought : {s : List ℕ} {r : ℕ} → Sought table rows text s r → SoughtAt s r
+    pub sought : {s : List ℕ} {r : ℕ} → SoughtRow table rows text s r → SoughtAt s r
     unfolding size
     sought {s} {r} q = by q.reply q.is (find_seen table rows text x.holds.rows_fit whole.pairs (holds_at x.holds) (omega (arith, few)) q.finds)
       where
@@ -87,7 +87,7 @@ module _ (table : List ℕ) (rows : ℕ) (text : List ℕ) where
         by _ e (unseen f) = sought_none e f
 
     -- a version under a key, by its row
-    sought_version : {s : List ℕ} {r : ℕ} {v : Tree} {ns : List ℕ} → Sought table rows text s r → Under s v ts → Version v ns → VersionRow table rows text r
+    sought_version : {s : List ℕ} {r : ℕ} {v : Tree} {ns : List ℕ} → SoughtRow table rows text s r → Under s v ts → Version v ns → VersionRow table rows text r
     sought_version {s} {r} {v} {ns} q u y = by (sought q)
       where
         by : SoughtAt s r → VersionRow table rows text r
@@ -99,7 +99,7 @@ module _ (table : List ℕ) (rows : ℕ) (text : List ℕ) where
     some_rows : {k r p y : ℕ} {v : Tree} → Stands table rows text x.holds.rows_fit k r p y v → r < rows
     some_rows {v = v} z = omega (arith, z.below, Rattle.sound.specs.Members.some_size v)
 
-    sought_image : {s : List ℕ} {r : ℕ} {v : Tree} → Sought table rows text s r → Under s v ts → Image v → ImageRow table rows text r
+    sought_image : {s : List ℕ} {r : ℕ} {v : Tree} → SoughtRow table rows text s r → Under s v ts → Image v → ImageRow table rows text r
     sought_image {s} {r} {v} q u y = by (sought q)
       where
         by : SoughtAt s r → ImageRow table rows text r
@@ -109,7 +109,7 @@ module _ (table : List ℕ) (rows : ℕ) (text : List ℕ) where
             image_row table rows text x.holds.rows_fit z.at (some_rows z) (subst Image g y)
 
     -- the row that is sought is one of the table's
-    sought_below : {s : List ℕ} {r : ℕ} → Sought table rows text s r → r < rows
+    sought_below : {s : List ℕ} {r : ℕ} → SoughtRow table rows text s r → r < rows
     sought_below {s} {r} q = by (sought q)
       where
         by : SoughtAt s r → r < rows
@@ -130,7 +130,7 @@ module _ (table : List ℕ) (rows : ℕ) (text : List ℕ) where
       pub is : Version value list
       pub numbers : (i : ℕ) → number_at table rows text r i ≡ place list i
 
-    version_at : {s : List ℕ} {r : ℕ} → Sought table rows text s r → VersionRow table rows text r → Version-at s r
+    version_at : {s : List ℕ} {r : ℕ} → SoughtRow table rows text s r → VersionRow table rows text r → Version-at s r
     version_at {s} {r} q v = by (sought q)
       where
         by : SoughtAt s r → Version-at s r
@@ -144,7 +144,7 @@ module _ (table : List ℕ) (rows : ℕ) (text : List ℕ) where
       pub under : Under s value ts
       pub is : Image value
 
-    image_at : {s : List ℕ} {r : ℕ} → Sought table rows text s r → ImageRow table rows text r → Image-at s
+    image_at : {s : List ℕ} {r : ℕ} → SoughtRow table rows text s r → ImageRow table rows text r → Image-at s
     image_at {s} {r} q v = by (sought q)
       where
         by : SoughtAt s r → Image-at s
@@ -169,7 +169,7 @@ module _ (table : List ℕ) (rows : ℕ) (text : List ℕ) where
       by _ h (shaped_array z) = absurd (omega (arith, (node_row table text (holds_at h)).kind_is))
       by _ h (shaped_object {a = a} {e = e} {n = n} {ts = ts} z) = record { children = ts; rooted = record { from = a; to = e; count = n; holds = h } }
 
-  pub sought_inside : {s : List ℕ} {r : ℕ} → Object table rows text → Sought table rows text s r → Inside table rows r
+  pub sought_inside : {s : List ℕ} {r : ℕ} → Object table rows text → SoughtRow table rows text s r → Inside table rows r
   sought_inside (object x e n) q = let t = tree_of x e in record { fits = t.rooted.holds.rows_fit; below = sought_below t.rooted q }
 
   -- a sheet with its numbers
@@ -210,9 +210,9 @@ module _ (table : List ℕ) (rows : ℕ) (text : List ℕ) where
 
   pub record Shown (v f : List ℕ) : Type 0 where
     pub whole : Object table rows text
-    pub version : (r : ℕ) → Sought table rows text VERSION r → VersionRow table rows text r
-    pub floor : (r : ℕ) → Sought table rows text FLOOR r → VersionRow table rows text r
-    pub image : (r : ℕ) → Sought table rows text IMAGE r → ImageRow table rows text r
+    pub version : (r : ℕ) → SoughtRow table rows text VERSION r → VersionRow table rows text r
+    pub floor : (r : ℕ) → SoughtRow table rows text FLOOR r → VersionRow table rows text r
+    pub image : (r : ℕ) → SoughtRow table rows text IMAGE r → ImageRow table rows text r
 
   shows : {t : Tree} {v f : List ℕ} → Holds table rows text t → Sheet t v f → Shown v f
   shows {t} h (sheet {a = a} {e = e} {c = c} {ts = ts} p y q z m i only) =

@@ -5,63 +5,35 @@ ghost use Rattle.exact.specs.Tells.{Tells};
 ghost use Rattle.upgrade.specs.Decides as D;
 ghost use Rattle.decide.specs.Contract.{InstalledRow, SheetRows};
 
-mod rows;
 mod sheets;
+mod table;
 mod versions;
 
-use sheets::{Sheet, sheet_of};
-use upgrade::Decision;
-use versions::{above, is_version};
+use sheets::Sheet;
+use table::Table;
+use upgrade::{Decision, Undecided};
 
 // Whether the table is a sound one of an installed version.
-fn is_installed(table: &[u32], rows: usize, text: &[u8]) -> bool
-    ensures { Tells (InstalledRow table.now rows text.now) result }
+fn is_installed(table: &Table) -> bool
+    ensures { Tells (InstalledRow table.now.words.now table.now.rows table.now.room.now) result }
 {
-    if sound::sound(&*table, rows, &*text) {
-        return is_version(&*table, rows, &*text, 0);
-    }
-    false
+    sound::sound(table.words, table.rows, table.room) && table.is_version(0)
 }
 
 // The decision, where the sheet's version and floor stand in these rows, and the other table is that of the installed version.
-fn decided(
-    table: &[u32],
-    rows: usize,
-    text: &[u8],
-    version: usize,
-    floor: usize,
-    other: &[u32],
-    other_rows: usize,
-    other_text: &[u8],
-) -> Decision
-    requires { SheetRows table.now rows text.now version floor × InstalledRow other.now other_rows other_text.now }
-    ensures { D.Decides table.now rows text.now other.now other_rows other_text.now (D.number result) (D.value result) }
+fn decided(table: &Table, sheet: Sheet, installed: &Table) -> Decision
+    requires { SheetRows table.now.words.now table.now.rows table.now.room.now sheet.version sheet.floor × InstalledRow installed.now.words.now installed.now.rows installed.now.room.now }
+    ensures { D.Decides table.now.words.now table.now.rows table.now.room.now installed.now.words.now installed.now.rows installed.now.room.now 0 (D.value (Ok result)) }
 {
-    if above(
-        &*table,
-        rows,
-        &*text,
-        version,
-        &*other,
-        other_rows,
-        &*other_text,
-        0,
-    ) {
-        if above(
-            &*table,
-            rows,
-            &*text,
-            floor,
-            &*other,
-            other_rows,
-            &*other_text,
-            0,
-        ) {
-            return Decision::Blocked;
+    if table.above(sheet.version, installed, 0) {
+        if table.above(sheet.floor, installed, 0) {
+            Decision::Blocked
+        } else {
+            Decision::Install
         }
-        return Decision::Install;
+    } else {
+        Decision::Keep
     }
-    Decision::Keep
 }
 
 // Whether to install what the sheet names over what is installed.
@@ -72,23 +44,24 @@ pub fn decide(
     installed: &[u32],
     installed_rows: usize,
     installed_text: &[u8],
-) -> Decision
+) -> Result<Decision, Undecided>
     ensures { D.Decides table.now rows text.now installed.now installed_rows installed_text.now (D.number result) (D.value result) }
 {
-    if is_installed(&*installed, installed_rows, &*installed_text) {
-        return match sheet_of(&*table, rows, &*text) {
-            Sheet::Rows(v, f) => decided(
-                &*table,
-                rows,
-                &*text,
-                v,
-                f,
-                &*installed,
-                installed_rows,
-                &*installed_text,
-            ),
-            Sheet::Other => Decision::BadSheet,
-        };
+    let installed = Table {
+        words: installed,
+        rows: installed_rows,
+        room: installed_text,
+    };
+    if !is_installed(&installed) {
+        return Err(Undecided::BadInstalled);
     }
-    Decision::BadInstalled
+    let table = Table {
+        words: table,
+        rows,
+        room: text,
+    };
+    match table.sheet() {
+        Some(sheet) => Ok(decided(&table, sheet, &installed)),
+        None => Err(Undecided::BadSheet),
+    }
 }

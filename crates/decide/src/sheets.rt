@@ -1,107 +1,92 @@
 // Release sheets: which rows their version and floor stand in.
+// Stays (point 5): `Object` is asked by three methods of one walk, below `sheet`: a type with it as its fact would be a second `Table`, made there alone.
 ghost use Rattle.std.specs.Prelude.{◌≡◌, ◌*◌, ◌≤◌};
 ghost use Rattle.exact.specs.Tells.{Tells};
 ghost use Rattle.decide.specs.Rows.{Inside, ImageRow};
 ghost use Rattle.decide.specs.Contract.{Object, Sought, VersionUnder, ImageUnder, SheetTold};
 
-use super::rows::{count, kind};
-use super::versions::is_version;
-use language::Row;
-use questions::{Found, find, text};
+use super::table::Table;
+use language::{Kind, Row};
+use questions::{find, text};
 use sound::sound;
 
-// What a table is: a sheet, with the rows of its version and its floor, or something other.
+// A sheet, by the rows of its version and its floor.
 #[derive(Clone, Copy)]
-pub enum Sheet {
-    Rows(usize, usize),
-    Other,
+pub struct Sheet {
+    pub version: usize,
+    pub floor: usize,
 }
 
-// The row of a property's value; the root's own, 0, where there is none.
-fn value(table: &[u32], rows: usize, room: &[u8], key: &[u8]) -> usize
-    ensures { Sought table.now rows room.now key.now result }
-{
-    match find(&*table, rows, &*room, Row(0), &*key) {
-        Found::At(row) => row.0,
-        Found::Missing => 0,
-        Found::BadRow => 0,
-    }
-}
-
-// Whether row r is that of bytes of length 32.
-fn is_image(table: &[u32], rows: usize, room: &[u8], r: usize) -> bool
-    requires { Inside table.now rows r }
-    ensures { Tells (ImageRow table.now rows room.now r) result }
-{
-    if kind(&*table, r) != 7 {
-        return false;
-    }
-    text(&*table, rows, &*room, Row(r)).len() == 32
-}
-
-// The row of the version under a key of the root; the root's own, 0, where there is none.
-fn version_under(table: &[u32], rows: usize, room: &[u8], key: &[u8]) -> usize
-    requires { Object table.now rows room.now }
-    ensures { VersionUnder table.now rows room.now key.now result }
-{
-    let r = value(&*table, rows, &*room, &*key);
-    if is_version(&*table, rows, &*room, r) {
-        return r;
-    }
-    0
-}
-
-// Whether bytes of length 32 are under the key `image` of the root.
-fn has_image(table: &[u32], rows: usize, room: &[u8]) -> bool
-    requires { Object table.now rows room.now }
-    ensures { ImageUnder table.now rows room.now result }
-{
-    let r = value(&*table, rows, &*room, &[105u8, 109, 97, 103, 101]);
-    is_image(&*table, rows, &*room, r)
-}
-
-// The sheet, where the root is an object of three pairs.
-fn properties(table: &[u32], rows: usize, room: &[u8]) -> Sheet
-    requires { Object table.now rows room.now }
-    ensures { SheetTold table.now rows room.now result }
-{
-    let version = version_under(
-        &*table,
-        rows,
-        &*room,
-        &[118u8, 101, 114, 115, 105, 111, 110],
-    );
-    if version == 0 {
-        return Sheet::Other;
-    }
-    let floor = version_under(&*table, rows, &*room, &[102u8, 108, 111, 111, 114]);
-    if floor == 0 {
-        return Sheet::Other;
-    }
-    if has_image(&*table, rows, &*room) {
-        return Sheet::Rows(version, floor);
-    }
-    Sheet::Other
-}
-
-// Whether the table is a sound one of an object of three pairs.
-fn is_object(table: &[u32], rows: usize, room: &[u8]) -> bool
-    ensures { Tells (Object table.now rows room.now) result }
-{
-    if sound(&*table, rows, &*room) {
-        if kind(&*table, 0) == 9 {
-            return count(&*table, 0) == 3;
+impl<'a> Table<'a> {
+    // The row of a property's value, where the root has it.
+    fn value(&self, key: &[u8]) -> Option<usize>
+        ensures { Sought self.now.words.now self.now.rows self.now.room.now key.now result }
+    {
+        match find(self.words, self.rows, self.room, Row(0), key) {
+            Ok(Some(row)) => Some(row.0),
+            _ => None,
         }
     }
-    false
-}
 
-// What the table is.
-pub fn sheet_of(table: &[u32], rows: usize, room: &[u8]) -> Sheet
-    ensures { SheetTold table.now rows room.now result }
-{
-    if is_object(&*table, rows, &*room) {
-        return properties(&*table, rows, &*room);
+    // Whether row r is that of bytes of length 32.
+    fn is_image(&self, r: usize) -> bool
+        requires { Inside self.now.words.now self.now.rows r }
+        ensures { Tells (ImageRow self.now.words.now self.now.rows self.now.room.now r) result }
+    {
+        self.kind(r) == Kind::BYTES && text(self.words, self.rows, self.room, Row(r)).len() == 32
     }
-    Sheet::Other
+
+    // The row of the version under a key of the root, where there is one.
+    fn version_under(&self, key: &[u8]) -> Option<usize>
+        requires { Object self.now.words.now self.now.rows self.now.room.now }
+        ensures { VersionUnder self.now.words.now self.now.rows self.now.room.now key.now result }
+    {
+        let r = self.value(key)?;
+        if self.is_version(r) { Some(r) } else { None }
+    }
+
+    // Whether bytes of length 32 are under the key `image` of the root.
+    fn has_image(&self) -> bool
+        requires { Object self.now.words.now self.now.rows self.now.room.now }
+        ensures { ImageUnder self.now.words.now self.now.rows self.now.room.now result }
+    {
+        match self.value(b"image") {
+            Some(r) => self.is_image(r),
+            None => false,
+        }
+    }
+
+    // The sheet, where the root is an object of three pairs.
+    fn properties(&self) -> Option<Sheet>
+        requires { Object self.now.words.now self.now.rows self.now.room.now }
+        ensures { SheetTold self.now.words.now self.now.rows self.now.room.now result }
+    {
+        let version = self.version_under(b"version")?;
+        let floor = self.version_under(b"floor")?;
+        if self.has_image() {
+            Some(Sheet { version, floor })
+        } else {
+            None
+        }
+    }
+
+    // Whether the table is a sound one of an object of three pairs.
+    fn is_object(&self) -> bool
+        ensures { Tells (Object self.now.words.now self.now.rows self.now.room.now) result }
+    {
+        sound(self.words, self.rows, self.room)
+            && self.kind(0) == Kind::OBJECT
+            && self.count(0) == 3
+    }
+
+    // The sheet that the table is one's.
+    pub fn sheet(&self) -> Option<Sheet>
+        ensures { SheetTold self.now.words.now self.now.rows self.now.room.now result }
+    {
+        if self.is_object() {
+            self.properties()
+        } else {
+            None
+        }
+    }
 }

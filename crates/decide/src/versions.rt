@@ -1,149 +1,78 @@
 // Versions: whether a row is one's, and which of two is above.
+// Stays (point 5): `Inside` is of a row and this very table: a type of rows with it as its fact would hold the table too.
 ghost use Rattle.std.specs.Prelude.{◌≡◌, ◌+◌, ◌*◌, ◌≤◌, ◌<◌};
 ghost use Rattle.exact.specs.Tells.{Tells};
-ghost use Rattle.integers.specs.Sized.{Says};
 ghost use Rattle.language.specs.Tree.{width};
 ghost use Rattle.language.specs.Lent.{words_in};
 ghost use Rattle.upgrade.specs.Version.{most};
-ghost use Rattle.decide.specs.Rows.{Inside, NaturalRow, NaturalRows, VersionRow, number_at};
+ghost use Rattle.decide.specs.Rows.{Inside, NaturalRow, NaturalRows, VersionRow, place_text};
 ghost use Rattle.decide.specs.Contract.{AboveRow, Versions};
 
-use super::rows::{count, kind};
-use integers::{Compared, compare};
-use language::Row;
+use super::table::Table;
+use integers::{NotInt, compare};
+use language::{Kind, Row};
 use questions::text;
 
 // A version has so many places at most.
 const MOST: usize = 8;
 
-// Whether row r is that of an integer not below zero.
-fn is_natural(table: &[u32], rows: usize, room: &[u8], r: usize) -> bool
-    requires { width * rows ≤ words_in table.now }
-    ensures { Tells (NaturalRow table.now rows room.now r) result }
-{
-    let zero = [48u8; 1];
-    if rows <= r {
-        return false;
-    }
-    if kind(&*table, r) != 4 {
-        return false;
-    }
-    match compare(text(&*table, rows, &*room, Row(r)), &zero) {
-        Compared::Greater => true,
-        Compared::Equal => true,
-        Compared::Less => false,
-        Compared::NotInt => false,
-    }
-}
-
-// Whether the n rows from `from` on are such.
-fn are_naturals(table: &[u32], rows: usize, room: &[u8], from: usize, n: usize) -> bool
-    requires { (width * rows ≤ words_in table.now) × (from ≤ rows) × (n ≤ most) }
-    ensures { Tells (NaturalRows table.now rows room.now from n) result }
-{
-    let mut i = 0;
-    while i < n {
-        if is_natural(&*table, rows, &*room, from + i) {
-            i += 1;
-        } else {
+impl<'a> Table<'a> {
+    // Whether row r is that of an integer not below zero.
+    fn is_natural(&self, r: usize) -> bool
+        requires { width * self.now.rows ≤ words_in self.now.words.now }
+        ensures { Tells (NaturalRow self.now.words.now self.now.rows self.now.room.now r) result }
+    {
+        if self.rows <= r || self.kind(r) != Kind::INTEGER {
             return false;
         }
-    }
-    true
-}
-
-// Whether row r is that of an array of 1 to 8 integers not below zero.
-pub fn is_version(table: &[u32], rows: usize, room: &[u8], r: usize) -> bool
-    requires { Inside table.now rows r }
-    ensures { Tells (VersionRow table.now rows room.now r) result }
-{
-    if kind(&*table, r) != 8 {
-        return false;
-    }
-    let n = count(&*table, r);
-    if n == 0 {
-        return false;
-    }
-    if MOST < n {
-        return false;
-    }
-    are_naturals(&*table, rows, &*room, r + 1, n)
-}
-
-// How the i-th places of two versions stand to each other; a missing place counts as zero.
-fn order(
-    table: &[u32],
-    rows: usize,
-    room: &[u8],
-    r: usize,
-    other: &[u32],
-    other_rows: usize,
-    other_room: &[u8],
-    s: usize,
-    i: usize,
-) -> Compared
-    requires { Versions table.now rows room.now r other.now other_rows other_room.now s × (i < most) }
-    ensures { Says result (number_at table.now rows room.now r i) (number_at other.now other_rows other_room.now s i) }
-{
-    if i < count(&*table, r) {
-        let left = text(&*table, rows, &*room, Row(r + 1 + i));
-        if i < count(&*other, s) {
-            return compare(
-                &*left,
-                text(&*other, other_rows, &*other_room, Row(s + 1 + i)),
-            );
-        }
-        return compare(&*left, &[48u8]);
-    }
-    if i < count(&*other, s) {
-        return compare(
-            &[48u8],
-            text(&*other, other_rows, &*other_room, Row(s + 1 + i)),
-        );
-    }
-    Compared::Equal
-}
-
-// Whether the version in row r is above the other, in row s.
-pub fn above(
-    table: &[u32],
-    rows: usize,
-    room: &[u8],
-    r: usize,
-    other: &[u32],
-    other_rows: usize,
-    other_room: &[u8],
-    s: usize,
-) -> bool
-    requires { Versions table.now rows room.now r other.now other_rows other_room.now s }
-    ensures { Tells (AboveRow table.now rows room.now r other.now other_rows other_room.now s) result }
-{
-    let mut i = 0;
-    while i < MOST {
-        match order(
-            &*table,
-            rows,
-            &*room,
-            r,
-            &*other,
-            other_rows,
-            &*other_room,
-            s,
-            i,
-        ) {
-            Compared::Greater => {
-                return true;
-            }
-            Compared::Equal => {
-                i += 1;
-            }
-            Compared::Less => {
-                return false;
-            }
-            Compared::NotInt => {
-                return false;
-            }
+        match compare(text(self.words, self.rows, self.room, Row(r)), b"0") {
+            Ok(order) => order.is_ge(),
+            Err(NotInt) => false,
         }
     }
-    false
+
+    // Whether row r is that of an array of 1 to 8 integers not below zero.
+    pub fn is_version(&self, r: usize) -> bool
+        requires { Inside self.now.words.now self.now.rows r }
+        ensures { Tells (VersionRow self.now.words.now self.now.rows self.now.room.now r) result }
+    {
+        if self.kind(r) != Kind::ARRAY {
+            return false;
+        }
+        let n = self.count(r);
+        if n == 0 || MOST < n {
+            return false;
+        }
+        (r + 1..r + 1 + n).all(|i| self.is_natural(i))
+    }
+
+    // The text of the i-th place of the version in row r; a missing place counts as zero.
+    fn place(&self, r: usize, i: usize) -> &'a [u8]
+        requires { Inside self.now.words.now self.now.rows r × (i < most) }
+        ensures { result.now ≡ place_text self.now.words.now self.now.rows self.now.room.now r i }
+    {
+        if i < self.count(r) {
+            text(self.words, self.rows, self.room, Row(r + 1 + i))
+        } else {
+            b"0"
+        }
+    }
+
+    // Whether the version in row r is above the other's, in row s.
+    pub fn above(&self, r: usize, other: &Table, s: usize) -> bool
+        requires { Versions self.now.words.now self.now.rows self.now.room.now r other.now.words.now other.now.rows other.now.room.now s }
+        ensures { Tells (AboveRow self.now.words.now self.now.rows self.now.room.now r other.now.words.now other.now.rows other.now.room.now s) result }
+    {
+        for i in 0..MOST {
+            match compare(self.place(r, i), other.place(s, i)) {
+                Ok(order) => {
+                    if order.is_ne() {
+                        return order.is_gt();
+                    }
+                }
+                Err(NotInt) => return false,
+            }
+        }
+        false
+    }
 }

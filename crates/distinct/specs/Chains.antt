@@ -1,5 +1,5 @@
 -- KEYS IN CHAINS: what is asked of the functions that walk and fill them, what they tell, and the laws that `search` takes. Assumes nothing.
-use Rattle.std.specs.Prelude.{◌≡◌, refl, List, ◌∷◌, Bool, true, false, length, set}
+use Rattle.std.specs.Prelude.{◌≡◌, refl, List, ◌∷◌, Bool, true, false, length, set, Option, Some, None, is_some, Result, Ok, Err, IsErr}
 use Rattle.std.proofs.Common.{sym, ◌∙◌, rules}
 use Rattle.std.proofs.Math.Path.{ap, subst}
 use Prim.Native.Nat.{ℕ, suc, ◌+◌, ◌*◌, ◌-◌, ◌/◌, ◌%◌, ◌≤◌, ◌<◌}
@@ -8,14 +8,11 @@ use native.Mathlib.Omega.{arith}
 use Rattle.std.proofs.Math.ListN.{get_or}
 use Rattle.std.proofs.Math.Seq.{slice, slice-cons, slice_empty}
 use Rattle.exact.specs.Tells.{Tells, tells_yes}
-use Rattle.repeats.specs.declared.Walk.{Walk}
-use Rattle.repeats.specs.declared.Walk.TheVariants.{Met, Past, Long as TooLong}
+use Rattle.repeats.specs.declared.TooLong.{TooLong}
 use Rattle.repeats.specs.Numbering.{Numbering, stir, spread, chain_of, chain_at}
 use Rattle.repeats.specs.Links.{Chains, Noting, chains_walkable, within_met, note_low, note_chains, walk_none}
 use Rattle.repeats.specs.Links
 use Rattle.repeats.specs.Walk.{Walking, chain_first, chain_before, chain_room, chain_less, chain_more}
-use Rattle.distinct.specs.declared.Sought.{Sought}
-use Rattle.distinct.specs.declared.Sought.TheVariants.{At, Nowhere, Long}
 use Rattle.distinct.specs.Names.{Part, spelt, text_keys, Held, held_first, Numbered, held_number, Sits, sits_at, Twice, twice_none, twice_more}
 
 -- ---- the chain of a text
@@ -57,33 +54,42 @@ chain_told text a e h c u v = v ∙ rw u refl
 -- ---- what a look tells
 
 -- of the first n keys, one for which P holds; or that none is, as Q says it
-unfoldable pub Told : (ℕ → Type 0) → ℕ → Type 0 → Sought → Type 0
-Told P n Q (At k) = (k < n) × P k
-Told P n Q Nowhere = Q → ⊥
-Told P n Q Long = Unit {0}
+unfoldable pub Told : (ℕ → Type 0) → ℕ → Type 0 → Result (Option ℕ) TooLong → Type 0
+Told P n Q (Ok (Some k)) = (k < n) × P k
+Told P n Q (Ok None) = Q → ⊥
+Told P n Q (Err e) = Unit {0}
 
-pub told_long : (P : ℕ → Type 0) (n : ℕ) (Q : Type 0) → Told P n Q Long
+pub told_long : (P : ℕ → Type 0) (n : ℕ) (Q : Type 0) (e : TooLong) → Told P n Q (Err e)
 unfolding Told
-told_long P n Q = tt
+told_long P n Q e = tt
 
-pub told_from : (P : ℕ → Type 0) (n : ℕ) {A B : Type 0} → (B → A) → (r : Sought) → Told P n A r → Told P n B r
+pub told_from : (P : ℕ → Type 0) (n : ℕ) {A B : Type 0} → (B → A) → (r : Result (Option ℕ) TooLong) → Told P n A r → Told P n B r
 unfolding Told
-told_from P n f (At k) x = x
-told_from P n f Nowhere x = λ y. x (f y)
-told_from P n f Long x = tt
+told_from P n f (Ok (Some k)) x = x
+told_from P n f (Ok None) x = λ y. x (f y)
+told_from P n f (Err e) x = tt
 
-module _ (P : ℕ → Type 0) (n : ℕ) (Q : Type 0) (r : Sought) (x : Told P n Q r) where
-  pub told_low : (k : ℕ) → r ≡ At k → k < n
+module _ (P : ℕ → Type 0) (n : ℕ) (Q : Type 0) (r : Result (Option ℕ) TooLong) (x : Told P n Q r) where
+  pub told_low : (k : ℕ) → r ≡ Ok (Some k) → k < n
   unfolding Told
-  told_low k e = let y : Told P n Q (At k) = rw e at x in y.0
+  told_low k e = let y : Told P n Q (Ok (Some k)) = rw e at x in y.0
 
-  pub told_at : (k : ℕ) → r ≡ At k → P k
+  pub told_at : (k : ℕ) → r ≡ Ok (Some k) → P k
   unfolding Told
-  told_at k e = let y : Told P n Q (At k) = rw e at x in y.1
+  told_at k e = let y : Told P n Q (Ok (Some k)) = rw e at x in y.1
 
-  pub told_none : r ≡ Nowhere → Q → ⊥
+  pub told_none : r ≡ Ok None → Q → ⊥
   unfolding Told
   told_none e = rw e at x
+
+-- whether one is told of
+pub some_of : (o : Option ℕ) (b : Bool) → b ≡ is_some o → b ≡ true → (k : ℕ) × (o ≡ Some k)
+some_of (Some k) b e f = (k, refl)
+some_of None b e f = absurd (cc)
+
+pub none_of : (o : Option ℕ) (b : Bool) → b ≡ is_some o → b ≡ false → o ≡ None
+none_of (Some k) b e f = absurd (cc)
+none_of None b e f = refl
 
 -- ---- a look through a chain
 
@@ -94,7 +100,7 @@ pub record Walkable (text froms tos links words : List ℕ) (b f head n : ℕ) :
   pub sought : Part words b f
 
 -- what a look for the text s tells
-abbrev pub Looked : List ℕ → List ℕ → List ℕ → List ℕ → List ℕ → ℕ → ℕ → Sought → Type 0
+abbrev pub Looked : List ℕ → List ℕ → List ℕ → List ℕ → List ℕ → ℕ → ℕ → Result (Option ℕ) TooLong → Type 0
 Looked text froms tos links s head n r = Told (λ k. s ≡ spelt text froms tos k) n (Links.Met (λ k. s ≡ spelt text froms tos k) links head) r
 
 -- the look has come to h
@@ -114,14 +120,14 @@ module _ (text froms tos links words : List ℕ) (b f head n : ℕ) (w : Walkabl
   pub look_first : Looking text froms tos links s head n head 0
   look_first = chain_first N P links head n w.walk
 
-  pub look_long : Looked text froms tos links s head n Long
-  look_long = told_long P n (Links.Met P links head)
+  pub look_long : (e : TooLong) → Looked text froms tos links s head n (Err e)
+  look_long e = told_long P n (Links.Met P links head) e
 
   pub look_sought : Part words b f
   look_sought = w.sought
 
   module _ (h steps : ℕ) (x : Looking text froms tos links s head n h steps) where
-    pub look_none : h ≤ 0 → Looked text froms tos links s head n Nowhere
+    pub look_none : h ≤ 0 → Looked text froms tos links s head n (Ok None)
     unfolding Told
     look_none l = walk_none N P links head n w.walk h x.walked l
 
@@ -139,7 +145,7 @@ module _ (text froms tos links words : List ℕ) (b f head n : ℕ) (w : Walkabl
       look_less g z = chain_less N P links head n w.walk h steps x l k e g z
 
       module _ (q : Bool) (t : Tells (slice b f words ≡ spelt text froms tos k) q) where
-        pub look_met : q ≡ true → Looked text froms tos links s head n (At k)
+        pub look_met : q ≡ true → Looked text froms tos links s head n (Ok (Some k))
         unfolding Told
         look_met g = (low, tells_yes q g t)
 
@@ -156,11 +162,11 @@ pub record InChains (text froms tos heads links : List ℕ) (n : ℕ) : Type 0 w
   pub chains : Chains (text_keys text froms tos) heads links n
 
 -- what is told of the text s
-abbrev pub SitsTold : List ℕ → List ℕ → List ℕ → ℕ → List ℕ → Sought → Type 0
+abbrev pub SitsTold : List ℕ → List ℕ → List ℕ → ℕ → List ℕ → Result (Option ℕ) TooLong → Type 0
 SitsTold text froms tos n s r = Told (λ k. s ≡ spelt text froms tos k) n (Sits text froms tos s n) r
 
 sits_told : (text froms tos heads links s : List ℕ) (n c : ℕ) → Chains (text_keys text froms tos) heads links n → c ≡ chain_of 0 s
-    → (r : Sought) → Looked text froms tos links s (get_or heads c 0) n r → SitsTold text froms tos n s r
+    → (r : Result (Option ℕ) TooLong) → Looked text froms tos links s (get_or heads c 0) n r → SitsTold text froms tos n s r
 sits_told text froms tos heads links s n c x e r t =
     told_from (λ k. s ≡ spelt text froms tos k) n (within_met (text_keys text froms tos) (λ k. s ≡ spelt text froms tos k) heads links n x c (λ k f. e ∙ ap (chain_of 0) f)) r t
 
@@ -177,7 +183,7 @@ module _ (text froms tos heads links words : List ℕ) (b f n : ℕ) (w : InChai
       pub seek_walkable : Walkable text froms tos links words b f head n
       seek_walkable = rw g (record { held = w.held; walk = chains_walkable (text_keys text froms tos) (λ k. Unit {0}) heads links n w.chains c w.room; sought = y })
 
-      pub seek_told : (r : Sought) → Looked text froms tos links (slice b f words) head n r → SitsTold text froms tos n (slice b f words) r
+      pub seek_told : (r : Result (Option ℕ) TooLong) → Looked text froms tos links (slice b f words) head n r → SitsTold text froms tos n (slice b f words) r
       seek_told r t = sits_told text froms tos heads links (slice b f words) n c w.chains e r (rw g at t)
 
 pub ruleset seeks = (seek_low, seek_walkable, seek_told, rules)
@@ -189,7 +195,7 @@ pub record Chaining (text froms tos heads links : List ℕ) (n i : ℕ) : Type 0
   pub low : i < n
   pub noting : Noting (text_keys text froms tos) heads links i
 
-pub record Chained (text froms tos heads links : List ℕ) (i : ℕ) (r : Sought) : Type 0 where
+pub record Chained (text froms tos heads links : List ℕ) (i : ℕ) (r : Result (Option ℕ) TooLong) : Type 0 where
   pub chains : Chains (text_keys text froms tos) heads links (i + 1)
   pub tells : SitsTold text froms tos i (spelt text froms tos i) r
 
@@ -227,7 +233,7 @@ module _ (text froms tos heads links : List ℕ) (n i : ℕ) (w : Chaining text 
               sought = chained_part;
             })
 
-        pub chained_tells : (r : Sought) → Looked text froms tos links (slice a e text) head i r → Chained text froms tos (set heads c (i + 1)) (set links i (get_or heads c 0)) i r
+        pub chained_tells : (r : Result (Option ℕ) TooLong) → Looked text froms tos links (slice a e text) head i r → Chained text froms tos (set heads c (i + 1)) (set links i (get_or heads c 0)) i r
         chained_tells r t =
             record {
               chains = note_chains (text_keys text froms tos) heads links i w.noting c chain_is;
@@ -244,25 +250,25 @@ pub record Starting (text froms tos heads links : List ℕ) (n : ℕ) : Type 0 w
   pub chains : Chains (text_keys text froms tos) heads links 0
 
 -- one has the text of an earlier one; or none has, and all stand in the chains
-unfoldable pub Linked : List ℕ → List ℕ → List ℕ → List ℕ → List ℕ → ℕ → Walk → Type 0
-Linked text froms tos heads links n Met = Twice text froms tos n
-Linked text froms tos heads links n Past = (Twice text froms tos n → ⊥) × Chains (text_keys text froms tos) heads links n
-Linked text froms tos heads links n TooLong = Unit {0}
+unfoldable pub Linked : List ℕ → List ℕ → List ℕ → List ℕ → List ℕ → ℕ → Result Bool TooLong → Type 0
+Linked text froms tos heads links n (Ok true) = Twice text froms tos n
+Linked text froms tos heads links n (Ok false) = (Twice text froms tos n → ⊥) × Chains (text_keys text froms tos) heads links n
+Linked text froms tos heads links n (Err e) = Unit {0}
 
-module _ (text froms tos heads links : List ℕ) (n : ℕ) (w : Walk) (t : Linked text froms tos heads links n w) where
-  pub linked_twice : w ≡ Met → Twice text froms tos n
+module _ (text froms tos heads links : List ℕ) (n : ℕ) (w : Result Bool TooLong) (t : Linked text froms tos heads links n w) where
+  pub linked_twice : w ≡ Ok true → Twice text froms tos n
   unfolding Linked
   linked_twice e = rw e at t
 
-  pub linked_once : w ≡ Past → Twice text froms tos n → ⊥
+  pub linked_once : w ≡ Ok false → Twice text froms tos n → ⊥
   unfolding Linked
-  linked_once e = let z : Linked text froms tos heads links n Past = rw e at t in z.0
+  linked_once e = let z : Linked text froms tos heads links n (Ok false) = rw e at t in z.0
 
-  pub linked_chains : w ≡ Past → Chains (text_keys text froms tos) heads links n
+  pub linked_chains : w ≡ Ok false → Chains (text_keys text froms tos) heads links n
   unfolding Linked
-  linked_chains e = let z : Linked text froms tos heads links n Past = rw e at t in z.1
+  linked_chains e = let z : Linked text froms tos heads links n (Ok false) = rw e at t in z.1
 
-  pub linked_in : (h l : List ℕ) → Starting text froms tos h l n → length links ≡ length l → w ≡ Past → InChains text froms tos heads links n
+  pub linked_in : (h l : List ℕ) → Starting text froms tos h l n → length links ≡ length l → w ≡ Ok false → InChains text froms tos heads links n
   linked_in h l s g e = record { held = s.held; room = omega (arith, s.room); chains = linked_chains e }
 
 pub record Passed (text froms tos heads links : List ℕ) (n i : ℕ) : Type 0 where
@@ -276,9 +282,10 @@ module _ (text froms tos : List ℕ) (n : ℕ) where
   pub passed_first : (heads links : List ℕ) → Starting text froms tos heads links n → Passed text froms tos heads links n 0
   passed_first heads links w = record { within = omega arith; held = w.held; room = w.room; chains = w.chains; none = twice_none text froms tos }
 
-  pub passed_long : (heads links : List ℕ) → Linked text froms tos heads links n TooLong
+  pub passed_long : (heads links : List ℕ) (r : Result Bool TooLong) → IsErr r → Linked text froms tos heads links n r
   unfolding Linked
-  passed_long heads links = tt
+  passed_long heads links (Err e) x = tt
+  passed_long heads links (Ok b) x = absurd (cc)
 
   module _ (heads links : List ℕ) (i : ℕ) (x : Passed text froms tos heads links n i) where
     pub passed_chaining : i < n → Chaining text froms tos heads links n i
@@ -287,12 +294,12 @@ module _ (text froms tos : List ℕ) (n : ℕ) where
     pub passed_few : i < n → i < 8192
     passed_few l = omega (arith, x.held.few)
 
-    pub passed_done : n ≤ i → Linked text froms tos heads links n Past
+    pub passed_done : n ≤ i → Linked text froms tos heads links n (Ok false)
     unfolding Linked
     passed_done l = let e : i ≡ n = omega (arith, x.within) in subst (λ (j : ℕ). (Twice text froms tos j → ⊥) × Chains (text_keys text froms tos) heads links j) e (x.none, x.chains)
 
-    module _ (heads' links' : List ℕ) (r : Sought) (y : Chained text froms tos heads' links' i r) (l : i < n) where
-      pub passed_met : (k : ℕ) → r ≡ At k → Linked text froms tos heads' links' n Met
+    module _ (heads' links' : List ℕ) (r : Result (Option ℕ) TooLong) (y : Chained text froms tos heads' links' i r) (l : i < n) where
+      pub passed_met : (k : ℕ) → r ≡ Ok (Some k) → Linked text froms tos heads' links' n (Ok true)
       unfolding Linked
       passed_met k e =
           record {
@@ -304,7 +311,7 @@ module _ (text froms tos : List ℕ) (n : ℕ) where
                 (told_at (λ j. spelt text froms tos i ≡ spelt text froms tos j) i (Sits text froms tos (spelt text froms tos i) i) r y.tells k e);
           }
 
-      pub passed_more : r ≡ Nowhere → length links' ≡ length links → Passed text froms tos heads' links' n (i + 1)
+      pub passed_more : r ≡ Ok None → length links' ≡ length links → Passed text froms tos heads' links' n (i + 1)
       passed_more e g =
           record {
             within = omega arith;
@@ -314,4 +321,11 @@ module _ (text froms tos : List ℕ) (n : ℕ) where
             none = twice_more text froms tos x.none (told_none (λ j. spelt text froms tos i ≡ spelt text froms tos j) i (Sits text froms tos (spelt text froms tos i) i) r y.tells e);
           }
 
-pub ruleset passing = (passed_first, passed_long, passed_chaining, passed_few, passed_done, passed_met, passed_more, rules)
+    module _ (heads' links' : List ℕ) (o : Option ℕ) (y : Chained text froms tos heads' links' i (Ok o)) (l : i < n) (b : Bool) (f : b ≡ is_some o) where
+      pub passed_some : b ≡ true → Linked text froms tos heads' links' n (Ok true)
+      passed_some g = let z = some_of o b f g in passed_met heads' links' (Ok o) y l z.0 (ap Ok z.1)
+
+      pub passed_none : b ≡ false → length links' ≡ length links → Passed text froms tos heads' links' n (i + 1)
+      passed_none g = passed_more heads' links' (Ok o) y l (ap Ok (none_of o b f g))
+
+pub ruleset passing = (passed_first, passed_long, passed_chaining, passed_few, passed_done, passed_some, passed_none, rules)

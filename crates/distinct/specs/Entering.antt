@@ -1,17 +1,12 @@
 -- KEYS THAT ENTER A WINDOW'S CHAINS AS THEY ARE PASSED (`Entering`): what is stored behind them changes nothing of those that stand there. Assumes nothing.
-use Rattle.std.specs.Prelude.{◌≡◌, refl, List, true, false, ℕ, ◌+◌, ◌≤◌, ◌<◌, length, set}
+use Rattle.std.specs.Prelude.{◌≡◌, refl, List, Bool, true, false, ℕ, ◌+◌, ◌≤◌, ◌<◌, length, set, Option, Some, None, is_some, Result, Ok, Err}
 use Rattle.std.proofs.Common.{sym, ◌∙◌, arith, length-set}
 use Rattle.std.proofs.Math.Seq.{slice}
 use Rattle.repeats.specs.Links.{Points, to_none, to_key, Chains, chains_none}
-use Rattle.repeats.specs.declared.Walk.{Walk}
-use Rattle.repeats.specs.declared.Walk.TheVariants.{Met, Past}
-use Rattle.distinct.specs.declared.Entered.{Entered}
-use Rattle.distinct.specs.declared.Entered.TheVariants as entered
-use Rattle.distinct.specs.declared.Went.TheVariants as went
-use Rattle.distinct.specs.declared.Sought.{Sought}
-use Rattle.distinct.specs.declared.Sought.TheVariants.{At, Nowhere}
+use Rattle.repeats.specs.declared.TooLong.{TooLong}
+use Rattle.distinct.specs.declared.Taken.{Taken}
 use Rattle.distinct.specs.Names.{Part, spelt, text_keys, sits_at, Twice, twice_none}
-use Rattle.distinct.specs.Chains.{InChains, Chaining, Chained, Passed, passed_chaining, passed_met, passed_more, Linked, linked_twice}
+use Rattle.distinct.specs.Chains.{InChains, Chaining, Chained, Passed, passed_chaining, passed_some, passed_none, Linked, linked_twice}
 use Rattle.distinct.specs.Roads.{Road, ApartTold}
 use Rattle.distinct.specs.Window.{leads_clash, clash_within, spelt_set, TouchedLooked, ClashLooked, clash_past, looked_yes, looked_no, Rooms}
 use Rattle.distinct.specs.Windows.{Open, Gathered, Gathering, gather_first, gather_full, gather_over, gather_more, Windowed, window_room, window_yes, window_no}
@@ -81,16 +76,16 @@ module _ (D : Road) (text froms tos heads links : List ℕ) (from n r : ℕ) (x 
     pub enter_chaining : Chaining text (set froms n a) (set tos n e) heads links (n + 1) n
     enter_chaining = passed_chaining text (set froms n a) (set tos n e) (n + 1) heads links n passed (omega arith)
 
-    module _ (heads' links' : List ℕ) (s : Sought) (y : Chained text (set froms n a) (set tos n e) heads' links' n s) where
-      pub enter_met : (k : ℕ) → s ≡ At k → ApartTold D from false
-      enter_met k u =
-          let t = linked_twice text (set froms n a) (set tos n e) heads' links' (n + 1) Met (passed_met text (set froms n a) (set tos n e) (n + 1) heads links n passed heads' links' s y (omega arith) k u) refl in
+    module _ (heads' links' : List ℕ) (o : Option ℕ) (y : Chained text (set froms n a) (set tos n e) heads' links' n (Ok o)) (b : Bool) (v : b ≡ is_some o) where
+      pub enter_met : b ≡ true → ApartTold D from false
+      enter_met w =
+          let t = linked_twice text (set froms n a) (set tos n e) heads' links' (n + 1) (Ok true) (passed_some text (set froms n a) (set tos n e) (n + 1) heads links n passed heads' links' o y (omega arith) b v w) refl in
           let g = gathered (D.next r) refl in
           leads_clash D text (set froms n a) (set tos n e) from (n + 1) (D.next r) g.leads (λ us v. clash_within t)
 
-      pub enter_more : s ≡ Nowhere → length links' ≡ length links → (q : ℕ) → q ≡ D.next r → Entering D text (set froms n a) (set tos n e) heads' links' from (n + 1) q
-      enter_more u v q h =
-          let w = passed_more text (set froms n a) (set tos n e) (n + 1) heads links n passed heads' links' s y (omega arith) u v in
+      pub enter_more : b ≡ false → length links' ≡ length links → (q : ℕ) → q ≡ D.next r → Entering D text (set froms n a) (set tos n e) heads' links' from (n + 1) q
+      enter_more z g q h =
+          let w = passed_none text (set froms n a) (set tos n e) (n + 1) heads links n passed heads' links' o y (omega arith) b v z g in
           record { gathering = gathered q h; chains = w.chains; none = w.none; room = let i = length-set froms n a in omega (arith, x.room) }
 
 -- ---- what entering tells
@@ -101,42 +96,42 @@ pub record Entry (D : Road) (text froms tos heads links : List ℕ) (from n next
   pub chains : InChains text froms tos heads links n
   pub none : Twice text froms tos n → ⊥
 
-abbrev pub Enters : Road → List ℕ → List ℕ → List ℕ → List ℕ → List ℕ → ℕ → Entered → Type 0
-Enters D text froms tos heads links from entered.Twice = ApartTold D from false
-Enters D text froms tos heads links from entered.Long = Unit {0}
-Enters D text froms tos heads links from (entered.In n next) = Entry D text froms tos heads links from n next
+abbrev pub Enters : Road → List ℕ → List ℕ → List ℕ → List ℕ → List ℕ → ℕ → Result (Option Taken) TooLong → Type 0
+Enters D text froms tos heads links from (Ok None) = ApartTold D from false
+Enters D text froms tos heads links from (Err e) = Unit {0}
+Enters D text froms tos heads links from (Ok (Some w)) = Entry D text froms tos heads links from w.n w.next
 
 module _ (D : Road) (text froms tos heads links : List ℕ) (from n r : ℕ) (x : Entering D text froms tos heads links from n r) where
-  pub enter_full : n ≡ length froms → Enters D text froms tos heads links from (entered.In n r)
+  pub enter_full : n ≡ length froms → Enters D text froms tos heads links from (Ok (Some (record { n = n; next = r })))
   enter_full e = record { gathered = gather_full D text from froms tos n r x.gathering e; chains = entered_chains D text froms tos heads links from n r x; none = x.none }
 
-  pub enter_over : D.stop ≤ r → Enters D text froms tos heads links from (entered.In n r)
+  pub enter_over : D.stop ≤ r → Enters D text froms tos heads links from (Ok (Some (record { n = n; next = r })))
   enter_over l = record { gathered = gather_over D text from froms tos n r x.gathering l; chains = entered_chains D text froms tos heads links from n r x; none = x.none }
 
-module _ (D : Road) (text froms tos heads links : List ℕ) (from : ℕ) (s : Entered) (t : Enters D text froms tos heads links from s) where
-  pub entered_twice : s ≡ entered.Twice → Windowed D from went.Twice
-  entered_twice e = let z : Enters D text froms tos heads links from entered.Twice = rw e at t in z
+module _ (D : Road) (text froms tos heads links : List ℕ) (from : ℕ) (s : Result (Option Taken) TooLong) (t : Enters D text froms tos heads links from s) where
+  pub entered_twice : s ≡ Ok None → Windowed D from None
+  entered_twice e = let z : Enters D text froms tos heads links from (Ok None) = rw e at t in z
 
-  module _ (n next : ℕ) (e : s ≡ entered.In n next) where
-    entry : Entry D text froms tos heads links from n next
+  module _ (w : Taken) (e : s ≡ Ok (Some w)) where
+    entry : Entry D text froms tos heads links from w.n w.next
     entry = rw e at t
 
-    pub entered_in : InChains text froms tos heads links n
+    pub entered_in : InChains text froms tos heads links w.n
     entered_in = entry.chains
 
-    pub entered_open : Open D next
+    pub entered_open : Open D w.next
     entered_open = entry.gathered.keys
 
-    linked : Linked text froms tos heads links n Past
+    linked : Linked text froms tos heads links w.n (Ok false)
     unfolding Linked
     linked = (entry.none, entry.chains.chains)
 
-    module _ (v : Walk) (u : TouchedLooked D text froms tos n next v) where
-      looked : ClashLooked D text froms tos n next v
-      looked = clash_past D text froms tos n next heads links Past linked refl v u
+    module _ (v : Result Bool TooLong) (u : TouchedLooked D text froms tos w.n w.next v) where
+      looked : ClashLooked D text froms tos w.n w.next v
+      looked = clash_past D text froms tos w.n w.next heads links (Ok false) linked refl v u
 
-      pub entered_met : v ≡ Met → Windowed D from went.Twice
-      entered_met w = window_yes D text froms tos from (record { n = n; next = next }) entry.gathered true (looked_yes D text froms tos n next v looked w) refl
+      pub entered_met : v ≡ Ok true → Windowed D from None
+      entered_met z = window_yes D text froms tos from w entry.gathered true (looked_yes D text froms tos w.n w.next v looked z) refl
 
-      pub entered_past : from < D.stop → v ≡ Past → Windowed D from (went.On next)
-      entered_past l w = window_no D text froms tos from (record { n = n; next = next }) entry.gathered false (looked_no D text froms tos n next v looked w) l refl
+      pub entered_past : from < D.stop → v ≡ Ok false → Windowed D from (Some w.next)
+      entered_past l z = window_no D text froms tos from w entry.gathered false (looked_no D text froms tos w.n w.next v looked z) l refl

@@ -7,3 +7,4 @@ pub mod Roads
 pub mod Window
 pub mod Windows
 pub mod Entering
+pub mod Shown

@@ -1,15 +1,15 @@
 -- KEYS IN THE ORDER OF THEIR TEXTS: what is asked of the functions that seek and insert, what they tell, and the laws that `search` takes. Assumes nothing.
-use Rattle.std.specs.Prelude.{◌≡◌, refl, List, [], ◌∷◌, Bool, true, ℕ, suc, ◌+◌, ◌*◌, ◌/◌, ◌≤◌, ◌<◌, length, get_or}
-use Rattle.std.proofs.Math.Path.{sym, subst}
-use Rattle.std.proofs.Common.{ap, ◌∙◌, arith, rules}
+use Rattle.std.specs.Prelude.{◌≡◌, refl, List, [], ◌∷◌, Bool, true, ℕ, suc, ◌+◌, ◌-◌, ◌/◌, ◌≤◌, ◌<◌, length, get_or, Result, Ok, Err}
+use Rattle.std.proofs.Math.Path.{subst}
+use Rattle.std.proofs.Common.{sym, ap, ◌∙◌, add-zero, arith, rules}
 use Rattle.std.proofs.Math.Bool.{false}
 use Rattle.std.proofs.Math.Seq.{slice, slice-cons, slice_empty}
+use Rattle.std.specs.Cmp.{ranks}
+use Rattle.std.specs.Ordering.{nat_cmp, MatchOrdering}
 use Rattle.exact.specs.Class.{clash}
 use Rattle.exact.specs.Tells.{Tells, tells_yes, tells_no}
-use Rattle.repeats.specs.declared.Order.{Order}
-use Rattle.repeats.specs.declared.Order.TheVariants.{Less, Same as Equal, More}
-use Rattle.distinct.specs.declared.Standing.{Standing}
-use Rattle.distinct.specs.declared.Standing.TheVariants.{Gap, At}
+use Rattle.std.specs.declared.cmp.Ordering.{Ordering}
+use Rattle.std.specs.declared.cmp.Ordering.TheVariants.{Less, Equal, Greater}
 use Rattle.repeats.specs.Order.{shorter, Ordered, ordered_less, ordered_more, ordered_further}
 use Rattle.repeats.specs.Sorted.{Ranked, ranked_none, Sought, seek_first, seek_key, seek_less, seek_more, seek_none, Inserted, ranked_more}
 use Rattle.distinct.specs.Names.{Part, spelt, Held, held_first, Numbered, held_number, number_part, Sits, sits_at, Twice, twice_none, twice_more}
@@ -17,70 +17,84 @@ use Rattle.distinct.specs.Names.{Part, spelt, Held, held_first, Numbered, held_n
 -- ---- the order of two texts
 
 -- they stand to each other as what is left of them does
-pub record Agree (text : List ℕ) (a e : ℕ) (words : List ℕ) (b f i j : ℕ) : Type 0 where
-  pub one : i ≤ e
-  pub two : j ≤ f
-  pub back : (r : Order) → Ordered (slice i e text) (slice j f words) r → Ordered (slice a e text) (slice b f words) r
+pub record Agree (text : List ℕ) (a e : ℕ) (words : List ℕ) (b f i : ℕ) : Type 0 where
+  pub one : i ≤ e - a
+  pub two : i ≤ f - b
+  pub back : (r : Ordering) → Ordered (slice (a + i) e text) (slice (b + i) f words) r → Ordered (slice a e text) (slice b f words) r
+
+-- two bytes that are not the same tell how texts that begin with them stand
+apart_by : (c d : ℕ) (s t : List ℕ) → (c ≡ d → ⊥) → (r : Ordering) → r ≡ nat_cmp c d → Ordered (c ∷ s) (d ∷ t) r
+apart_by c d s t l r e = by r (rw (← e) at (ranks c d))
+  where
+    by : (r : Ordering) → MatchOrdering r (c < d) (c ≡ d) (d < c) → Ordered (c ∷ s) (d ∷ t) r
+    by Less h = ordered_less c d s t h
+    by Equal h = absurd (l h)
+    by Greater h = ordered_more c d s t h
 
 module _ (text : List ℕ) (a e : ℕ) (words : List ℕ) (b f : ℕ) where
-  pub agree_first : Part text a e → Part words b f → Agree text a e words b f a b
-  agree_first p q = record { one = p.order; two = q.order; back = λ r x. x }
+  pub agree_first : Part text a e → Part words b f → Agree text a e words b f 0
+  agree_first p q = record { one = omega arith; two = omega arith; back = λ r x. rw (add-zero a, add-zero b) at x }
 
-  module _ (i j : ℕ) (x : Agree text a e words b f i j) (p : Part text a e) (q : Part words b f) where
-    heads : i < e → slice i e text ≡ get_or text i 0 ∷ slice (i + 1) e text
-    heads h = let s : suc i ≡ i + 1 = omega arith in slice-cons i e text 0 h p.fits ∙ ap (λ (k : ℕ). get_or text i 0 ∷ slice k e text) s
+  module _ (i : ℕ) (x : Agree text a e words b f i) (p : Part text a e) (q : Part words b f) where
+    heads : i < e - a → slice (a + i) e text ≡ get_or text (a + i) 0 ∷ slice (a + (i + 1)) e text
+    heads h =
+        let s : suc (a + i) ≡ a + (i + 1) = omega arith in
+        let l : a + i < e = omega (arith, p.order) in
+        slice-cons (a + i) e text 0 l p.fits ∙ ap (λ (k : ℕ). get_or text (a + i) 0 ∷ slice k e text) s
 
-    heads₂ : j < f → slice j f words ≡ get_or words j 0 ∷ slice (j + 1) f words
-    heads₂ h = let s : suc j ≡ j + 1 = omega arith in slice-cons j f words 0 h q.fits ∙ ap (λ (k : ℕ). get_or words j 0 ∷ slice k f words) s
+    heads₂ : i < f - b → slice (b + i) f words ≡ get_or words (b + i) 0 ∷ slice (b + (i + 1)) f words
+    heads₂ h =
+        let s : suc (b + i) ≡ b + (i + 1) = omega arith in
+        let l : b + i < f = omega (arith, q.order) in
+        slice-cons (b + i) f words 0 l q.fits ∙ ap (λ (k : ℕ). get_or words (b + i) 0 ∷ slice k f words) s
 
-    over : e ≤ i → slice i e text ≡ []
-    over h = let z : i ≡ e = omega (arith, x.one) in rw z (slice_empty e text)
+    over : e - a ≤ i → slice (a + i) e text ≡ []
+    over h = let z : a + i ≡ e = omega (arith, x.one, p.order) in rw z (slice_empty e text)
 
-    over₂ : j ≡ f → slice j f words ≡ []
-    over₂ z = rw z (slice_empty f words)
+    over₂ : f - b ≤ i → slice (b + i) f words ≡ []
+    over₂ h = let z : b + i ≡ f = omega (arith, x.two, q.order) in rw z (slice_empty f words)
 
-    pub agree_inside : i < e → i < length text
-    agree_inside h = omega (arith, p.fits)
-
-    further₂ : (j ≡ f → ⊥) → j < f
+    further₂ : (i ≡ f - b → ⊥) → i < f - b
     further₂ n = omega (arith, x.two)
 
-    pub agree_inside₂ : (j ≡ f → ⊥) → j < length words
+    pub agree_inside : i < e - a → a + i < length text
+    agree_inside h = omega (arith, p.fits)
+
+    pub agree_inside₂ : (i ≡ f - b → ⊥) → b + i < length words
     agree_inside₂ n = let h = further₂ n in omega (arith, q.fits)
 
-    pub agree_longer : i < e → j ≡ f → Ordered (slice a e text) (slice b f words) More
+    pub agree_longer : i < e - a → i ≡ f - b → Ordered (slice a e text) (slice b f words) Greater
     unfolding Ordered
-    agree_longer h z = x.back More (rw (heads h, over₂ z) shorter)
+    agree_longer h z = let g : f - b ≤ i = omega (arith, z) in x.back Greater (rw (heads h, over₂ g) shorter)
 
-    pub agree_shorter : e ≤ i → j < f → Ordered (slice a e text) (slice b f words) Less
+    pub agree_shorter : e - a ≤ i → e - a < f - b → Ordered (slice a e text) (slice b f words) Less
     unfolding Ordered
-    agree_shorter h g = x.back Less (rw (over h, heads₂ g) shorter)
+    agree_shorter h g = let l : i < f - b = omega (arith, x.one) in x.back Less (rw (over h, heads₂ l) shorter)
 
-    pub agree_same : e ≤ i → f ≤ j → Ordered (slice a e text) (slice b f words) Equal
+    pub agree_same : e - a ≤ i → f - b ≤ e - a → Ordered (slice a e text) (slice b f words) Equal
     unfolding Ordered
-    agree_same h g = let z : j ≡ f = omega (arith, x.two) in x.back Equal (over h ∙ sym (over₂ z))
+    agree_same h g = let l : f - b ≤ i = omega arith in x.back Equal (over h ∙ sym (over₂ l))
 
-    module _ (h : i < e) (n : j ≡ f → ⊥) where
-      onto : (r : Order) → Ordered (get_or text i 0 ∷ slice (i + 1) e text) (get_or words j 0 ∷ slice (j + 1) f words) r → Ordered (slice a e text) (slice b f words) r
+    module _ (h : i < e - a) (n : i ≡ f - b → ⊥) where
+      onto : (r : Ordering) → Ordered (get_or text (a + i) 0 ∷ slice (a + (i + 1)) e text) (get_or words (b + i) 0 ∷ slice (b + (i + 1)) f words) r → Ordered (slice a e text) (slice b f words) r
       onto r y = x.back r (rw (heads h, heads₂ (further₂ n)) y)
 
-      pub agree_less : get_or text i 0 < get_or words j 0 → Ordered (slice a e text) (slice b f words) Less
-      agree_less g = onto Less (ordered_less (get_or text i 0) (get_or words j 0) (slice (i + 1) e text) (slice (j + 1) f words) g)
+      pub agree_apart : (get_or text (a + i) 0 ≡ get_or words (b + i) 0 → ⊥) → (r : Ordering) → r ≡ nat_cmp (get_or text (a + i) 0) (get_or words (b + i) 0) → Ordered (slice a e text) (slice b f words) r
+      agree_apart l r k = onto r (apart_by (get_or text (a + i) 0) (get_or words (b + i) 0) (slice (a + (i + 1)) e text) (slice (b + (i + 1)) f words) l r k)
 
-      pub agree_more : get_or words j 0 < get_or text i 0 → Ordered (slice a e text) (slice b f words) More
-      agree_more g = onto More (ordered_more (get_or text i 0) (get_or words j 0) (slice (i + 1) e text) (slice (j + 1) f words) g)
-
-      pub agree_on : get_or words j 0 ≤ get_or text i 0 → get_or text i 0 ≤ get_or words j 0 → Agree text a e words b f (i + 1) (j + 1)
-      agree_on g k =
+      pub agree_on : get_or text (a + i) 0 ≡ get_or words (b + i) 0 → Agree text a e words b f (i + 1)
+      agree_on k =
           record {
             one = omega arith;
             two = let z = further₂ n in omega arith;
-            back = λ r y. onto r (ordered_further (get_or text i 0) (get_or words j 0) (slice (i + 1) e text) (slice (j + 1) f words) (omega arith) r y);
+            back = λ r y. onto r (ordered_further (get_or text (a + i) 0) (get_or words (b + i) 0) (slice (a + (i + 1)) e text) (slice (b + (i + 1)) f words) k r y);
           }
 
-pub ruleset agreeing = (agree_first, agree_inside, agree_inside₂, agree_longer, agree_shorter, agree_same, agree_less, agree_more, agree_on, rules)
+pub ruleset agreeing = (agree_first, agree_inside, agree_inside₂, agree_longer, agree_shorter, agree_same, agree_apart, agree_on, rules)
 
-pub order_told : (text froms tos : List ℕ) (k c d : ℕ) → c ≡ get_or froms k 0 → d ≡ get_or tos k 0 → (words : List ℕ) (b f : ℕ) → (y : Order) → Ordered (slice b f words) (slice c d text) y
+-- ---- the order of a text and that of a key
+
+pub order_told : (text froms tos : List ℕ) (k c d : ℕ) → c ≡ get_or froms k 0 → d ≡ get_or tos k 0 → (words : List ℕ) (b f : ℕ) → (y : Ordering) → Ordered (slice b f words) (slice c d text) y
     → Ordered (slice b f words) (spelt text froms tos k) y
 order_told text froms tos k c d i j words b f y t = rw (i, j) at t
 
@@ -94,30 +108,30 @@ pub record InOrder (text froms tos order : List ℕ) (n : ℕ) : Type 0 where
   pub ranked : Ranked (spelt text froms tos) order n
 
 -- behind the first p; or it is that of one of them
-unfoldable pub Finds : List ℕ → List ℕ → List ℕ → List ℕ → ℕ → List ℕ → Standing → Type 0
-Finds text froms tos order n s (Gap p) = Sought (spelt text froms tos) s order n p p
-Finds text froms tos order n s (At k) = (k < n) × (s ≡ spelt text froms tos k)
+unfoldable pub Finds : List ℕ → List ℕ → List ℕ → List ℕ → ℕ → List ℕ → Result ℕ ℕ → Type 0
+Finds text froms tos order n s (Err p) = Sought (spelt text froms tos) s order n p p
+Finds text froms tos order n s (Ok k) = (k < n) × (s ≡ spelt text froms tos k)
 
-module _ (text froms tos order : List ℕ) (n : ℕ) (s : List ℕ) (r : Standing) (y : Finds text froms tos order n s r) where
-  sought : (p : ℕ) → r ≡ Gap p → Sought (spelt text froms tos) s order n p p
+module _ (text froms tos order : List ℕ) (n : ℕ) (s : List ℕ) (r : Result ℕ ℕ) (y : Finds text froms tos order n s r) where
+  sought : (p : ℕ) → r ≡ Err p → Sought (spelt text froms tos) s order n p p
   unfolding Finds
   sought p e = rw e at y
 
-  pub gap_within : (p : ℕ) → r ≡ Gap p → p ≤ n
+  pub gap_within : (p : ℕ) → r ≡ Err p → p ≤ n
   gap_within p e = (sought p e).inside
 
-  pub stands_low : (k : ℕ) → r ≡ At k → k < n
+  pub stands_low : (k : ℕ) → r ≡ Ok k → k < n
   unfolding Finds
-  stands_low k e = let z : Finds text froms tos order n s (At k) = rw e at y in z.0
+  stands_low k e = let z : Finds text froms tos order n s (Ok k) = rw e at y in z.0
 
-  pub stands_same : (k : ℕ) → r ≡ At k → s ≡ spelt text froms tos k
+  pub stands_same : (k : ℕ) → r ≡ Ok k → s ≡ spelt text froms tos k
   unfolding Finds
-  stands_same k e = let z : Finds text froms tos order n s (At k) = rw e at y in z.1
+  stands_same k e = let z : Finds text froms tos order n s (Ok k) = rw e at y in z.1
 
-  pub stands_sits : (k : ℕ) → r ≡ At k → Sits text froms tos s n
+  pub stands_sits : (k : ℕ) → r ≡ Ok k → Sits text froms tos s n
   stands_sits k e = sits_at text froms tos k (stands_low k e) (stands_same k e)
 
-  pub gap_none : Ranked (spelt text froms tos) order n → (p : ℕ) → r ≡ Gap p → Sits text froms tos s n → ⊥
+  pub gap_none : Ranked (spelt text froms tos) order n → (p : ℕ) → r ≡ Err p → Sits text froms tos s n → ⊥
   gap_none w p e x = seek_none (spelt text froms tos) s order n w p (sought p e) x.other x.key.before x.same
 
 module _ (text froms tos order : List ℕ) (n : ℕ) (w : InOrder text froms tos order n) (words : List ℕ) (b f : ℕ) where
@@ -131,7 +145,7 @@ module _ (text froms tos order : List ℕ) (n : ℕ) (w : InOrder text froms tos
   find_first = seek_first name s order n w.ranked
 
   module _ (lo hi : ℕ) (x : Sought name s order n lo hi) where
-    pub find_gap : hi ≤ lo → Finds text froms tos order n s (Gap lo)
+    pub find_gap : hi ≤ lo → Finds text froms tos order n s (Err lo)
     unfolding Finds
     find_gap l = let e : hi ≡ lo = omega (arith, x.ordered) in rw e at x
 
@@ -152,8 +166,8 @@ module _ (text froms tos order : List ℕ) (n : ℕ) (w : InOrder text froms tos
         pub find_number : Numbered text froms tos k
         find_number = held_number k w.held key
 
-        module _ (o : Order) (t : Ordered (slice b f words) (spelt text froms tos k) o) where
-          pub find_there : o ≡ Equal → Finds text froms tos order n s (At k)
+        module _ (o : Ordering) (t : Ordered (slice b f words) (spelt text froms tos k) o) where
+          pub find_there : o ≡ Equal → Finds text froms tos order n s (Ok k)
           unfolding Finds Ordered
           find_there h = (key, rw h at t)
 
@@ -161,7 +175,7 @@ module _ (text froms tos order : List ℕ) (n : ℕ) (w : InOrder text froms tos
           unfolding Ordered
           find_below h = seek_less name s order n w.ranked lo hi mid x (omega arith) (omega arith) (rw g at (rw h at t))
 
-          pub find_above : (lo' : ℕ) → o ≡ More → lo' ≡ mid + 1 → Sought name s order n lo' hi
+          pub find_above : (lo' : ℕ) → o ≡ Greater → lo' ≡ mid + 1 → Sought name s order n lo' hi
           unfolding Ordered
           find_above lo' h z = rw z (seek_more name s order n w.ranked lo hi mid x (omega arith) (omega arith) (rw g at (rw h at t)))
 
@@ -199,14 +213,14 @@ module _ (text froms tos order : List ℕ) (n i : ℕ) (w : Joining text froms t
     pub join_part : Part text a e
     join_part = rw (u, v) (w.held.part i w.low)
 
-    module _ (r : Standing) (y : Finds text froms tos order i (slice a e text) r) where
+    module _ (r : Result ℕ ℕ) (y : Finds text froms tos order i (slice a e text) r) where
       found : Finds text froms tos order i (spelt text froms tos i) r
       found = rw (u, v) at y
 
-      pub join_there : (k : ℕ) → r ≡ At k → Joined text froms tos order i true
+      pub join_there : (k : ℕ) → r ≡ Ok k → Joined text froms tos order i true
       join_there k f = record { tells = stands_sits text froms tos order i (spelt text froms tos i) r found k f; ranked = λ g. absurd (clash refl g) }
 
-      pub join_gap : (p : ℕ) → r ≡ Gap p → (order' : List ℕ) → Inserted order order' p i → Joined text froms tos order' i false
+      pub join_gap : (p : ℕ) → r ≡ Err p → (order' : List ℕ) → Inserted order order' p i → Joined text froms tos order' i false
       join_gap p f order' z =
           record {
             tells = gap_none text froms tos order i (spelt text froms tos i) r found w.ranked p f;

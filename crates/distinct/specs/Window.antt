@@ -1,20 +1,15 @@
 -- A WINDOW OF KEYS: the texts of some keys of a road in rooms, by number, and the road behind them (`Leads`). No two keys have one text exactly if none of the window has that of an
 -- earlier one (`Twice`), none behind it that of one in it (`Touched`), and no two behind it have one. Assumes nothing.
-use Rattle.std.specs.Prelude.{◌≡◌, refl, List, [], ◌∷◌, Bool, true, false, ℕ, suc, ◌+◌, ◌≤◌, ◌<◌, length, get_or, set, replicate}
+use Rattle.std.specs.Prelude.{◌≡◌, refl, List, [], ◌∷◌, Bool, true, false, ℕ, suc, ◌+◌, ◌≤◌, ◌<◌, length, get_or, set, replicate, Option, Some, None, Result, Ok, Err}
 use Rattle.std.proofs.Common.{sym, subst, ◌∙◌, arith, add-one, length-set, get_or-set_same, get_or-set_other}
 use Rattle.std.proofs.Math.Decide.{ℕ_discrete}
 use Rattle.std.proofs.lemmas.List.{length-replicate}
 use Rattle.std.proofs.Math.Seq.{slice}
-use Rattle.exact.specs.Tells.{Tells, tells_yes, tells_no}
-use Rattle.repeats.specs.declared.Walk.{Walk}
-use Rattle.repeats.specs.declared.Walk.TheVariants.{Met, Past, Long as TooLong}
+use Rattle.exact.specs.Tells.{Tells}
+use Rattle.repeats.specs.declared.TooLong.{TooLong}
 use Rattle.repeats.specs.Later.{zeros}
 use Rattle.repeats.specs.Links.{chains_none}
 use Rattle.repeats.specs.Walk.{Walks as Looks, walks_met, walks_past, walks_long}
-use Rattle.distinct.specs.declared.Sought.{Sought}
-use Rattle.distinct.specs.declared.Sought.TheVariants.{At, Nowhere}
-use Rattle.distinct.specs.declared.Standing.{Standing}
-use Rattle.distinct.specs.declared.Standing.TheVariants.{Gap, At as StandsAt}
 use Rattle.distinct.specs.Names.{Part, spelt, text_keys, Held, Sits, sits_at, Twice}
 use Rattle.distinct.specs.Chains.{told_low, told_at, told_none, SitsTold, Starting, Linked, linked_twice, linked_once}
 use Rattle.distinct.specs.Ranks.{Finds, InOrder, Ranged, ranged_twice, ranged_once, gap_none, stands_sits}
@@ -166,7 +161,7 @@ module _ (D : Road) (text froms tos : List ℕ) (from n r : ℕ) (x : Leads D te
 
 -- ---- the keys behind the window, each sought in it: what is told of them
 module _ (D : Road) (text froms tos : List ℕ) (n from : ℕ) where
-  abbrev pub TouchedLooked : Walk → Type 0
+  abbrev pub TouchedLooked : Result Bool TooLong → Type 0
   TouchedLooked w = (us : List ℕ) → Walks D from us → Looks (Touched D text froms tos n us) w
 
   abbrev pub TouchedTold : Bool → Type 0
@@ -179,12 +174,12 @@ module _ (D : Road) (text froms tos : List ℕ) (n from r : ℕ) (x : Comes D (T
   pub trail_none : D.stop ≤ r → TouchedTold D text froms tos n from false
   trail_none l = comes_none D x l (touched_none D text froms tos)
 
-  pub trail_over : D.stop ≤ r → TouchedLooked D text froms tos n from Past
+  pub trail_over : D.stop ≤ r → TouchedLooked D text froms tos n from (Ok false)
   unfolding Looks
   trail_over l = comes_none D x l (touched_none D text froms tos)
 
-  pub trail_long : TouchedLooked D text froms tos n from TooLong
-  trail_long us v = walks_long (Touched D text froms tos n us)
+  pub trail_long : (e : TooLong) → TouchedLooked D text froms tos n from (Err e)
+  trail_long e us v = walks_long (Touched D text froms tos n us) e
 
   module _ (l : r < D.stop) where
     trail_here : Sits text froms tos (D.text r) n → (us : List ℕ) → Walks D from us → Touched D text froms tos n us
@@ -194,59 +189,59 @@ module _ (D : Road) (text froms tos : List ℕ) (n from r : ℕ) (x : Comes D (T
     trail_on f q h = rw h (comes_on D x l (λ us v y. touched_past D text froms tos f y) (λ us v y. touched_later D text froms tos y))
 
     -- in chains
-    module _ (s : Sought) (t : SitsTold text froms tos n (D.text r) s) where
+    module _ (s : Result (Option ℕ) TooLong) (t : SitsTold text froms tos n (D.text r) s) where
       abbrev P : ℕ → Type 0
       P k = D.text r ≡ spelt text froms tos k
 
       abbrev Q : Type 0
       Q = Sits text froms tos (D.text r) n
 
-      pub trail_met : (k : ℕ) → s ≡ At k → TouchedLooked D text froms tos n from Met
+      pub trail_met : (k : ℕ) → s ≡ Ok (Some k) → TouchedLooked D text froms tos n from (Ok true)
       unfolding Looks
       trail_met k e us v = trail_here (sits_at text froms tos k (told_low P n Q s t k e) (told_at P n Q s t k e)) us v
 
-      pub trail_past : s ≡ Nowhere → (q : ℕ) → q ≡ D.next r → Comes D (Touched D text froms tos n) from q
+      pub trail_past : s ≡ Ok None → (q : ℕ) → q ≡ D.next r → Comes D (Touched D text froms tos n) from q
       trail_past e q h = trail_on (told_none P n Q s t e) q h
 
     -- in order
-    module _ (order : List ℕ) (s : Standing) (t : Finds text froms tos order n (D.text r) s) where
-      pub trail_there : (k : ℕ) → s ≡ StandsAt k → TouchedTold D text froms tos n from true
+    module _ (order : List ℕ) (s : Result ℕ ℕ) (t : Finds text froms tos order n (D.text r) s) where
+      pub trail_there : (k : ℕ) → s ≡ Ok k → TouchedTold D text froms tos n from true
       trail_there k e us v = trail_here (stands_sits text froms tos order n (D.text r) s t k e) us v
 
-      pub trail_gap : InOrder text froms tos order n → (p : ℕ) → s ≡ Gap p → (q : ℕ) → q ≡ D.next r → Comes D (Touched D text froms tos n) from q
+      pub trail_gap : InOrder text froms tos order n → (p : ℕ) → s ≡ Err p → (q : ℕ) → q ≡ D.next r → Comes D (Touched D text froms tos n) from q
       trail_gap y p e q h = trail_on (gap_none text froms tos order n (D.text r) s t y.ranked p e) q h
 
 -- ---- what clashes
 
 module _ (D : Road) (text froms tos : List ℕ) (n next : ℕ) where
-  abbrev pub ClashLooked : Walk → Type 0
+  abbrev pub ClashLooked : Result Bool TooLong → Type 0
   ClashLooked w = (us : List ℕ) → Walks D next us → Looks (Clash D text froms tos n us) w
 
   abbrev pub ClashTold : Bool → Type 0
   ClashTold b = (us : List ℕ) → Walks D next us → Tells (Clash D text froms tos n us) b
 
-  pub looked_yes : (w : Walk) → ClashLooked w → w ≡ Met → ClashTold true
+  pub looked_yes : (w : Result Bool TooLong) → ClashLooked w → w ≡ Ok true → ClashTold true
   looked_yes w t e us v = walks_met (Clash D text froms tos n us) w (t us v) e
 
-  pub looked_no : (w : Walk) → ClashLooked w → w ≡ Past → ClashTold false
+  pub looked_no : (w : Result Bool TooLong) → ClashLooked w → w ≡ Ok false → ClashTold false
   looked_no w t e us v = walks_past (Clash D text froms tos n us) w (t us v) e
 
-  pub clash_long : ClashLooked TooLong
-  clash_long us v = walks_long (Clash D text froms tos n us)
+  pub clash_long : (e : TooLong) → ClashLooked (Err e)
+  clash_long e us v = walks_long (Clash D text froms tos n us) e
 
-  module _ (heads links : List ℕ) (w : Walk) (t : Linked text froms tos heads links n w) where
-    pub clash_met : w ≡ Met → ClashLooked Met
+  module _ (heads links : List ℕ) (w : Result Bool TooLong) (t : Linked text froms tos heads links n w) where
+    pub clash_met : w ≡ Ok true → ClashLooked (Ok true)
     unfolding Looks
     clash_met e us v = clash_within (linked_twice text froms tos heads links n w t e)
 
-    pub clash_past : w ≡ Past → (v : Walk) → TouchedLooked D text froms tos n next v → ClashLooked v
+    pub clash_past : w ≡ Ok false → (v : Result Bool TooLong) → TouchedLooked D text froms tos n next v → ClashLooked v
     unfolding Looks
     clash_past e v u us y = by v (u us y)
       where
-        by : (v : Walk) → Looks (Touched D text froms tos n us) v → Looks (Clash D text froms tos n us) v
-        by Met x = clash_behind x
-        by Past x = clash_none D text froms tos (linked_once text froms tos heads links n w t e) x
-        by TooLong x = tt
+        by : (v : Result Bool TooLong) → Looks (Touched D text froms tos n us) v → Looks (Clash D text froms tos n us) v
+        by (Ok true) x = clash_behind x
+        by (Ok false) x = clash_none D text froms tos (linked_once text froms tos heads links n w t e) x
+        by (Err e) x = tt
 
   module _ (order : List ℕ) (b : Bool) (t : Ranged text froms tos order n b) where
     pub clash_yes : b ≡ true → ClashTold true

@@ -1,19 +1,13 @@
 -- ALONG A ROAD, pair by pair or one window after another: what is asked of the functions that walk it, what they tell, and the laws that `search` takes. Assumes nothing.
-use Rattle.std.specs.Prelude.{◌≡◌, refl, List, Bool, true, false, ℕ, ◌+◌, ◌-◌, ◌≤◌, ◌<◌, length, set}
-use Rattle.std.proofs.Common.{sym, subst, arith, length-set, rules}
+use Rattle.std.specs.Prelude.{◌≡◌, refl, List, Bool, true, false, ℕ, ◌+◌, ◌-◌, ◌≤◌, ◌<◌, length, set, Option, Some, None, is_some, Result, Ok, Err, is_ok, IsErr}
+use Rattle.std.proofs.Common.{sym, ap, subst, arith, length-set, rules}
 use Rattle.std.proofs.Math.Decide.{dec_lt}
 use Rattle.std.proofs.Math.Seq.{slice}
 use Rattle.exact.specs.Tells.{Tells, tells_yes, tells_no}
-use Rattle.repeats.specs.declared.Walk.TheVariants.{Met, Past, Long}
-use Rattle.distinct.specs.declared.Sought.{Sought}
-use Rattle.distinct.specs.declared.Sought.TheVariants as sought
-use Rattle.distinct.specs.declared.Standing.{Standing}
-use Rattle.distinct.specs.declared.Standing.TheVariants as standing
+use Rattle.repeats.specs.declared.TooLong.{TooLong}
 use Rattle.distinct.specs.declared.Taken.{Taken}
-use Rattle.distinct.specs.declared.Went.{Went}
-use Rattle.distinct.specs.declared.Went.TheVariants as went
 use Rattle.distinct.specs.Names.{Part}
-use Rattle.distinct.specs.Chains.{SitsTold, Starting, linked_in}
+use Rattle.distinct.specs.Chains.{some_of, none_of, SitsTold, Starting, linked_in}
 use Rattle.distinct.specs.Ranks.{Finds, InOrder, ranged_in}
 use Rattle.distinct.specs.Roads.{Road, Walks, walks_next, Among, Apart, Comes, comes_first, comes_both, AmongTold, ApartTold, seek_met, seek_on, seek_over, pass_met, pass_on, pass_over}
 use Rattle.distinct.specs.Window.{Touched, TouchedLooked, TouchedTold, ClashTold, Leads, leads_none, leads_more, leads_clash, leads_comes, trail_none, trail_over, trail_long, trail_met, trail_past, trail_there, trail_gap, clash_long, clash_met, clash_past, clash_yes, clash_no, looked_yes, looked_no, Rooms, rooms_starting}
@@ -153,30 +147,39 @@ pub ruleset gathering = (gather_first, gather_full, gather_over, gather_open, ga
 
 -- ---- the keys behind the window, each sought in it
 
+ok_of : (s : Result ℕ ℕ) (b : Bool) → b ≡ is_ok s → b ≡ true → (k : ℕ) × (s ≡ Ok k)
+ok_of (Ok k) b e f = (k, refl)
+ok_of (Err p) b e f = absurd (cc)
+
+err_of : (s : Result ℕ ℕ) (b : Bool) → b ≡ is_ok s → b ≡ false → (p : ℕ) × (s ≡ Err p)
+err_of (Ok k) b e f = absurd (cc)
+err_of (Err p) b e f = (p, refl)
+
 module _ (D : Road) (text froms tos : List ℕ) (n from r : ℕ) (x : Going D (Touched D text froms tos n) from r) where
   pub trailed_none : D.stop ≤ r → TouchedTold D text froms tos n from false
   trailed_none l = trail_none D text froms tos n from r x.comes l
 
-  pub trailed_over : D.stop ≤ r → TouchedLooked D text froms tos n from Past
+  pub trailed_over : D.stop ≤ r → TouchedLooked D text froms tos n from (Ok false)
   trailed_over l = trail_over D text froms tos n from r x.comes l
 
-  pub trailed_long : TouchedLooked D text froms tos n from Long
-  trailed_long = trail_long D text froms tos n from r x.comes
+  pub trailed_long : (s : Result Bool TooLong) → IsErr s → TouchedLooked D text froms tos n from s
+  trailed_long (Err e) y = trail_long D text froms tos n from r x.comes e
+  trailed_long (Ok b) y = absurd (cc)
 
   module _ (l : r < D.stop) where
-    module _ (s : Sought) (t : SitsTold text froms tos n (D.text r) s) where
-      pub trailed_met : (k : ℕ) → s ≡ sought.At k → TouchedLooked D text froms tos n from Met
-      trailed_met k e = trail_met D text froms tos n from r x.comes l s t k e
+    module _ (o : Option ℕ) (t : SitsTold text froms tos n (D.text r) (Ok o)) (b : Bool) (g : b ≡ is_some o) where
+      pub trailed_met : b ≡ true → TouchedLooked D text froms tos n from (Ok true)
+      trailed_met e = let z = some_of o b g e in trail_met D text froms tos n from r x.comes l (Ok o) t z.0 (ap Ok z.1)
 
-      pub trailed_past : s ≡ sought.Nowhere → (q : ℕ) → q ≡ D.next r → Going D (Touched D text froms tos n) from q
-      trailed_past e q h = record { keys = open_next D r x.keys l q h; comes = trail_past D text froms tos n from r x.comes l s t e q h }
+      pub trailed_past : b ≡ false → (q : ℕ) → q ≡ D.next r → Going D (Touched D text froms tos n) from q
+      trailed_past e q h = record { keys = open_next D r x.keys l q h; comes = trail_past D text froms tos n from r x.comes l (Ok o) t (ap Ok (none_of o b g e)) q h }
 
-    module _ (order : List ℕ) (s : Standing) (t : Finds text froms tos order n (D.text r) s) where
-      pub trailed_there : (k : ℕ) → s ≡ standing.At k → TouchedTold D text froms tos n from true
-      trailed_there k e = trail_there D text froms tos n from r x.comes l order s t k e
+    module _ (order : List ℕ) (s : Result ℕ ℕ) (t : Finds text froms tos order n (D.text r) s) (b : Bool) (g : b ≡ is_ok s) where
+      pub trailed_there : b ≡ true → TouchedTold D text froms tos n from true
+      trailed_there e = let z = ok_of s b g e in trail_there D text froms tos n from r x.comes l order s t z.0 z.1
 
-      pub trailed_gap : InOrder text froms tos order n → (p : ℕ) → s ≡ standing.Gap p → (q : ℕ) → q ≡ D.next r → Going D (Touched D text froms tos n) from q
-      trailed_gap y p e q h = record { keys = open_next D r x.keys l q h; comes = trail_gap D text froms tos n from r x.comes l order s t y p e q h }
+      pub trailed_gap : InOrder text froms tos order n → b ≡ false → (q : ℕ) → q ≡ D.next r → Going D (Touched D text froms tos n) from q
+      trailed_gap y e q h = let z = err_of s b g e in record { keys = open_next D r x.keys l q h; comes = trail_gap D text froms tos n from r x.comes l order s t y z.0 z.1 q h }
 
 pub ruleset trailing = (trailed_none, trailed_over, trailed_long, trailed_met, trailed_past, trailed_there, trailed_gap, walking)
 
@@ -204,9 +207,9 @@ pub record Goes (D : Road) (from q : ℕ) : Type 0 where
   pub onward : from < q
   pub going : Going D (Apart D.text) from q
 
-abbrev pub Windowed : Road → ℕ → Went → Type 0
-Windowed D from went.Twice = ApartTold D from false
-Windowed D from (went.On q) = Goes D from q
+abbrev pub Windowed : Road → ℕ → Option ℕ → Type 0
+Windowed D from None = ApartTold D from false
+Windowed D from (Some q) = Goes D from q
 
 module _ (froms tos heads links : List ℕ) (r : Rooms froms tos heads links) where
   pub window_room : Room froms tos
@@ -216,10 +219,10 @@ module _ (froms tos heads links : List ℕ) (r : Rooms froms tos heads links) wh
   window_filled D text froms' tos' from w g e = record { starting = rooms_starting text froms tos heads links froms' tos' w.n r e g.leads.held; keys = g.keys }
 
 module _ (D : Road) (text froms tos : List ℕ) (from : ℕ) (w : Taken) (g : Gathered D text froms tos from w) (b : Bool) (t : ClashTold D text froms tos w.n w.next b) where
-  pub window_yes : b ≡ true → Windowed D from went.Twice
+  pub window_yes : b ≡ true → Windowed D from None
   window_yes e = leads_clash D text froms tos from w.n w.next g.leads (λ us u. tells_yes b e (t us u))
 
-  pub window_no : from < D.stop → b ≡ false → Windowed D from (went.On w.next)
+  pub window_no : from < D.stop → b ≡ false → Windowed D from (Some w.next)
   window_no l e =
       record { onward = g.onward l; going = record { keys = g.keys; comes = leads_comes D text froms tos from w.n w.next g.leads (λ us u. tells_no b e (t us u)) } }
 
@@ -227,7 +230,7 @@ pub ruleset windowing = (window_room, window_filled, window_yes, window_no, rule
 
 -- ---- all windows
 
-module _ (D : Road) (r : ℕ) (w : Went) (t : Windowed D r w) (q : ℕ) (e : w ≡ went.On q) where
+module _ (D : Road) (r : ℕ) (w : Option ℕ) (t : Windowed D r w) (q : ℕ) (e : w ≡ Some q) where
   next : Goes D r q
   next = rw e at t
 
@@ -237,7 +240,7 @@ module _ (D : Road) (r : ℕ) (w : Went) (t : Windowed D r w) (q : ℕ) (e : w �
   pub onward_more : (from : ℕ) → Going D (Apart D.text) from r → Going D (Apart D.text) from q
   onward_more from x = record { keys = next.going.keys; comes = comes_both D x.comes next.going.comes }
 
-pub onward_twice : (D : Road) (from r : ℕ) → Going D (Apart D.text) from r → (w : Went) → Windowed D r w → w ≡ went.Twice → ApartTold D from false
+pub onward_twice : (D : Road) (from r : ℕ) → Going D (Apart D.text) from r → (w : Option ℕ) → Windowed D r w → w ≡ None → ApartTold D from false
 onward_twice D from r x w t e rs v y = let z : ApartTold D r false = rw e at t in z (x.comes.to rs v) (x.comes.walks rs v) (x.comes.there rs v y)
 
 pub ruleset onwards = (sifted_over, onward_twice, onward_more, onward_less, walking)

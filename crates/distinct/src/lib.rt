@@ -1,30 +1,41 @@
 // Keys by number, each a text between two places of a room, told apart in chains and in the order of their texts.
 #![tactic(auto)]
 
-ghost use Rattle.std.specs.Prelude.{◌≡◌, ◌<◌, length, get_or};
+ghost use Rattle.std.specs.Prelude.{◌≡◌, ◌<◌, ℕ, List, length, get_or};
 ghost use Rattle.std.proofs.Math.Seq.{slice};
 ghost use Rattle.exact.specs.Tells.{Tells};
 ghost use Rattle.distinct.specs.Names.{Part, Numbered, spelt};
+ghost use Rattle.distinct.specs.Roads.{Road};
+ghost use Rattle.distinct.specs.Shown.{Shown};
 
 mod chains;
+mod once;
 mod ranks;
+mod windows;
 
 pub use chains::{chained, chained_all, in_chains};
+pub use once::apart;
 pub use ranks::{in_order, ranked_all};
 
-// What a look for a text in a chain gives: the number of the key that has it, or that none has, or that the chain is too long.
+// Where the text of a key stands, and where the key behind it does.
 #[derive(Clone, Copy)]
-pub enum Sought {
-    At(usize),
-    Nowhere,
-    Long,
+pub struct Key {
+    pub from: usize,
+    pub to: usize,
+    pub next: usize,
 }
 
-// Where a text stands among keys in order: it is that of the key of this number, or belongs behind so many.
-#[derive(Clone, Copy)]
-pub enum Standing {
-    At(usize),
-    Gap(usize),
+// Keys one behind another, each by its place, whose texts stand in one room.
+pub trait Keys {
+    // the keys before `stop`, with their texts in a room
+    ghost road: { Self → List ℕ → ℕ → Road };
+
+    // The key at r.
+    fn key(&self, text: &[u8], stop: usize, r: usize) -> Key
+        requires { (road self.now text.now stop).Good r }
+        ensures { Shown (road self.now text.now stop) text.now r result };
+
+    ghost stops: { (s : Self) (text : List ℕ) (stop : ℕ) → (road s text stop).stop ≡ stop };
 }
 
 // A window of n keys, and where the key behind them stands.
@@ -32,21 +43,6 @@ pub enum Standing {
 pub struct Taken {
     pub n: usize,
     pub next: usize,
-}
-
-// What entering the chains of a window tells: two keys have one text, or a chain is too long, or n keys stand there, and where the key behind them stands.
-#[derive(Clone, Copy)]
-pub enum Entered {
-    Twice,
-    Long,
-    In(usize, usize),
-}
-
-// What a window tells: two keys have one text, or the walk goes on from a key.
-#[derive(Clone, Copy)]
-pub enum Went {
-    Twice,
-    On(usize),
 }
 
 // The k-th place of those in a room.
@@ -58,20 +54,20 @@ pub fn place_at(places: &[u32], k: usize) -> usize
 }
 
 // Whether the bytes from a to e of one text are those from b to f of another.
+// Stays (point 4): tried; most keys differ in their length or first byte, and by `text[a..e] == words[b..f]` the test of soundness takes 1.35 of START's instructions on small records, by this loop 1.13 (both as plain Rust).
+#[tactic(auto, using(crate::specs::Same::comparing))]
 pub fn same_text(text: &[u8], a: usize, e: usize, words: &[u8], b: usize, f: usize) -> bool
     requires { Part text.now a e × Part words.now b f }
     ensures { Tells (slice a e text.now ≡ slice b f words.now) result }
 {
     let n = e - a;
-    let mut i = 0;
     if f - b != n {
         return false;
     }
-    while i < n {
+    for i in 0..n {
         if text[a + i] != words[b + i] {
             return false;
         }
-        i += 1;
     }
     true
 }
@@ -89,12 +85,5 @@ pub fn is_named(
     requires { Numbered text.now froms.now tos.now k × Part words.now b f }
     ensures { Tells (slice b f words.now ≡ spelt text.now froms.now tos.now k) result }
 {
-    same_text(
-        &*words,
-        b,
-        f,
-        &*text,
-        place_at(&*froms, k),
-        place_at(&*tos, k),
-    )
+    same_text(words, b, f, text, place_at(froms, k), place_at(tos, k))
 }

@@ -1,7 +1,7 @@
 -- FIELDS OF ROWS: what the code of a row's field, of its content and of its children's fields asks, and how it keeps its promise. Assumes nothing.
-use Rattle.std.specs.Prelude.{◌≡◌, false, ℕ, suc, ◌+◌, ◌-◌, ◌*◌, ◌/◌, ◌≤◌, ◌<◌, get_or, set, leb}
+use Rattle.std.specs.Prelude.{◌≡◌, ◌⊎◌, false, ℕ, suc, ◌+◌, ◌-◌, ◌*◌, ◌/◌, ◌≤◌, ◌<◌, get_or, set, leb}
 use Rattle.std.proofs.Math.Path.{refl, sym, ap, subst}
-use Rattle.std.proofs.Common.{ap₂, ◌∙◌, arith, length-append, le-leb}
+use Rattle.std.proofs.Common.{inl, inr, ap₂, ◌∙◌, arith, length-append, le-leb}
 use mathlib.Core.List.{List, [], ◌∷◌, ◌++◌, append_assoc, append-nil}
 use Rattle.std.proofs.Math.Decide.{dec_le}
 use Rattle.std.proofs.Math.ListN.{length}
@@ -20,6 +20,14 @@ use Rattle.stored.specs.Form.{widest, tag, cut, content, forms, form}
 use Rattle.stored.proofs.PartsLaws.{cut_length}
 use Rattle.stored.specs.Lengths.{scalar_content}
 use Rattle.fields.specs.Spread.{Closes, sets_over, slice_sets}
+
+-- the kind of an array or else of an object, as code tells it
+abbrev pub Container : ℕ → Type 0
+Container kind = (kind ≡ 8) ⊎ ((kind ≡ 8 → ⊥) × (kind ≡ 9))
+
+pub container_kind : {kind : ℕ} → Container kind → (8 ≤ kind) × (kind ≤ 9)
+container_kind (inl e) = (omega arith, omega arith)
+container_kind (inr (n, e)) = (omega arith, omega arith)
 
 -- three stores in a row
 pub three : (o p q s : List ℕ) (x a b c : ℕ) → p ≡ set o x a → q ≡ set p (x + 1) b → s ≡ set q (x + 2) c → s ≡ sets o x (a ∷ b ∷ c ∷ [])
@@ -241,17 +249,11 @@ module _ (table text : List ℕ) where
       leaf_content a b f = f (content_leaf a b)
 
       module _ {stop : ℕ} (f : stop ≡ get_or table (width * r + 6) 0) where
-        pub array_fields : kind ≡ 8 → Fields n (r + 1) stop x
-        array_fields z = content_fields h e (omega arith) (omega arith) f
+        pub container_fields : Container kind → Fields n (r + 1) stop x
+        container_fields z = let b = container_kind z in content_fields h e b.0 b.1 f
 
-        pub object_fields : kind ≡ 9 → Fields n (r + 1) stop x
-        object_fields z = content_fields h e (omega arith) (omega arith) f
-
-        pub array_puts : {y : ℕ} {o p : List ℕ} → kind ≡ 8 → ((i : Fields n (r + 1) stop x) → Puts (forms i.trees) x y o p) → Puts (content h.tree) x y o p
-        array_puts z g = content_puts h e (omega arith) (omega arith) f g
-
-        pub object_puts : {y : ℕ} {o p : List ℕ} → kind ≡ 9 → ((i : Fields n (r + 1) stop x) → Puts (forms i.trees) x y o p) → Puts (content h.tree) x y o p
-        object_puts z g = content_puts h e (omega arith) (omega arith) f g
+        pub container_puts : {y : ℕ} {o p : List ℕ} (z : Container kind) → ((i : Fields n (r + 1) stop x) → Puts (forms i.trees) x y o p) → Puts (content h.tree) x y o p
+        container_puts z g = let b = container_kind z in content_puts h e b.0 b.1 f g
 
     pub fewer_fields : {stop t : ℕ} → t ≡ 3 * (get_or table (width * r + 6) 0 - r) → stop ≡ get_or table (width * r + 6) 0 → 3 * (stop - (r + 1)) + 2 < t
     fewer_fields z f = let k = next_at table text h.tree h.here.rows in omega (arith, size_some h.tree)
@@ -354,6 +356,6 @@ module _ (table text : List ℕ) where
 -- found by what the code has read
 pub ruleset leafing = (leaf_start, leaf_end, leaf_rises, leaf_inside, leaf_fits, leaf_puts)
 
-pub ruleset contents = (content_kind, content_next, content_leaf, leaf_content, array_fields, object_fields, array_puts, object_puts, fewer_fields)
+pub ruleset contents = (content_kind, content_next, content_leaf, leaf_content, container_fields, container_puts, fewer_fields)
 
 pub ruleset fielding = (field_kind, field_fewer, field_content, field_closes, field_puts)

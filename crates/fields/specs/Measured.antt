@@ -11,7 +11,7 @@ use Rattle.stored.specs.Form.{widest, tag, content, forms, form}
 use Rattle.stored.proofs.PartsLaws.{cut_length}
 use Rattle.stored.proofs.LengthsLaws.{forms_length}
 use Rattle.fields.specs.Rows.{Kept, Kepts, size_some, sizes_some, At, Along, word_in, kind_word}
-use Rattle.fields.specs.Fields.{Opened, opened, Texted, texted, Turn, turn}
+use Rattle.fields.specs.Fields.{Opened, opened, Texted, texted, Turn, turn, Container, container_kind}
 
 module _ (table : List ℕ) where
   -- ASKED of a row, and of rows one behind another: they are some tree's, with some text, and not too many bytes to be counted
@@ -72,17 +72,11 @@ module _ (table : List ℕ) where
         measured_inside g = g measured_children ∙ ap length (sym children.is)
 
       module _ {stop : ℕ} (f : stop ≡ get_or table (width * r + 6) 0) where
-        pub measured_array : kind ≡ 8 → MeasuredAll (r + 1) stop
-        measured_array z = measured_children (omega arith) (omega arith) f
+        pub measured_container : Container kind → MeasuredAll (r + 1) stop
+        measured_container z = let b = container_kind z in measured_children b.0 b.1 f
 
-        pub measured_object : kind ≡ 9 → MeasuredAll (r + 1) stop
-        measured_object z = measured_children (omega arith) (omega arith) f
-
-        pub array_measured : {n : ℕ} → kind ≡ 8 → ((i : MeasuredAll (r + 1) stop) → n ≡ length (forms i.trees)) → n ≡ length (content h.tree)
-        array_measured z g = measured_inside (omega arith) (omega arith) f g
-
-        pub object_measured : {n : ℕ} → kind ≡ 9 → ((i : MeasuredAll (r + 1) stop) → n ≡ length (forms i.trees)) → n ≡ length (content h.tree)
-        object_measured z g = measured_inside (omega arith) (omega arith) f g
+        pub container_measured : {n : ℕ} (z : Container kind) → ((i : MeasuredAll (r + 1) stop) → n ≡ length (forms i.trees)) → n ≡ length (content h.tree)
+        container_measured z g = let b = container_kind z in measured_inside b.0 b.1 f g
 
       module _ (a : kind ≡ 8 → ⊥) (b : kind ≡ 9 → ⊥) where
         told : Texted table h.text h.tree (get_or table (width * r + 3) 0) (get_or table (width * r + 4) 0)
@@ -144,4 +138,4 @@ module _ (table : List ℕ) where
         let e = p counted_field in
         record { trees = one.rest; kept = one.kepts; here = subst (λ i. Along table text i stop one.rest) (sym f) one.behind; is = omega (arith, all_is) }
 
-pub ruleset measuring = (measured_fewer, measured_few, measured_form, measured_word, measured_array, measured_object, array_measured, object_measured, measured_rises, measured_text, measured_below)
+pub ruleset measuring = (measured_fewer, measured_few, measured_form, measured_word, measured_container, container_measured, measured_rises, measured_text, measured_below)

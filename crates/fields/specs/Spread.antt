@@ -5,11 +5,12 @@ use Rattle.std.proofs.Common.{ap₂, subst, ◌∙◌, take-append-drop, get_or-
 use mathlib.Core.List.{List, [], ◌∷◌, ◌++◌, append_assoc, append-nil}
 use native.Mathlib.Omega.{arith}
 use Rattle.std.proofs.Math.ListN.{length, length-drop}
-use Rattle.std.proofs.Math.Seq.{sets, slice, slice-cons, slice_empty, length-slice, length-sets, length-take-le}
+use Rattle.std.proofs.Math.Seq.{sets, slice, paste, length-slice, length-sets, length-take-le}
+use Rattle.std.specs.List.{copy_within}
 use Rattle.std.proofs.lemmas.List.Edits.{sets-eq}
 use Rattle.std.proofs.lemmas.List.{take-set-le}
 use Rattle.exact.specs.Place.{slice_at}
-use Rattle.rooms.specs.Stores.{sets_append, set_sets, row_behind}
+use Rattle.rooms.specs.Stores.{sets_append, row_behind}
 use Rattle.stored.specs.Form.{tagged, widest, PART, cut}
 use Rattle.stored.specs.Parts.{widest_is}
 use Rattle.stored.proofs.PartsLaws.{cut_short, cut_long, cut_length}
@@ -54,28 +55,20 @@ slice_sets l i vs h =
     ∙ (ap (λ (w : List ℕ). take (length vs) (drop i w)) (sets-eq vs l i h ∙ append_assoc (take i l) vs (drop (i + length vs) l))
     ∙ (ap (take (length vs)) (drop_at (take i l) (vs ++ drop (i + length vs) l) i (length-take-le i l (omega arith))) ∙ take_at vs (drop (i + length vs) l) (length vs) refl))
 
--- ---- bytes moved on, the last first
+-- ---- bytes moved on
 
-pub shift_start : (o : List ℕ) (a b n : ℕ) → o ≡ sets o (b + n) (slice (a + n) (a + n) o)
-shift_start o a b n = ap (λ (w : List ℕ). sets o (b + n) w) (sym (slice_empty (a + n) o))
+pub pasted : (o s : List ℕ) (at n : ℕ) → n ≤ length s → at + n ≤ length o → paste o at s n ≡ sets o at (take n s)
+pasted o s at n h k =
+    let l : length (take n s) ≡ n = length-take-le n s h in
+    let e : at + length (take n s) ≡ at + n = omega arith in
+    sym (sets-eq (take n s) o at (omega arith) ∙ ap (λ j. take at o ++ take n s ++ drop j o) e)
 
-pub shift_turn : (o out new : List ℕ) (a b n i : ℕ) → out ≡ sets o (b + i) (slice (a + i) (a + n) o) → a ≤ b → 0 < i → i ≤ n → b + n ≤ length o
-    → new ≡ set out (b + (i - 1)) (get_or out (a + (i - 1)) 0) → new ≡ sets o (b + (i - 1)) (slice (a + (i - 1)) (a + n) o)
-shift_turn o out new a b n i h l p q r e =
-    let j = i - 1 in
-    let v = get_or o (a + j) 0 in
-    let W = slice (a + i) (a + n) o in
-    let g : get_or out (a + j) 0 ≡ v = ap (λ (w : List ℕ). get_or w (a + j) 0) h ∙ get_d_sets o (b + i) W (a + j) (omega arith) in
-    let s : slice (a + j) (a + n) o ≡ v ∷ W =
-    slice-cons (a + j) (a + n) o 0 (omega arith) (omega arith) ∙ ap (λ k. v ∷ slice k (a + n) o) (let z : suc (a + j) ≡ a + i = omega arith in z) in
+pub shifted : (o new : List ℕ) (a b n : ℕ) → a + n ≤ length o → b + n ≤ length o → new ≡ copy_within o a (a + n) b → new ≡ sets o b (slice a (a + n) o)
+shifted o new a b n h k e =
+    let z : a + n - a ≡ n = omega arith in
     e
-    ∙ (ap₂ (λ (w : List ℕ) (k : ℕ). set w (b + j) k) h g
-    ∙ (set_sets o (b + j) (b + i) v W (omega arith)
-    ∙ (ap (λ k. sets (set o (b + j) v) k W) (let z : b + i ≡ suc (b + j) = omega arith in z) ∙ ap (λ (w : List ℕ). sets o (b + j) w) (sym s))))
-
-pub shift_done : (o out : List ℕ) (a b n i : ℕ) → out ≡ sets o (b + i) (slice (a + i) (a + n) o) → i ≤ 0 → out ≡ sets o b (slice a (a + n) o)
-shift_done o out a b n i h l =
-    h ∙ ap₂ (λ (j k : ℕ). sets o j (slice k (a + n) o)) (let z : b + i ≡ b = omega arith in z) (let z : a + i ≡ a = omega arith in z)
+    ∙ (ap (λ j. paste o b (drop a o) j) z
+    ∙ (pasted o (drop a o) b n (omega (arith, length-drop a o)) k ∙ ap (sets o b) (slice_at a n o)))
 
 -- ---- a head and what is moved behind it
 

@@ -4,8 +4,6 @@ use Rattle.std.proofs.Common.{ap, subst, arith}
 use Rattle.language.specs.Tree.{Positions, Tree, width, size, text_of, rows_of, Repeats}
 use Rattle.rooms.specs.Forest.{length_rows}
 use Rattle.language.specs.Lent.{words_in, bytes_in}
-use Rattle.questions.specs.declared.Found.{Found}
-use Rattle.questions.specs.declared.Found.TheVariants.{At, Missing, BadRow}
 use Rattle.questions.specs.Number.{NONE, BADROW}
 use Rattle.questions.specs.Walk.{Reply, answer, refusal, found_reply, Finds}
 use Rattle.questions.specs.Unique.{one_find, one_found}

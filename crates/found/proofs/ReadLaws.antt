@@ -6,8 +6,6 @@ use Rattle.language.specs.Document.{Document}
 use Rattle.language.specs.Lines.{lines_of}
 use Rattle.language.specs.Answered.{deepest, Stops, char, syntax, deep, end, Reads, Answered, accepted, stopped}
 use Rattle.language.specs.Lent.{words_in, bytes_in}
-use Rattle.questions.specs.declared.Found.{Found}
-use Rattle.questions.specs.declared.Found.TheVariants.{BadRow}
 use Rattle.questions.specs.Walk.{found_reply, object, Finds, refused}
 use Rattle.questions.specs.Unique.{one_found}
 use Rattle.spans.proofs.DocumentLaws.{placed, document_formed, in_document, few_rows, few_text}

@@ -1,13 +1,11 @@
 -- FINDING ON THE TABLE OF A TREE without repeated keys: `find` answers the value of the key in the object, exactly if the object has the key (01, Questions). Assumes nothing.
-use Rattle.std.specs.Prelude.{◌≡◌, ◌↔◌, List, ℕ, ◌*◌, ◌≤◌, length}
+use Rattle.std.specs.Prelude.{◌≡◌, ◌↔◌, List, ℕ, ◌*◌, ◌≤◌, length, Some, None, Ok}
 use Rattle.std.proofs.Common.{ap, subst, arith}
 use Rattle.language.specs.Tree.{Positions, Tree, width, size, text_of, rows_of, Repeats}
 use Rattle.rooms.specs.Forest.{length_rows}
 use Rattle.language.specs.Lent.{words_in, bytes_in}
-use Rattle.questions.specs.declared.Found.{Found}
-use Rattle.questions.specs.declared.Found.TheVariants.{At, Missing, BadRow}
 use Rattle.questions.specs.Number.{NONE, BADROW}
-use Rattle.questions.specs.Walk.{Reply, answer, refusal, found_reply, Finds}
+use Rattle.questions.specs.Walk.{Reply, answer, refusal, found_reply, Finds, Found, bad_row}
 use Rattle.questions.specs.Unique.{one_find, one_found}
 use Rattle.found.specs.Objects.{Pair, ValueAt, NoKey, ObjectAt, object_at}
 use Rattle.found.specs.Stands.{Stands, stands_fits}
@@ -64,15 +62,15 @@ module _ {table room s : List ℕ} {R r : ℕ} {fs : List Pair} (unique : Once f
 
 -- .. of the code's answer
 pub record Answers (f : Found) (fs : List Pair) (s : List ℕ) : Type 0 where
-  pub at : {i : ℕ} → (f ≡ At (record { 0 = i })) ↔ ValueAt fs s i
-  pub missing : (f ≡ Missing) ↔ NoKey fs s
-  pub sure : f ≡ BadRow → ⊥
+  pub at : {i : ℕ} → (f ≡ Ok (Some (record { 0 = i }))) ↔ ValueAt fs s i
+  pub missing : (f ≡ Ok None) ↔ NoKey fs s
+  pub sure : f ≡ bad_row → ⊥
 
 pub answers : {table room s : List ℕ} {R r : ℕ} {fs : List Pair} (f : Found) → Finds table R room s r (found_reply f) → Exact table R room r fs s → Answers f fs s
 answers {table} {room} {s} {R} {r} {fs} f g x =
     record {
-      at = λ {i}. (λ e. x.value.1 (so e), λ y. one_found table R room s r f (At (record { 0 = i })) g (x.value.0 y));
-      missing = (λ e. x.missing.1 (so e), λ z. one_found table R room s r f Missing g (x.missing.0 z));
+      at = λ {i}. (λ e. x.value.1 (so e), λ y. one_found table R room s r f (Ok (Some (record { 0 = i }))) g (x.value.0 y));
+      missing = (λ e. x.missing.1 (so e), λ z. one_found table R room s r f (Ok None) g (x.missing.0 z));
       sure = λ e. x.sure (so e);
     }
   where

@@ -8,9 +8,7 @@ use Rattle.language.specs.Document.{Document}
 use Rattle.language.specs.Lines.{lines_of}
 use Rattle.language.specs.Answered.{deepest, Stops, char, syntax, deep, end, Reads, Answered, accepted, stopped}
 use Rattle.language.specs.Lent.{words_in, bytes_in}
-use Rattle.questions.specs.declared.Found.{Found}
-use Rattle.questions.specs.declared.Found.TheVariants.{BadRow}
-use Rattle.questions.specs.Walk.{found_reply, object, Finds, refused}
+use Rattle.questions.specs.Walk.{found_reply, object, Finds, refused, Found, bad_row}
 use Rattle.questions.specs.Unique.{one_found}
 use Rattle.spans.proofs.DocumentLaws.{placed, document_formed, in_document, few_rows, few_text}
 use Rattle.rooms.specs.Forest.{length_rows}
@@ -70,11 +68,11 @@ pub record FindsExactly (t : Tree) (n : ℕ) (table room : List ℕ) : Type 0 wh
   -- in an object: the value of the key exactly if the object has the key, NONE exactly if not, never BADROW
   pub finding : {r : ℕ} {fs : List Pair} → ObjectAt t r fs → (s : List ℕ) (f : Found) → Finds table n room s r (found_reply f) → Answers f fs s
   -- in every other row: BADROW
-  pub others : {r : ℕ} → (Object t r → ⊥) → (s : List ℕ) (f : Found) → Finds table n room s r (found_reply f) → f ≡ BadRow
+  pub others : {r : ℕ} → (Object t r → ⊥) → (s : List ℕ) (f : Found) → Finds table n room s r (found_reply f) → f ≡ bad_row
 
-pub no_object : {table room s : List ℕ} {n r : ℕ} (f : Found) (y : Bool) → object table n r ≡ y → (y ≡ true → ⊥) → Finds table n room s r (found_reply f) → f ≡ BadRow
+pub no_object : {table room s : List ℕ} {n r : ℕ} (f : Found) (y : Bool) → object table n r ≡ y → (y ≡ true → ⊥) → Finds table n room s r (found_reply f) → f ≡ bad_row
 no_object f true e n g = absurd (n refl)
-no_object {table} {room} {s} {n} {r} f false e m g = one_found table n room s r f BadRow g (refused e)
+no_object {table} {room} {s} {n} {r} f false e m g = one_found table n room s r f bad_row g (refused e)
 
 -- A DOCUMENT THAT WAS ACCEPTED: its tree, and finding in it
 pub record Finding (doc : List ℕ) (n : ℕ) (table room : List ℕ) : Type 0 where

@@ -14,10 +14,9 @@ use Rattle.exact.specs.Comb.{alt_r}
 use Rattle.exact.specs.More.{Shuts, ll_shuts}
 use Rattle.exact.specs.Place.{peek, There, there, byte_there, none_there, alt_peek}
 use Rattle.rooms.specs.declared.Cursor.{Cursor}
-use Rattle.rooms.specs.declared.Ans.{Ans}
-use Rattle.rooms.specs.declared.Ans.TheVariants.{Ok, No}
-use Rattle.rooms.specs.declared.Far.{Far}
-use Rattle.rooms.specs.declared.Far.TheVariants.{Upto, Not}
+use Rattle.rooms.specs.Contract.{Ans}
+use Rattle.std.specs.declared.result.Result.TheVariants.{Err, Ok}
+use Rattle.rooms.specs.Contract.{Far}
 use Rattle.rooms.specs.Contract.{Answers, Reaches}
 use Rattle.rooms.specs.Laws
 use Rattle.numbers.specs.Plain.{plain_first, plain_r}
@@ -249,10 +248,10 @@ module _ (doc : List ℕ) (c : Cursor) (p k : ℕ) (R R' T T' : List ℕ) (b : �
     alike : Answers doc c p (value_r true k c.at (drop c.at doc)) a R R' T T'
     alike = rw (value_alike doc c.at k (not_plain (peek doc c.at) (seen_as e))) w
 
-    pub line_read : (n : Cursor) → a ≡ Ok n → Reaches doc c p (value_r true k c.at (drop c.at doc)) (Upto n 0) R R' T T'
+    pub line_read : (n : Cursor) → a ≡ Ok n → Reaches doc c p (value_r true k c.at (drop c.at doc)) (Ok (n, 0)) R R' T T'
     line_read n z = Laws.reaching doc c p _ R R' T T' n 0 (Laws.taken doc c p _ R R' T T' a n z alike)
 
-    pub line_not : (q : ℕ) → a ≡ No q → Reaches doc c p (value_r true k c.at (drop c.at doc)) (Not q) R R' T T'
+    pub line_not : (q : ℕ) → a ≡ Err q → Reaches doc c p (value_r true k c.at (drop c.at doc)) (Err q) R R' T T'
     line_not q z = Laws.not_reached doc c p _ R R' T T' q (Laws.refusal doc c p _ R R' T T' a q z alike)
 
 pub ruleset choices = (via_string, via_bytes, via_plain, via_deep, via_digits, via_scalar, via_array, via_object, rules)

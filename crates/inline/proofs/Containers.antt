@@ -16,12 +16,12 @@ use Rattle.exact.specs.Ll.{here_r}
 use Rattle.exact.specs.Place.{peek, peek_in, byte_is, byte_not, alt_is, alt_not, list_r}
 use Rattle.rooms.specs.declared.Cursor.{Cursor}
 use Rattle.rooms.specs.declared.Words.{Words}
-use Rattle.rooms.specs.declared.Ans.{Ans}
-use Rattle.rooms.specs.declared.Ans.TheVariants.{Ok, No}
+use Rattle.rooms.specs.Contract.{Ans}
+use Rattle.std.specs.declared.result.Result.TheVariants.{Err, Ok}
 use Rattle.rooms.specs.Contract.{onward, Takes, Ready, Answers}
 use Rattle.rooms.specs.Laws
-use Rattle.inline.specs.declared.Sep.{Sep}
-use Rattle.inline.specs.declared.Sep.TheVariants.{More, Last, Bad}
+use Rattle.inline.specs.Contract.{After}
+use Rattle.inline.specs.declared.Sep.TheVariants.{More, Last}
 use Rattle.inline.specs.Lists.{listed_r}
 use Rattle.notes.specs.Notes.{Notes}
 use Rattle.inline.specs.Brackets.{opens, closes, kind_of, Member, children, members, member_r, enclosed, bracket_r, closes_small, opens_small, children_none, count_then}
@@ -80,7 +80,7 @@ module _ (doc : List ℕ) (c d : Cursor) (x : ℕ) (b : Ans) (op : Opened doc c 
       })
 
 module _ (o : Bool) (r : Reader Tree) (doc : List ℕ) (c : Cursor) (p : ℕ) (R T : List ℕ) (b : Ans) (op : Opened doc c (opens o) b) where
-  pub container_shut : (q : ℕ) → b ≡ No q → Answers doc c p (bracket_r o r c.at (drop c.at doc)) (No c.at) R R T T
+  pub container_shut : (q : ℕ) → b ≡ Err q → Answers doc c p (bracket_r o r c.at (drop c.at doc)) (Err c.at) R R T T
   unfolding Opened
   container_shut q e = let h : (q ≡ c.at) × (peek doc c.at ≡ opens o → ⊥) = rw e at op in Laws.refused doc c p _ R R T T c.at (bracket_none o r doc c.at h.1)
 
@@ -116,34 +116,34 @@ module _ (o : Bool) (r : Reader Tree) (doc : List ℕ) (c : Cursor) (p : ℕ) (R
             filled = node_filled doc c (within c) n p (kind_of o) 0 (children o []) R R R' T T (omega arith) refl refl w x.table;
           }))
 
-    pub loop_first : (S : List ℕ) (q : ℕ) → Ready doc c → k ≡ No q → Loop o r doc c R T S R T S d 0
+    pub loop_first : (S : List ℕ) (q : ℕ) → Ready doc c → k ≡ Err q → Loop o r doc c R T S R T S d 0
     loop_first S q f z =
         rw inner (loop_start o r doc c R T S f bracketed (λ y. Laws.take_other doc d (closes o) k t q z (ap (λ (m : Cursor). peek doc m.at) inner ∙ y)))
 
 -- ---- the loop
 
 module _ (o : Bool) (r : Reader Tree) (doc : List ℕ) (c : Cursor) (R0 T0 S0 R T S R' T' : List ℕ) (cur : Cursor) (cnt : ℕ) where
-  module _ (l : Loop o r doc c R0 T0 S0 R T S cur cnt) (a : Sep) (e : Turned o (closes o) doc cur c.row (member_r o r) a R R' T T') where
-    goes_of : (n : Cursor) → a ≡ More n → Goes o doc cur c.row (member_r o r) n R R' T T'
+  module _ (l : Loop o r doc c R0 T0 S0 R T S cur cnt) (a : After) (e : Turned o (closes o) doc cur c.row (member_r o r) a R R' T T') where
+    goes_of : (n : Cursor) → a ≡ Ok (More n) → Goes o doc cur c.row (member_r o r) n R R' T T'
     unfolding Turned
     goes_of n h = rw h at e
 
-    pub ends_of : (n : Cursor) → a ≡ Last n → Ends o (closes o) doc cur c.row (member_r o r) n R R' T T'
+    pub ends_of : (n : Cursor) → a ≡ Ok (Last n) → Ends o (closes o) doc cur c.row (member_r o r) n R R' T T'
     unfolding Turned
     ends_of n h = rw h at e
 
-    stops_of : (q : ℕ) → a ≡ Bad q → Stops o (closes o) doc cur.at (member_r o r) q
+    stops_of : (q : ℕ) → a ≡ Err q → Stops o (closes o) doc cur.at (member_r o r) q
     unfolding Turned
     stops_of q h = rw h at e
 
-    pub loop_again : (S' : List ℕ) (n : Cursor) → a ≡ More n → Notes (members o) doc cur.at cur.row c.row (member_r o r cur.at (drop cur.at doc)) S S'
+    pub loop_again : (S' : List ℕ) (n : Cursor) → a ≡ Ok (More n) → Notes (members o) doc cur.at cur.row c.row (member_r o r cur.at (drop cur.at doc)) S S'
         → Loop o r doc c R0 T0 S0 R' T' S' n (cnt + 1)
     loop_again S' n h x = loop_more o r doc c R0 T0 S0 R T S R' T' cur n cnt l S' (goes_of n h) x
 
-    pub loop_falls : (n : Cursor) → a ≡ More n → length doc - n.at < length doc - cur.at
+    pub loop_falls : (n : Cursor) → a ≡ Ok (More n) → length doc - n.at < length doc - cur.at
     loop_falls n h = let q = goes_of n h in omega (arith, q.read.ahead, q.to, q.read.written.inside)
 
-    pub last_fits : (n : Cursor) → a ≡ Last n → Enclosed c n (cnt + 1)
+    pub last_fits : (n : Cursor) → a ≡ Ok (Last n) → Enclosed c n (cnt + 1)
     last_fits n h =
         let d = l.from in
         let w = written_more o r doc c R0 T0 S0 R T S R' T' cur n cnt l (ends_of n h).read in
@@ -158,21 +158,21 @@ module _ (o : Bool) (r : Reader Tree) (doc : List ℕ) (c : Cursor) (R0 T0 S0 R 
     listed : bracket_r o r c.at (drop c.at doc) ≡ bind (list_r (closes o) (member_r o r) (c.at + 1) (drop (c.at + 1) doc)) (λ ms e. ret_r (enclosed o c.at e ms) e)
     listed = bracket_list o r doc c.at (peek doc (c.at + 1)) l.opened refl l.listed
 
-    pub bad_is : (q : ℕ) → a ≡ Bad q → bracket_r o r c.at (drop c.at doc) ≡ bad q
+    pub bad_is : (q : ℕ) → a ≡ Err q → bracket_r o r c.at (drop c.at doc) ≡ bad q
     bad_is q k =
         listed ∙ ap (λ (u : Out (List (Member o))). bind u (λ ms e. ret_r (enclosed o c.at e ms) e)) (loop_stops o r doc c R0 T0 S0 R T S R' T' cur cur cnt l q (stops_of q k))
 
-    pub last_is : (n : Cursor) (k : a ≡ Last n)
+    pub last_is : (n : Cursor) (k : a ≡ Ok (Last n))
         → bracket_r o r c.at (drop c.at doc) ≡ ok (enclosed o c.at n.at (l.done ++ (ends_of n k).read.member ∷ [])) n.at (drop n.at doc)
     last_is n k =
         listed
         ∙ ap (λ (u : Out (List (Member o))). bind u (λ ms e. ret_r (enclosed o c.at e ms) e)) (loop_last o r doc c R0 T0 S0 R T S R' T' cur n cnt l (ends_of n k))
 
     module _ (p : ℕ) where
-      pub container_bad : (q : ℕ) → a ≡ Bad q → Answers doc c p (bracket_r o r c.at (drop c.at doc)) (No q) R0 R' T0 T'
+      pub container_bad : (q : ℕ) → a ≡ Err q → Answers doc c p (bracket_r o r c.at (drop c.at doc)) (Err q) R0 R' T0 T'
       container_bad q k = Laws.refused doc c p _ R0 R' T0 T' q (bad_is q k)
 
-      pub container_last : (n : Cursor) (s : Ans) (R'' : List ℕ) → a ≡ Last n → Closed c n p (cnt + 1) (kind_of o) s R' R'' → Answers doc c p (bracket_r o r c.at (drop c.at doc)) s R0 R'' T0 T'
+      pub container_last : (n : Cursor) (s : Ans) (R'' : List ℕ) → a ≡ Ok (Last n) → Closed c n p (cnt + 1) (kind_of o) s R' R'' → Answers doc c p (bracket_r o r c.at (drop c.at doc)) s R0 R'' T0 T'
       container_last n s R'' k x =
           let z = ends_of n k in
           let ms = l.done ++ z.read.member ∷ [] in

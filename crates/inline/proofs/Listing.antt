@@ -6,13 +6,11 @@ use Prim.Native.Nat.{ℕ, ◌+◌, ◌≤◌, ◌<◌}
 use native.Mathlib.Omega.{arith}
 use lib.ListN.{length, drop}
 use Rattle.language.specs.Tree.{Tree, forest, count}
-use Rattle.exact.specs.Class.{is}
 use Rattle.exact.specs.Out.{Reader, fmap, ok, bad}
 use Rattle.exact.specs.Answers.{fmap_none, fmap_join}
 use Rattle.exact.specs.Place.{peek, peek_in, list_r, list_n, bounded, list_more, list_last, list_comma, list_other, list_bad}
 use Rattle.rooms.specs.declared.Cursor.{Cursor}
 use Rattle.rooms.specs.Contract.{Ready}
-use Rattle.rooms.specs.Laws
 use Rattle.notes.specs.Flat.{flats}
 use Rattle.notes.specs.Notes.{Kept, Notes, kept_none, kept_wide, kept_trees, kept_known}
 use Rattle.inline.specs.Brackets.{opens, closes, Member, children, members, member_r, closes_small, closes_other, opens_small, children_none, children_append, count_then}

@@ -8,7 +8,6 @@ use lib.ListN.{drop}
 use borrow.Author.Rules.{rules}
 use Rattle.language.specs.Tree.{Tree, Field, field, leaf, forest, sizes, count}
 use Rattle.language.specs.Kind.{KEY}
-use Rattle.language.specs.Answered.{limit}
 use Rattle.exact.specs.Class.{is}
 use Rattle.exact.specs.Out.{Out, Reader, bind}
 use Rattle.exact.specs.Lang.{ret_r}
@@ -17,10 +16,9 @@ use Rattle.exact.specs.Ll.{word_r, word_ll}
 use Rattle.exact.specs.Answers.{map_fmap}
 use Rattle.exact.specs.Place.{peek}
 use Rattle.rooms.specs.declared.Cursor.{Cursor}
-use Rattle.rooms.specs.declared.Ans.{Ans}
-use Rattle.rooms.specs.declared.Ans.TheVariants.{Ok, No}
-use Rattle.rooms.specs.declared.Far.{Far}
-use Rattle.rooms.specs.declared.Far.TheVariants.{Upto, Not}
+use Rattle.rooms.specs.Contract.{Ans}
+use Rattle.std.specs.declared.result.Result.TheVariants.{Err, Ok}
+use Rattle.rooms.specs.Contract.{Far}
 use Rattle.rooms.specs.Contract.{Takes, Ready, Taken, Answers, Reaches}
 use Rattle.rooms.specs.Laws
 use Rattle.numbers.specs.Plain.{plain_r}
@@ -31,8 +29,8 @@ use Rattle.spelt.specs.Texts.{key_own}
 use Rattle.spelt.specs.Reading.{Keyed as Stood}
 use Rattle.notes.specs.Notes.{Gives, gives_ok, gives_fmap, gives_behind, Kept, Notes, one, kept_wide, kept_trees, kept_node, notes_known, notes_bad}
 use Rattle.notes.specs.Bare.{Always, Bare, notes_bare, keyed, kept_key}
-use Rattle.inline.specs.declared.Sep.{Sep}
-use Rattle.inline.specs.declared.Sep.TheVariants.{Last, Bad}
+use Rattle.inline.specs.Contract.{After}
+use Rattle.inline.specs.declared.Sep.TheVariants.{Last}
 use Rattle.inline.specs.Lists.{inline_pair_r}
 use Rattle.inline.specs.Values.{marks, scalar_r, value_r}
 use Rattle.inline.specs.Brackets.{opens, closes, kind_of, members, children, member_r, enclosed, bracket_r, label_r, pair_label}
@@ -51,12 +49,12 @@ module _ (doc : List ℕ) (c : Cursor) (p row parent : ℕ) (o : Out Tree) (R R'
   bare_noted : (a : Ans) → Answers doc c p o a R R' T T' → Notes one doc c.at row parent o S S
   unfolding Answers
   bare_noted (Ok n) w = taken_noted n 0 w
-  bare_noted (No q) w = notes_bad q w
+  bare_noted (Err q) w = notes_bad q w
 
   bare_reached : (a : Far) → Reaches doc c p o a R R' T T' → Notes one doc c.at row parent o S S
   unfolding Reaches
-  bare_reached (Upto n far) w = taken_noted n far w
-  bare_reached (Not q) w = notes_bad q w
+  bare_reached (Ok (n, far)) w = taken_noted n far w
+  bare_reached (Err q) w = notes_bad q w
 
 -- ---- a value, by the byte b at the cursor
 
@@ -101,7 +99,7 @@ module _ (doc : List ℕ) (c : Cursor) (row parent k b : ℕ) (y : Bool) (h : b 
 -- ---- a container
 
 module _ (o : Bool) (r : Reader Tree) (doc : List ℕ) (c : Cursor) (p : ℕ) (S : List ℕ) (b : Ans) (op : Opened doc c (opens o) b) where
-  pub shut_noted : (q : ℕ) → b ≡ No q → Notes one doc c.at c.row p (bracket_r o r c.at (drop c.at doc)) S S
+  pub shut_noted : (q : ℕ) → b ≡ Err q → Notes one doc c.at c.row p (bracket_r o r c.at (drop c.at doc)) S S
   unfolding Opened
   shut_noted q e = let h : (q ≡ c.at) × (peek doc c.at ≡ opens o → ⊥) = rw e at op in notes_bad c.at (bracket_none o r doc c.at h.1)
 
@@ -114,11 +112,11 @@ module _ (o : Bool) (r : Reader Tree) (doc : List ℕ) (c : Cursor) (p : ℕ) (S
       (kept_node c.row p (kind_of o) c.at (c.at + 1 + 1) 0 (forest (children o [])) (none_kept o doc c.at (c.at + 1 + 1) (c.row + 1) c.row S (omega arith)))
 
 module _ (o : Bool) (r : Reader Tree) (doc : List ℕ) (c : Cursor) (R0 T0 S0 R T S R' T' : List ℕ) (cur : Cursor) (cnt : ℕ)
-    (l : Loop o r doc c R0 T0 S0 R T S cur cnt) (a : Sep) (e : Turned o (closes o) doc cur c.row (member_r o r) a R R' T T') (p : ℕ) (S' : List ℕ) where
-  pub bad_noted : (q : ℕ) → a ≡ Bad q → Notes one doc c.at c.row p (bracket_r o r c.at (drop c.at doc)) S0 S'
+    (l : Loop o r doc c R0 T0 S0 R T S cur cnt) (a : After) (e : Turned o (closes o) doc cur c.row (member_r o r) a R R' T T') (p : ℕ) (S' : List ℕ) where
+  pub bad_noted : (q : ℕ) → a ≡ Err q → Notes one doc c.at c.row p (bracket_r o r c.at (drop c.at doc)) S0 S'
   bad_noted q k = notes_bad q (bad_is o r doc c R0 T0 S0 R T S R' T' cur cnt l a e q k)
 
-  pub last_noted : (n : Cursor) → a ≡ Last n → Notes (members o) doc cur.at cur.row c.row (member_r o r cur.at (drop cur.at doc)) S S'
+  pub last_noted : (n : Cursor) → a ≡ Ok (Last n) → Notes (members o) doc cur.at cur.row c.row (member_r o r cur.at (drop cur.at doc)) S S'
       → Notes one doc c.at c.row p (bracket_r o r c.at (drop c.at doc)) S0 S'
   last_noted n k x =
       let z = ends_of o r doc c R0 T0 S0 R T S R' T' cur cnt l a e n k in
@@ -139,7 +137,7 @@ colon_gives : (m : ℕ) (s : List ℕ) (k : Tree) {v : Tree} {a : ℕ} → Gives
 colon_gives m s k x = gives_behind (word_r (58 ∷ 32 ∷ []) m s) ((word_ll (58 ∷ 32 ∷ [])).exact.moves.tame m s) k x
 
 module _ (doc : List ℕ) (c : Cursor) (p : ℕ) (r : Reader Tree) (a : Ans) (R R' T T' : List ℕ) (w : Answers doc c p (label_r c.at (drop c.at doc)) a R R' T T') (S S' : List ℕ) where
-  pub label_bad : (q : ℕ) → a ≡ No q → Notes (members true) doc c.at c.row p (inline_pair_r r c.at (drop c.at doc)) S S'
+  pub label_bad : (q : ℕ) → a ≡ Err q → Notes (members true) doc c.at c.row p (inline_pair_r r c.at (drop c.at doc)) S S'
   label_bad q e =
       notes_bad q
       (pair_label r c.at (drop c.at doc) ∙ ap (λ (o : Out Tree). bind o (λ k. seq_r r λ v. ret_r (field k v))) (Laws.refusal doc c p _ R R' T T' a q e w))

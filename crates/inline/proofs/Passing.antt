@@ -1,7 +1,7 @@
 -- What two bytes, the end of a member, a bracket, and a key with its colon say of their readers.
-use mathlib.Core.Path.{◌≡◌, refl, sym, ap, ◌∙◌}
+use mathlib.Core.Path.{◌≡◌, refl, ap, ◌∙◌}
 use mathlib.Core.List.{List, [], ◌∷◌}
-use Prim.Native.Nat.{ℕ, ◌+◌, ◌≤◌, ◌<◌}
+use Prim.Native.Nat.{ℕ, ◌+◌, ◌≤◌}
 use native.Mathlib.Omega.{arith}
 use lib.ListN.{length, drop}
 use borrow.Author.Rules.{rules}
@@ -12,11 +12,11 @@ use Rattle.exact.specs.Comb.{seq_r}
 use Rattle.exact.specs.Ll.{word_r}
 use Rattle.exact.specs.Place.{peek}
 use Rattle.rooms.specs.declared.Cursor.{Cursor}
-use Rattle.rooms.specs.declared.Ans.{Ans}
-use Rattle.rooms.specs.declared.Ans.TheVariants.{Ok, No}
+use Rattle.rooms.specs.Contract.{Ans}
+use Rattle.std.specs.declared.result.Result.TheVariants.{Err, Ok}
 use Rattle.rooms.specs.Contract.{onward, Takes, Ready, Span, Taken, Answers}
 use Rattle.rooms.specs.Laws
-use Rattle.inline.specs.declared.Sep.TheVariants.{More, Last, Bad}
+use Rattle.inline.specs.declared.Sep.TheVariants.{More, Last}
 use Rattle.strings.specs.Keys.{key_r}
 use Rattle.inline.specs.Brackets.{label_r}
 use Rattle.inline.specs.Passes.{word_two, word_none, passed_in}
@@ -25,7 +25,7 @@ use Rattle.inline.specs.Contract.{no_first, no_second, Passed, Parted, Opened}
 -- ---- two bytes
 
 module _ (doc : List ℕ) (c : Cursor) (first second : ℕ) (a : Ans) (h : Takes doc c first a) where
-  pub pass_none : (p : ℕ) → a ≡ No p → Passed doc c first second (No p)
+  pub pass_none : (p : ℕ) → a ≡ Err p → Passed doc c first second (Err p)
   unfolding Passed
   pass_none p e = rw (Laws.take_place doc c first a h p e) (no_first (Laws.take_other doc c first a h p e))
 
@@ -36,7 +36,7 @@ module _ (doc : List ℕ) (c : Cursor) (first second : ℕ) (a : Ans) (h : Takes
       let k = Laws.take_next doc c first a h n e in
       let z : c.at + 1 + 1 ≡ c.at + 2 = omega arith in
       (g.0 ∙ rw (k, z) refl, Laws.take_byte doc c first a h n e, g.1 ∙ ap (λ m. peek doc m.at) k)
-  pass_on n (No p) e g =
+  pass_on n (Err p) e g =
       let k = Laws.take_next doc c first a h n e in
       let z : p ≡ c.at + 1 = g.0 ∙ ap (λ m. m.at) k in
       rw z (no_second (Laws.take_byte doc c first a h n e) (λ y. g.1 (ap (λ m. peek doc m.at) k ∙ y)))
@@ -44,23 +44,23 @@ module _ (doc : List ℕ) (c : Cursor) (first second : ℕ) (a : Ans) (h : Takes
 -- ---- what follows a member
 
 module _ (doc : List ℕ) (close : ℕ) (m : Cursor) (t : Ans) (h : Takes doc m close t) where
-  pub parted_last : (n : Cursor) → t ≡ Ok n → Parted doc close m (Last n)
+  pub parted_last : (n : Cursor) → t ≡ Ok n → Parted doc close m (Ok (Last n))
   unfolding Parted
   parted_last n e = (Laws.take_next doc m close t h n e, Laws.take_byte doc m close t h n e)
 
-  module _ (q : ℕ) (k : t ≡ No q) (a : Ans) (w : Passed doc m 44 32 a) where
-    pub parted_more : (n : Cursor) → a ≡ Ok n → Parted doc close m (More n)
+  module _ (q : ℕ) (k : t ≡ Err q) (a : Ans) (w : Passed doc m 44 32 a) where
+    pub parted_more : (n : Cursor) → a ≡ Ok n → Parted doc close m (Ok (More n))
     unfolding Parted Passed
     parted_more n e = rw e at w
 
-    pub parted_bad : (p : ℕ) → a ≡ No p → Parted doc close m (Bad p)
+    pub parted_bad : (p : ℕ) → a ≡ Err p → Parted doc close m (Err p)
     unfolding Parted Passed
     parted_bad p e = (Laws.take_other doc m close t h q k, rw e at w)
 
 -- ---- behind a bracket
 
 module _ (doc : List ℕ) (c : Cursor) (b : ℕ) (t : Ans) (h : Takes doc c b t) where
-  pub opened_not : (p : ℕ) → t ≡ No p → Opened doc c b (No p)
+  pub opened_not : (p : ℕ) → t ≡ Err p → Opened doc c b (Err p)
   unfolding Opened
   opened_not p e = (Laws.take_place doc c b t h p e, Laws.take_other doc c b t h p e)
 
@@ -100,7 +100,7 @@ span_on doc c m n t i e l s =
 -- ---- a key and its colon
 
 module _ (doc : List ℕ) (c : Cursor) (p : ℕ) (a : Ans) (R R' T T' : List ℕ) (w : Answers doc c p (key_r c.at (drop c.at doc)) a R R' T T') where
-  pub label_none : (q : ℕ) → a ≡ No q → Answers doc c p (label_r c.at (drop c.at doc)) (No q) R R' T T'
+  pub label_none : (q : ℕ) → a ≡ Err q → Answers doc c p (label_r c.at (drop c.at doc)) (Err q) R R' T T'
   unfolding label_r
   label_none q e =
       Laws.refused doc c p _ R R' T T' q (ap (λ (o : Out Tree). bind o (λ k. seq_r (word_r (58 ∷ 32 ∷ [])) λ _. ret_r k)) (Laws.refusal doc c p _ R R' T T' a q e w))
@@ -126,6 +126,6 @@ module _ (doc : List ℕ) (c : Cursor) (p : ℕ) (a : Ans) (R R' T T' : List ℕ
             span = span_on doc c m n k.tree 2 i.0 i.1 k.span;
             filled = k.filled;
           })
-      go (No q) x = Laws.refused doc c p _ R R' T T' q (behind ∙ ap (λ (o : Out ℕ). bind o (λ _. ret_r k.tree)) (word_none doc m 58 32 (omega arith) (omega arith) q x))
+      go (Err q) x = Laws.refused doc c p _ R R' T T' q (behind ∙ ap (λ (o : Out ℕ). bind o (λ _. ret_r k.tree)) (word_none doc m 58 32 (omega arith) (omega arith) q x))
 
 pub ruleset passing = (pass_none, pass_on, parted_last, parted_more, parted_bad, opened_not, opened_in, ready_after, label_none, label_passed, rules)

@@ -4,14 +4,19 @@ use Rattle.std.proofs.lemmas.List.Edits.{sets}
 use Rattle.exact.specs.Out.{Reader, ok, bad}
 use Rattle.exact.specs.Place.{peek}
 use Rattle.rooms.specs.declared.Cursor.{Cursor}
-use Rattle.rooms.specs.declared.Ans.{Ans}
-use Rattle.rooms.specs.declared.Ans.TheVariants.{Ok, No}
+use Rattle.rooms.specs.Contract.{Ans}
+use Rattle.std.specs.declared.result.Result.TheVariants.{Err, Ok}
 use Rattle.language.specs.Tree.{unlined, width, row_list}
 use Rattle.rooms.specs.Contract.{ample, onward}
 use Rattle.inline.specs.declared.Sep.{Sep}
-use Rattle.inline.specs.declared.Sep.TheVariants.{More, Last, Bad}
+use Rattle.inline.specs.declared.Sep.TheVariants.{More, Last}
 use Rattle.inline.specs.Brackets.{Member, children}
 use Rattle.inline.specs.Written.{Written}
+use Rattle.std.specs.declared.result.Result.{Result}
+
+-- what follows an element or a pair, or the place where nothing does
+abbrev pub After : Type 0
+After = Result Sep ℕ
 
 -- the numbers of a container's row fit
 pub record Enclosed (c n : Cursor) (count : ℕ) : Type 0 where
@@ -32,7 +37,7 @@ within c = record { at = c.at + 1; row = c.row + 1; text = c.text }
 
 unfoldable pub Opened : List ℕ → Cursor → ℕ → Ans → Type 0
 Opened doc c b (Ok n) = (n ≡ within c) × (b ≡ peek doc c.at)
-Opened doc c b (No p) = (p ≡ c.at) × (peek doc c.at ≡ b → ⊥)
+Opened doc c b (Err p) = (p ≡ c.at) × (peek doc c.at ≡ b → ⊥)
 
 -- TWO BYTES: where they fail, and what a pass over them says
 pub data Fails (doc : List ℕ) (at first second : ℕ) : ℕ → Type 0 where
@@ -41,13 +46,13 @@ pub data Fails (doc : List ℕ) (at first second : ℕ) : ℕ → Type 0 where
 
 unfoldable pub Passed : List ℕ → Cursor → ℕ → ℕ → Ans → Type 0
 Passed doc c first second (Ok n) = (n ≡ onward c 2) × (first ≡ peek doc c.at) × (second ≡ peek doc (c.at + 1))
-Passed doc c first second (No p) = Fails doc c.at first second p
+Passed doc c first second (Err p) = Fails doc c.at first second p
 
 -- WHAT FOLLOWS a member that ends at m: a comma and a space, the closing byte, or neither
-unfoldable pub Parted : List ℕ → ℕ → Cursor → Sep → Type 0
-Parted doc close m (More n) = (n ≡ onward m 2) × (44 ≡ peek doc m.at) × (32 ≡ peek doc (m.at + 1))
-Parted doc close m (Last n) = (n ≡ onward m 1) × (close ≡ peek doc m.at)
-Parted doc close m (Bad p) = (peek doc m.at ≡ close → ⊥) × Fails doc m.at 44 32 p
+unfoldable pub Parted : List ℕ → ℕ → Cursor → After → Type 0
+Parted doc close m (Ok (More n)) = (n ≡ onward m 2) × (44 ≡ peek doc m.at) × (32 ≡ peek doc (m.at + 1))
+Parted doc close m (Ok (Last n)) = (n ≡ onward m 1) × (close ≡ peek doc m.at)
+Parted doc close m (Err p) = (peek doc m.at ≡ close → ⊥) × Fails doc m.at 44 32 p
 
 -- A MEMBER at c, which ends at `after`; it is written, and n stands behind what follows it
 pub record Read (o : Bool) (doc : List ℕ) (c : Cursor) (parent : ℕ) (r : Reader (Member o)) (n : Cursor) (R R' T T' : List ℕ) : Type 0 where
@@ -72,7 +77,7 @@ pub data Stops (o : Bool) (close : ℕ) (doc : List ℕ) (at : ℕ) (r : Reader 
   no_member : r at (drop at doc) ≡ bad p → Stops o close doc at r p
   no_part : (m : Member o) (a : ℕ) → r at (drop at doc) ≡ ok m a (drop a doc) → at < a → (peek doc a ≡ close → ⊥) → Fails doc a 44 32 p → Stops o close doc at r p
 
-unfoldable pub Turned : (o : Bool) → ℕ → List ℕ → Cursor → ℕ → Reader (Member o) → Sep → List ℕ → List ℕ → List ℕ → List ℕ → Type 0
-Turned o close doc c parent r (More n) R R' T T' = Goes o doc c parent r n R R' T T'
-Turned o close doc c parent r (Last n) R R' T T' = Ends o close doc c parent r n R R' T T'
-Turned o close doc c parent r (Bad p) R R' T T' = Stops o close doc c.at r p
+unfoldable pub Turned : (o : Bool) → ℕ → List ℕ → Cursor → ℕ → Reader (Member o) → After → List ℕ → List ℕ → List ℕ → List ℕ → Type 0
+Turned o close doc c parent r (Ok (More n)) R R' T T' = Goes o doc c parent r n R R' T T'
+Turned o close doc c parent r (Ok (Last n)) R R' T T' = Ends o close doc c parent r n R R' T T'
+Turned o close doc c parent r (Err p) R R' T T' = Stops o close doc c.at r p

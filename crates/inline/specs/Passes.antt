@@ -8,7 +8,7 @@ use Rattle.exact.specs.Lang.{ret_r}
 use Rattle.exact.specs.Ll.{word_r}
 use Rattle.exact.specs.Place.{peek, peek_in, byte_is, byte_not}
 use Rattle.rooms.specs.declared.Cursor.{Cursor}
-use Rattle.rooms.specs.declared.Ans.TheVariants.{Ok, No}
+use Rattle.std.specs.declared.result.Result.TheVariants.{Err, Ok}
 use Rattle.rooms.specs.Contract.{onward}
 use Rattle.inline.specs.Contract.{Fails, no_first, no_second, Passed}
 
@@ -26,7 +26,7 @@ module _ (doc : List ℕ) (c : Cursor) (first second : ℕ) (small : first < 256
       ap (λ (o : Out ℕ). bind o (λ _. word_r (second ∷ []))) (byte_is doc c.at first first small e refl)
       ∙ ap (λ (o : Out ℕ). bind o (λ _. ret_r 0)) (byte_not doc (c.at + 1) second (peek doc (c.at + 1)) small₂ refl k)
 
-  pub word_none : (p : ℕ) → Passed doc c first second (No p) → word_r (first ∷ second ∷ []) c.at (drop c.at doc) ≡ bad p
+  pub word_none : (p : ℕ) → Passed doc c first second (Err p) → word_r (first ∷ second ∷ []) c.at (drop c.at doc) ≡ bad p
   unfolding Passed
   word_none p h = word_fails p h
 

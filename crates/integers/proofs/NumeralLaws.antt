@@ -1,146 +1,81 @@
--- Laws of the texts of integers, as `search` takes them. Assumes nothing.
-use mathlib.Core.Path.{◌≡◌, refl, sym, ap, ◌∙◌}
-use mathlib.Core.Bool.{Bool, true, false, ◌&&◌, and-false}
-use mathlib.Core.List.{List, [], ◌∷◌}
-use Prim.Native.Nat.{ℕ, zero, suc, ◌+◌, ◌≤◌, ◌<◌}
-use native.Mathlib.Omega.{arith}
-use native.Mathlib.Numerals.{add-one}
-use lib.ListN.{length, get_or, drop, drop_of_length-le}
-use lib.Seq.{drop-cons}
-use lib.Dec.{leb, eqb}
-use borrow.Author.Rules.{rules}
-use borrow.Author.Tests.{le-leb, lt-leb, eq-eqb, ne_eqb}
+-- Laws of the texts of integers. Assumes nothing.
+use Rattle.std.proofs.Common.{◌≡◌, ℕ, ◌+◌, ◌≤◌, ◌<◌, List, [], ◌∷◌, length, get_or, take, drop, Bor, Option, Some, None, eqb, refl, sym, ap, ◌∙◌, arith, le-leb, eqb-true}
+use mathlib.Core.Bool.{Bool, true, false, ◌&&◌, and-false, and-true}
+use Rattle.std.specs.List.{list_all}
+use Rattle.std.specs.Option.{MatchOption, unwrap_or}
+use Rattle.std.specs.Cmp.Lexicographic.{pointwise}
+use Rattle.std.specs.Char.{is_ascii_digit}
+use Rattle.std.proofs.lemmas.Bool.{lt-leb}
+use Rattle.std.proofs.lemmas.List.Recursion.{same_from_clauses}
 use Rattle.integers.specs.Integer.{MINUS, ZERO, NINE, digit, digits, counting, empty, is_integer}
-use Rattle.integers.specs.Contract.{negative}
 use Rattle.integers.specs.Signed.{sign_cases}
 
-pub at_place : (s : List ℕ) (i : ℕ) → i < length s → drop i s ≡ get_or s i 0 ∷ drop (i + 1) s
-at_place s i h = rw (add-one i) (drop-cons s i 0 h)
-
--- ---- digits
-
-digit_low : (b : ℕ) (s : List ℕ) → b < ZERO → digits (b ∷ s) ≡ false
+-- all are digits
+digits_all : (s : List ℕ) → list_all is_ascii_digit s ≡ digits s
 unfolding digits digit
-digit_low b s h = simp (lt-leb ZERO b h)
+digits_all = same_from_clauses (list_all is_ascii_digit) digits (λ b r. is_ascii_digit b && r) refl (λ _ _. refl) (λ _ _. refl)
 
-digit_high : (b : ℕ) (s : List ℕ) → NINE < b → digits (b ∷ s) ≡ false
-unfolding digits digit
-digit_high b s h = simp (lt-leb b NINE h, and-false)
-
-digit_is : (b : ℕ) (s : List ℕ) → ZERO ≤ b → b ≤ NINE → digits (b ∷ s) ≡ digits s
-unfolding digits digit
-digit_is b s l h = simp (le-leb ZERO b l, le-leb b NINE h)
-
--- the run of digits from `from` has come to i
-pub record Digits (s : List ℕ) (from i : ℕ) : Type 0 where
-  pub so : digits (drop from s) ≡ digits (drop i s)
-
-module _ (s : List ℕ) (from : ℕ) where
-  pub digits_first : Digits s from from
-  digits_first = record { so = refl }
-
-  module _ (i : ℕ) (come : Digits s from i) where
-    pub digits_over : length s ≤ i → true ≡ digits (drop from s)
-    unfolding digits
-    digits_over h = sym (come.so ∙ ap digits (drop_of_length-le s h))
-
-    module _ (inside : i < length s) where
-      pub digits_low : get_or s i 0 < ZERO → false ≡ digits (drop from s)
-      digits_low h = sym (come.so ∙ (ap digits (at_place s i inside) ∙ digit_low (get_or s i 0) (drop (i + 1) s) h))
-
-      pub digits_high : NINE < get_or s i 0 → false ≡ digits (drop from s)
-      digits_high h = sym (come.so ∙ (ap digits (at_place s i inside) ∙ digit_high (get_or s i 0) (drop (i + 1) s) h))
-
-      pub digits_more : ZERO ≤ get_or s i 0 → get_or s i 0 ≤ NINE → Digits s from (i + 1)
-      digits_more l h = record { so = come.so ∙ (ap digits (at_place s i inside) ∙ digit_is (get_or s i 0) (drop (i + 1) s) l h) }
-
--- ---- digits without a leading zero
-
-counting_cases : (b : ℕ) (s : List ℕ) (f h d : Bool) → leb 49 b ≡ f → leb b NINE ≡ h → digits s ≡ d → (f && (h && d)) ≡ counting (b ∷ s)
+pub counting_none : (s : List ℕ) → length s < 1 → false ≡ counting s
 unfolding counting
-counting_cases b s f h d p q r = rw (← p, ← q, ← r) refl
+counting_none [] h = refl
+counting_none (b ∷ s) h = absurd (omega arith)
 
-module _ (s : List ℕ) (from : ℕ) where
-  pub counting_over : length s ≤ from → false ≡ counting (drop from s)
-  unfolding counting
-  counting_over h = sym (ap counting (drop_of_length-le s h))
+pub counting_low : (s : List ℕ) → get_or s 0 0 < 49 → false ≡ counting s
+unfolding counting
+counting_low [] h = refl
+counting_low (b ∷ s) h = sym (simp (lt-leb 49 b h))
 
-  module _ (inside : from < length s) where
-    abbrev b : ℕ
-    b = get_or s from 0
+pub counting_high : (s : List ℕ) → NINE < get_or s 0 0 → false ≡ counting s
+unfolding counting
+counting_high [] h = refl
+counting_high (b ∷ s) h = sym (simp (lt-leb b NINE h, and-false))
 
-    abbrev rest : List ℕ
-    rest = drop (from + 1) s
-
-    first : counting (drop from s) ≡ counting (b ∷ rest)
-    first = ap counting (at_place s from inside)
-
-    pub counting_low : get_or s from 0 < 49 → false ≡ counting (drop from s)
-    counting_low h = counting_cases b rest false _ _ (lt-leb 49 b h) refl refl ∙ sym first
-
-    pub counting_high : NINE < get_or s from 0 → false ≡ counting (drop from s)
-    counting_high h =
-        sym (and-false (leb 49 b)) ∙ (counting_cases b rest (leb 49 b) false (digits rest) refl (lt-leb b NINE h) refl ∙ sym first)
-
-    pub counting_rest : 49 ≤ get_or s from 0 → get_or s from 0 ≤ NINE → (d : Bool) → d ≡ digits (drop (from + 1) s) → d ≡ counting (drop from s)
-    counting_rest l h d e = counting_cases b rest true true d (le-leb 49 b l) (le-leb b NINE h) (sym e) ∙ sym first
+pub counting_rest : (s : List ℕ) → 49 ≤ get_or s 0 0 → get_or s 0 0 ≤ NINE → (d : Bool) → d ≡ list_all is_ascii_digit (drop 1 s) → d ≡ counting s
+unfolding counting
+counting_rest [] l h d e = absurd (omega arith)
+counting_rest (b ∷ s) l h d e = e ∙ (digits_all s ∙ sym (simp (le-leb 49 b l, le-leb b NINE h)))
 
 -- ---- an integer's text
 
-one_byte : (s : List ℕ) → eqb (suc (length s)) 1 ≡ empty s
-unfolding empty
-one_byte [] = refl
-one_byte (b ∷ s) = ne_eqb (suc (suc (length s))) 1 (omega arith)
+-- whether the text is `0`, and whether a minus leads, as `==` and `strip_prefix` tell it
+abbrev pub is_zero : List ℕ → Bool
+is_zero s = pointwise eqb s (ZERO ∷ [])
 
-pub int_empty : (s : List ℕ) → length s ≡ 0 → false ≡ is_integer s
+abbrev pub minus_leads : List ℕ → Bool
+minus_leads s = pointwise eqb (take 1 s) (MINUS ∷ [])
+
+pub first_is : (b : ℕ) (s : List ℕ) → minus_leads (b ∷ s) ≡ eqb b MINUS
+first_is b s = and-true (eqb b MINUS)
+
+pub zero_integer : (s : List ℕ) (r : Bool) → r ≡ is_zero s → r ≡ true → r ≡ is_integer s
+unfolding is_integer empty
+zero_integer [] r h k = cc
+zero_integer (b ∷ []) r h k = let e = eqb-true b ZERO (sym (and-true (eqb b ZERO)) ∙ (sym h ∙ k)) in rw e k
+zero_integer (b ∷ c ∷ s) r h k = let e = and-false (eqb b ZERO) in cc
+
+pub minus_integer : (s : List ℕ) → minus_leads s ≡ true → counting (drop 1 s) ≡ is_integer s
 unfolding is_integer
-int_empty [] h = refl
-int_empty (b ∷ s) h = absurd (omega arith)
+minus_integer [] h = cc
+minus_integer (b ∷ s) h = sym (sign_cases b s true (eqb b ZERO) (sym (first_is b s) ∙ h) refl)
 
-pub int_minus : (s : List ℕ) → (length s ≡ 0 → ⊥) → get_or s 0 0 ≡ MINUS → (d : Bool) → d ≡ counting (drop 1 s) → d ≡ is_integer s
-int_minus [] n h d e = absurd (n refl)
-int_minus (b ∷ s) n h d e = e ∙ sym (sign_cases b s true (eqb b ZERO) (eq-eqb b MINUS h) refl)
+-- more bytes behind a zero
+zero_more : (b : ℕ) (s : List ℕ) → is_zero (b ∷ s) ≡ false → (z : Bool) → eqb b ZERO ≡ z → minus_leads (b ∷ s) ≡ false → counting (b ∷ s) ≡ is_integer (b ∷ s)
+unfolding counting empty
+zero_more b s h false z m = sym (sign_cases b s false false (sym (first_is b s) ∙ m) z)
+zero_more b [] h true z m = let e = and-true (eqb b ZERO) in cc
+zero_more b (c ∷ s) h true z m =
+    counting_low' ∙ sym (sign_cases b (c ∷ s) false true (sym (first_is b (c ∷ s)) ∙ m) z)
+  where
+    counting_low' : counting (b ∷ c ∷ s) ≡ false
+    counting_low' = let e = eqb-true b ZERO z in rw e refl
 
-module _ (s : List ℕ) (some : length s ≡ 0 → ⊥) (plain : get_or s 0 0 ≡ MINUS → ⊥) where
-  pub int_zero : get_or s 0 0 ≡ ZERO → eqb (length s) 1 ≡ is_integer s
-  int_zero h = go s some plain h
-    where
-      go : (s : List ℕ) → (length s ≡ 0 → ⊥) → (get_or s 0 0 ≡ MINUS → ⊥) → get_or s 0 0 ≡ ZERO → eqb (length s) 1 ≡ is_integer s
-      go [] n m h = absurd (n refl)
-      go (b ∷ s) n m h = one_byte s ∙ sym (sign_cases b s false true (ne_eqb b MINUS m) (eq-eqb b ZERO h))
+pub plain_integer : (s : List ℕ) → is_zero s ≡ false → minus_leads s ≡ false → counting s ≡ is_integer s
+unfolding counting is_integer
+plain_integer [] h m = refl
+plain_integer (b ∷ s) h m = zero_more b s h (eqb b ZERO) refl m
 
-  pub int_plain : (get_or s 0 0 ≡ ZERO → ⊥) → (d : Bool) → d ≡ counting (drop 0 s) → d ≡ is_integer s
-  int_plain h d e = e ∙ go s some plain h
-    where
-      go : (s : List ℕ) → (length s ≡ 0 → ⊥) → (get_or s 0 0 ≡ MINUS → ⊥) → (get_or s 0 0 ≡ ZERO → ⊥) → counting s ≡ is_integer s
-      go [] n m h = absurd (n refl)
-      go (b ∷ s) n m h = sym (sign_cases b s false false (ne_eqb b MINUS m) (ne_eqb b ZERO h))
-
-pub sign_none : (s : List ℕ) → length s ≤ 0 → false ≡ negative s
-unfolding negative
-sign_none [] h = refl
-sign_none (b ∷ s) h = absurd (omega arith)
-
-pub sign_some : (s : List ℕ) → 0 < length s → eqb (get_or s 0 0) MINUS ≡ negative s
-unfolding negative
-sign_some [] h = absurd (omega arith)
-sign_some (b ∷ s) h = refl
-
-pub ruleset numerals = (
-  digits_first,
-  digits_over,
-  digits_low,
-  digits_high,
-  digits_more,
-  counting_over,
-  counting_low,
-  counting_high,
-  counting_rest,
-  int_empty,
-  int_minus,
-  int_zero,
-  int_plain,
-  sign_none,
-  sign_some,
-  rules,
-)
+pub rest_integer : (s : List ℕ) → is_zero s ≡ false → (o : Option (Bor (List ℕ))) (whole : Bor (List ℕ)) → whole.now ≡ s
+    → MatchOption o (minus_leads s ≡ false) (λ x. (minus_leads s ≡ true) × (x.now ≡ drop 1 s) × (length x.now + 1 ≡ length s))
+    → counting (unwrap_or o whole).now ≡ is_integer s
+rest_integer s z None whole e h = ap counting e ∙ plain_integer s z h
+rest_integer s z (Some x) whole e h = ap counting h.1 ∙ minus_integer s h.0

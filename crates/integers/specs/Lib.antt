@@ -6,3 +6,4 @@ pub mod Ordered
 pub mod Contract
 pub mod Sized
 pub mod Signed
+pub mod Text

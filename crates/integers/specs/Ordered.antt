@@ -1,45 +1,45 @@
 -- COMPARING IS THE ORDER OF THE INTEGERS THAT THE TEXTS DENOTE: TOTAL, ANTISYMMETRIC, TRANSITIVE. Assumes nothing.
-use Rattle.std.specs.Prelude.{◌≡◌, ◌↔◌, ◌⊎◌, Bool, List, [], ◌∷◌, ℕ, ltb, ℤ, pos, negsuc, ◌<ℤ◌}
+use Rattle.std.specs.Prelude.{◌≡◌, ◌↔◌, ◌⊎◌, Bool, List, [], ◌∷◌, ℕ, ltb, ℤ, pos, negsuc, ◌<ℤ◌, Ok, Err}
 use Rattle.std.proofs.Math.Path.{refl}
 use Rattle.std.proofs.Common.{sym, ap, subst, ◌∙◌, inl, inr, arith, lt→ltb, ltb→lt, ltb-true, ltb-false}
 use Rattle.std.proofs.Math.Bool.{true, false}
 use Rattle.std.specs.Int.Signed.{<ℤ_irrefl}
 use Rattle.language.specs.Kind.{pick}
-use Rattle.integers.specs.declared.Compared.{Compared}
-use Rattle.integers.specs.declared.Compared.TheVariants.{Less, Equal, Greater, NotInt}
+use Rattle.std.specs.declared.cmp.Ordering.{Ordering}
+use Rattle.std.specs.declared.cmp.Ordering.TheVariants.{Less, Equal, Greater}
 use Rattle.integers.specs.Integer.{digit, digits, counting, is_integer, natural, integer}
-use Rattle.integers.specs.Order.{compared_verdict, order_of, compared}
+use Rattle.integers.specs.Order.{Compared, not_int, compared_verdict, order_of, compared}
 use Rattle.integers.specs.Unique.{verdict_tells}
 use Rattle.integers.specs.Signed.{one_text}
 
 -- what an answer says of two integers
 abbrev pub Told : Compared → ℤ → ℤ → Type 0
-Told Less x y = x <ℤ y
-Told Equal x y = x ≡ y
-Told Greater x y = y <ℤ x
-Told NotInt x y = ⊥
+Told (Ok Less) x y = x <ℤ y
+Told (Ok Equal) x y = x ≡ y
+Told (Ok Greater) x y = y <ℤ x
+Told (Err _) x y = ⊥
 
 -- ---- the order of two integers
 
-told_numbers : (a b : ℕ) → Told (order_of (pos a) (pos b)) (pos a) (pos b)
+told_numbers : (a b : ℕ) → Told (Ok (order_of (pos a) (pos b))) (pos a) (pos b)
 unfolding order_of
 told_numbers a b = go (ltb a b) (ltb b a) refl refl
   where
-    go : (x y : Bool) → ltb a b ≡ x → ltb b a ≡ y → Told (pick x Less (pick y Greater Equal)) (pos a) (pos b)
+    go : (x y : Bool) → ltb a b ≡ x → ltb b a ≡ y → Told (Ok (pick x Less (pick y Greater Equal))) (pos a) (pos b)
     go true y p q = record { lt = lt→ltb a b (ltb-true a b p) }
     go false true p q = record { lt = lt→ltb b a (ltb-true b a q) }
     go false false p q = let h = ltb-false a b p in let k = ltb-false b a q in let e : a ≡ b = omega arith in ap pos e
 
-told_negatives : (a b : ℕ) → Told (order_of (negsuc a) (negsuc b)) (negsuc a) (negsuc b)
+told_negatives : (a b : ℕ) → Told (Ok (order_of (negsuc a) (negsuc b))) (negsuc a) (negsuc b)
 unfolding order_of
 told_negatives a b = go (ltb b a) (ltb a b) refl refl
   where
-    go : (x y : Bool) → ltb b a ≡ x → ltb a b ≡ y → Told (pick x Less (pick y Greater Equal)) (negsuc a) (negsuc b)
+    go : (x y : Bool) → ltb b a ≡ x → ltb a b ≡ y → Told (Ok (pick x Less (pick y Greater Equal))) (negsuc a) (negsuc b)
     go true y p q = record { lt = lt→ltb b a (ltb-true b a p) }
     go false true p q = record { lt = lt→ltb a b (ltb-true a b q) }
     go false false p q = let h = ltb-false b a p in let k = ltb-false a b q in let e : a ≡ b = omega arith in ap negsuc e
 
-pub order_told : (x y : ℤ) → Told (order_of x y) x y
+pub order_told : (x y : ℤ) → Told (Ok (order_of x y)) x y
 unfolding order_of
 order_told (pos a) (pos b) = told_numbers a b
 order_told (pos a) (negsuc b) = record { lt = tt }
@@ -68,19 +68,19 @@ less_not_back : (x y : ℤ) → x <ℤ y → y <ℤ x → ⊥
 less_not_back x y p q = <ℤ_irrefl (less_trans x y x p q)
 
 told_alike : (c d : Compared) (x y : ℤ) → Told c x y → Told d x y → c ≡ d
-told_alike Less Less x y p q = refl
-told_alike Less Equal x y p q = absurd (less_not_same x y p q)
-told_alike Less Greater x y p q = absurd (less_not_back x y p q)
-told_alike Less NotInt x y p q = absurd q
-told_alike Equal Less x y p q = absurd (less_not_same x y q p)
-told_alike Equal Equal x y p q = refl
-told_alike Equal Greater x y p q = absurd (less_not_same y x q (sym p))
-told_alike Equal NotInt x y p q = absurd q
-told_alike Greater Less x y p q = absurd (less_not_back x y q p)
-told_alike Greater Equal x y p q = absurd (less_not_same y x p (sym q))
-told_alike Greater Greater x y p q = refl
-told_alike Greater NotInt x y p q = absurd q
-told_alike NotInt d x y p q = absurd p
+told_alike (Ok Less) (Ok Less) x y p q = refl
+told_alike (Ok Less) (Ok Equal) x y p q = absurd (less_not_same x y p q)
+told_alike (Ok Less) (Ok Greater) x y p q = absurd (less_not_back x y p q)
+told_alike (Ok Less) (Err _) x y p q = absurd q
+told_alike (Ok Equal) (Ok Less) x y p q = absurd (less_not_same x y q p)
+told_alike (Ok Equal) (Ok Equal) x y p q = refl
+told_alike (Ok Equal) (Ok Greater) x y p q = absurd (less_not_same y x q (sym p))
+told_alike (Ok Equal) (Err _) x y p q = absurd q
+told_alike (Ok Greater) (Ok Less) x y p q = absurd (less_not_back x y q p)
+told_alike (Ok Greater) (Ok Equal) x y p q = absurd (less_not_same y x p (sym q))
+told_alike (Ok Greater) (Ok Greater) x y p q = refl
+told_alike (Ok Greater) (Err _) x y p q = absurd q
+told_alike (Err _) d x y p q = absurd p
 
 -- ---- comparing texts
 
@@ -95,7 +95,7 @@ module _ (a b : List ℕ) where
   abbrev y : ℤ
   y = integer b
 
-  of_integers : is_integer a ≡ true → is_integer b ≡ true → compared a b ≡ compared_verdict (order_of x y)
+  of_integers : is_integer a ≡ true → is_integer b ≡ true → compared a b ≡ compared_verdict (Ok (order_of x y))
   unfolding compared
   of_integers p q = simp (p, q)
 
@@ -104,27 +104,27 @@ module _ (a b : List ℕ) where
   compare_order p q c = (to, from)
     where
       to : Answers a b c → Told c x y
-      to h = subst (λ d. Told d x y) (sym (verdict_tells c (order_of x y) (h ∙ of_integers p q))) (order_told x y)
+      to h = subst (λ d. Told d x y) (sym (verdict_tells c (Ok (order_of x y)) (h ∙ of_integers p q))) (order_told x y)
 
       from : Told c x y → Answers a b c
-      from t = ap compared_verdict (told_alike c (order_of x y) x y t (order_told x y)) ∙ sym (of_integers p q)
+      from t = ap compared_verdict (told_alike c (Ok (order_of x y)) x y t (order_told x y)) ∙ sym (of_integers p q)
 
   -- an answer other than NOTINT is given of integers' texts alone
-  pub compare_integers : (c : Compared) → (c ≡ NotInt → ⊥) → Answers a b c → (is_integer a ≡ true) × (is_integer b ≡ true)
+  pub compare_integers : (c : Compared) → (c ≡ not_int → ⊥) → Answers a b c → (is_integer a ≡ true) × (is_integer b ≡ true)
   unfolding compared
   compare_integers c n h = go (is_integer a) (is_integer b) refl refl h
     where
       go : (m n : Bool) → is_integer a ≡ m → is_integer b ≡ n
-          → compared_verdict c ≡ pick m (pick n (compared_verdict (order_of x y)) (compared_verdict NotInt)) (compared_verdict NotInt)
+          → compared_verdict c ≡ pick m (pick n (compared_verdict (Ok (order_of x y))) (compared_verdict not_int)) (compared_verdict not_int)
           → (is_integer a ≡ true) × (is_integer b ≡ true)
       go true true p q e = (p, q)
-      go true false p q e = absurd (n (verdict_tells c NotInt e))
-      go false k p q e = absurd (n (verdict_tells c NotInt e))
+      go true false p q e = absurd (n (verdict_tells c not_int e))
+      go false k p q e = absurd (n (verdict_tells c not_int e))
 
 -- comparing answers that the left is at most the right: -1 or 0
 pub data AtMost (a b : List ℕ) : Type 0 where
-  less : Answers a b Less → AtMost a b
-  same : Answers a b Equal → AtMost a b
+  less : Answers a b (Ok Less) → AtMost a b
+  same : Answers a b (Ok Equal) → AtMost a b
 
 -- at most, in terms of the integers
 data Below (x y : ℤ) : Type 0 where
@@ -136,34 +136,33 @@ record Placed (a b : List ℕ) : Type 0 where
   on_right : is_integer b ≡ true
   below : Below (integer a) (integer b)
 
-less_other : Less ≡ NotInt → ⊥
-less_other e = let z : ◌≡◌ {A = ℕ} 0 1 = cc in omega arith
+less_other : Ok Less ≡ not_int → ⊥
+less_other e = cc
 
-same_other : Equal ≡ NotInt → ⊥
-same_other e = let z : ◌≡◌ {A = ℕ} 0 1 = cc in omega arith
+same_other : Ok Equal ≡ not_int → ⊥
+same_other e = cc
 
 placed : (a b : List ℕ) → AtMost a b → Placed a b
 placed a b (less h) =
-    let i = compare_integers a b Less less_other h in
-    record { on_left = i.0; on_right = i.1; below = under ((compare_order a b i.0 i.1 Less).0 h) }
+    let i = compare_integers a b (Ok Less) less_other h in
+    record { on_left = i.0; on_right = i.1; below = under ((compare_order a b i.0 i.1 (Ok Less)).0 h) }
 placed a b (same h) =
-    let i = compare_integers a b Equal same_other h in
-    record { on_left = i.0; on_right = i.1; below = level ((compare_order a b i.0 i.1 Equal).0 h) }
+    let i = compare_integers a b (Ok Equal) same_other h in
+    record { on_left = i.0; on_right = i.1; below = level ((compare_order a b i.0 i.1 (Ok Equal)).0 h) }
 
 at_most : (a b : List ℕ) → is_integer a ≡ true → is_integer b ≡ true → Below (integer a) (integer b) → AtMost a b
-at_most a b p q (under l) = less ((compare_order a b p q Less).1 l)
-at_most a b p q (level e) = same ((compare_order a b p q Equal).1 e)
+at_most a b p q (under l) = less ((compare_order a b p q (Ok Less)).1 l)
+at_most a b p q (level e) = same ((compare_order a b p q (Ok Equal)).1 e)
 
 -- ---- the laws of an order
 
 pub compare_total : (a b : List ℕ) → is_integer a ≡ true → is_integer b ≡ true → AtMost a b ⊎ AtMost b a
 compare_total a b p q = go (order_of (integer a) (integer b)) (order_told (integer a) (integer b))
   where
-    go : (c : Compared) → Told c (integer a) (integer b) → AtMost a b ⊎ AtMost b a
+    go : (o : Ordering) → Told (Ok o) (integer a) (integer b) → AtMost a b ⊎ AtMost b a
     go Less t = inl (at_most a b p q (under t))
     go Equal t = inl (at_most a b p q (level t))
     go Greater t = inr (at_most b a q p (under t))
-    go NotInt t = absurd t
 
 below_back : (x y : ℤ) → Below x y → Below y x → x ≡ y
 below_back x y (under l) (under k) = absurd (less_not_back x y l k)

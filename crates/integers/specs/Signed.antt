@@ -1,14 +1,17 @@
 -- AN INTEGER'S TEXT BY ITS SIGN, AND THAT TWO TEXTS OF ONE INTEGER ARE ONE TEXT. Assumes nothing.
-use Rattle.std.specs.Prelude.{◌≡◌, List, [], ◌∷◌, ℕ, zero, suc, ◌<◌, length, ltb, eqb, ℤ, pos, negsuc, neg_ℤ}
+use Rattle.std.specs.Prelude.{◌≡◌, List, [], ◌∷◌, ℕ, zero, suc, ◌<◌, length, eqb, ℤ, pos, negsuc, neg_ℤ}
 use Rattle.std.proofs.Math.Path.{refl}
 use Rattle.std.proofs.Common.{sym, subst, ◌∙◌, arith, le_refl, le-ltb, eq-eqb, ne_eqb}
 use mathlib.Core.Bool.{Bool, true, false}
 use Rattle.std.proofs.Math.Decide.{ℕ_discrete}
 use Rattle.language.specs.Kind.{pick}
-use Rattle.integers.specs.declared.Compared.TheVariants.{Less, Equal, Greater}
+use Rattle.std.specs.Ordering.{nat_cmp, ordering_then}
+use Rattle.std.specs.Cmp.Lexicographic.{slice_cmp}
+use Rattle.std.specs.declared.cmp.Ordering.{Ordering}
+use Rattle.std.specs.declared.cmp.Ordering.TheVariants.{Less, Equal, Greater}
 use Rattle.integers.specs.Integer.{MINUS, ZERO, digit, digits, counting, empty, is_integer, natural, integer}
 use Rattle.integers.specs.Order.{order_of}
-use Rattle.integers.specs.Contract.{by_bytes, by_size}
+use Rattle.integers.specs.Contract.{by_size}
 use Rattle.integers.specs.Sized.{Numeral, counting_numeral, counting_positive, bytes_equal, size_say, says_order, says_negated}
 
 -- ---- one text
@@ -79,12 +82,12 @@ module _ (b c : ℕ) (s t : List ℕ) (p : is_integer (b ∷ s) ≡ true) (q : i
 
 size_equal : (s t : List ℕ) → by_size s t ≡ Equal → s ≡ t
 unfolding by_size
-size_equal s t = go (ltb (length s) (length t)) (ltb (length t) (length s))
+size_equal s t = go (nat_cmp (length s) (length t))
   where
-    go : (x y : Bool) → pick x Less (pick y Greater (by_bytes s t)) ≡ Equal → s ≡ t
-    go true y h = let z : ◌≡◌ {A = ℕ} 0 1 = cc in absurd (omega arith)
-    go false true h = let z : ◌≡◌ {A = ℕ} 0 1 = cc in absurd (omega arith)
-    go false false h = bytes_equal s t h
+    go : (o : Ordering) → ordering_then o (slice_cmp nat_cmp s t) ≡ Equal → s ≡ t
+    go Less h = cc
+    go Equal h = bytes_equal s t h
+    go Greater h = cc
 
 pub order_self : (x : ℤ) → order_of x x ≡ Equal
 unfolding order_of
@@ -101,10 +104,10 @@ same_signs b c s t p q e (yes m) (yes n) =
     cc
 same_signs b c s t p q e (yes m) (no n) =
     let f = minus_plain b c s t p q m n ∙ order_same (integer (b ∷ s)) (integer (c ∷ t)) e in
-    let z : ◌≡◌ {A = ℕ} 0 1 = cc in absurd (omega arith)
+    cc
 same_signs b c s t p q e (no m) (yes n) =
     let f = plain_minus b c s t p q m n ∙ order_same (integer (b ∷ s)) (integer (c ∷ t)) e in
-    let z : ◌≡◌ {A = ℕ} 0 1 = cc in absurd (omega arith)
+    cc
 same_signs b c s t p q e (no m) (no n) =
     size_equal (b ∷ s) (c ∷ t) (plain_plain b c s t p q m n ∙ order_same (integer (b ∷ s)) (integer (c ∷ t)) e)
 

@@ -1,21 +1,22 @@
 -- DIGITS WITHOUT LEADING ZEROS, BY LENGTH AND THEN BYTE BY BYTE, STAND AS THE INTEGERS THAT THEY DENOTE. Assumes nothing.
-use Rattle.std.specs.Prelude.{◌≡◌, refl, List, [], ◌∷◌, ℕ, zero, suc, ◌+◌, ◌*◌, ◌-◌, ◌≤◌, ◌<◌, length, leb, ltb, pos, neg_ℤ}
-use Rattle.std.proofs.Common.{subst, arith, lt-ltb, le-ltb, le-leb, leb-true, ltb-true, ltb-false}
+use Rattle.std.specs.Prelude.{◌≡◌, refl, List, [], ◌∷◌, ℕ, zero, suc, ◌+◌, ◌*◌, ◌-◌, ◌≤◌, ◌<◌, length, leb, pos, neg_ℤ}
+use Rattle.std.proofs.Common.{subst, arith, lt-ltb, le-ltb, le-leb, leb-true}
 use mathlib.Core.Bool.{Bool, true, false, ◌&&◌, and-eq-true_iff}
 use Rattle.std.proofs.Math.Nat.{suc_inj}
-use Rattle.language.specs.Kind.{pick}
-use Rattle.integers.specs.declared.Compared.{Compared}
-use Rattle.integers.specs.declared.Compared.TheVariants.{Less, Equal, Greater, NotInt}
+use Rattle.std.specs.Ordering.{MatchOrdering, nat_cmp, ordering_then}
+use Rattle.std.specs.Cmp.Lexicographic.{slice_cmp}
+use Rattle.std.specs.declared.cmp.Ordering.{Ordering}
+use Rattle.std.specs.declared.cmp.Ordering.TheVariants.{Less, Equal, Greater}
+use Rattle.std.proofs.lemmas.Cmp.{ranked}
 use Rattle.integers.specs.Integer.{ZERO, NINE, digit, digits, counting, natural}
 use Rattle.integers.specs.Order.{order_of}
-use Rattle.integers.specs.Contract.{by_bytes, by_size}
+use Rattle.integers.specs.Contract.{by_size}
 
 -- what an answer says of two numbers
-abbrev pub Says : Compared → ℕ → ℕ → Type 0
+abbrev pub Says : Ordering → ℕ → ℕ → Type 0
 Says Less x y = x < y
 Says Equal x y = x ≡ y
 Says Greater x y = y < x
-Says NotInt x y = ⊥
 
 -- ---- digits
 
@@ -53,29 +54,20 @@ front n b = 10 * n + (b - ZERO)
 
 -- two runs of one length, by their first bytes and what is said of the rest
 bytes_step : (b c : ℕ) (s t : List ℕ) (n : ℕ) → length s ≡ length t → digits (b ∷ s) ≡ true → digits (c ∷ t) ≡ true
-    → Says (by_bytes s t) (natural (front n b) s) (natural (front n b) t)
-    → Says (by_bytes (b ∷ s) (c ∷ t)) (natural n (b ∷ s)) (natural n (c ∷ t))
-unfolding by_bytes natural
-bytes_step b c s t n l d e rest = go (ltb b c) (ltb c b) refl refl
+    → Says (slice_cmp nat_cmp s t) (natural (front n b) s) (natural (front n b) t)
+    → Says (slice_cmp nat_cmp (b ∷ s) (c ∷ t)) (natural n (b ∷ s)) (natural n (c ∷ t))
+unfolding natural
+bytes_step b c s t n l d e rest = go (nat_cmp b c) (ranked b c _ refl)
   where
-    go : (x y : Bool) → ltb b c ≡ x → ltb c b ≡ y
-        → Says (pick x Less (pick y Greater (by_bytes s t))) (natural (front n b) s) (natural (front n c) t)
-    go true y p q =
-        let k = ltb-true b c p in
-        let z = digit_bottom b s d in
-        natural_less s t (front n b) (front n c) (omega arith) (omega arith) (digits_rest b s d)
-    go false true p q =
-        let k = ltb-true c b q in
-        let z = digit_bottom c t e in
-        natural_less t s (front n c) (front n b) (omega arith) (omega arith) (digits_rest c t e)
-    go false false p q =
-        let k = ltb-false b c p in
-        let j = ltb-false c b q in
-        let h : b ≡ c = omega arith in
-        subst (λ x. Says (by_bytes s t) (natural (front n b) s) (natural (front n x) t)) h rest
+    go : (o : Ordering) → MatchOrdering o (b < c) (b ≡ c) (c < b)
+        → Says (ordering_then o (slice_cmp nat_cmp s t)) (natural (front n b) s) (natural (front n c) t)
+    go Less k = let z = digit_bottom b s d in natural_less s t (front n b) (front n c) (omega arith) (omega arith) (digits_rest b s d)
+    go Equal h = subst (λ x. Says (slice_cmp nat_cmp s t) (natural (front n b) s) (natural (front n x) t)) h rest
+    go Greater k = let z = digit_bottom c t e in natural_less t s (front n c) (front n b) (omega arith) (omega arith) (digits_rest c t e)
 
-bytes_say : (s t : List ℕ) (n : ℕ) → length s ≡ length t → digits s ≡ true → digits t ≡ true → Says (by_bytes s t) (natural n s) (natural n t)
-unfolding by_bytes natural
+bytes_say : (s t : List ℕ) (n : ℕ) → length s ≡ length t → digits s ≡ true → digits t ≡ true
+    → Says (slice_cmp nat_cmp s t) (natural n s) (natural n t)
+unfolding natural
 bytes_say [] [] n l d e = refl
 bytes_say [] (c ∷ t) n l d e = absurd (omega arith)
 bytes_say (b ∷ s) [] n l d e = absurd (omega arith)
@@ -83,23 +75,17 @@ bytes_say (b ∷ s) (c ∷ t) n l d e =
     bytes_step b c s t n (suc_inj l) d e (bytes_say s t (front n b) (suc_inj l) (digits_rest b s d) (digits_rest c t e))
 
 -- equal bytes are equal texts
-pub bytes_equal : (s t : List ℕ) → by_bytes s t ≡ Equal → s ≡ t
-unfolding by_bytes
+pub bytes_equal : (s t : List ℕ) → slice_cmp nat_cmp s t ≡ Equal → s ≡ t
 bytes_equal [] [] h = refl
-bytes_equal [] (c ∷ t) h = let z : ◌≡◌ {A = ℕ} 0 1 = cc in absurd (omega arith)
-bytes_equal (b ∷ s) [] h = let z : ◌≡◌ {A = ℕ} 0 1 = cc in absurd (omega arith)
-bytes_equal (b ∷ s) (c ∷ t) h = go (ltb b c) (ltb c b) refl refl (bytes_equal s t) h
+bytes_equal [] (c ∷ t) h = cc
+bytes_equal (b ∷ s) [] h = cc
+bytes_equal (b ∷ s) (c ∷ t) h = go (nat_cmp b c) (ranked b c _ refl) (bytes_equal s t) h
   where
-    go : (x y : Bool) → ltb b c ≡ x → ltb c b ≡ y → (by_bytes s t ≡ Equal → s ≡ t)
-        → pick x Less (pick y Greater (by_bytes s t)) ≡ Equal → b ∷ s ≡ c ∷ t
-    go true y p q ih h = let z : ◌≡◌ {A = ℕ} 0 1 = cc in absurd (omega arith)
-    go false true p q ih h = let z : ◌≡◌ {A = ℕ} 0 1 = cc in absurd (omega arith)
-    go false false p q ih h =
-        let k = ltb-false b c p in
-        let j = ltb-false c b q in
-        let e : b ≡ c = omega arith in
-        let f = ih h in
-        cc
+    go : (o : Ordering) → MatchOrdering o (b < c) (b ≡ c) (c < b) → (slice_cmp nat_cmp s t ≡ Equal → s ≡ t)
+        → ordering_then o (slice_cmp nat_cmp s t) ≡ Equal → b ∷ s ≡ c ∷ t
+    go Less k ih h = cc
+    go Equal e ih h = let f = ih h in cc
+    go Greater k ih h = cc
 
 -- ---- digits without leading zeros
 
@@ -140,33 +126,28 @@ fewer_less s (c ∷ t) p q l =
 
 pub size_say : (s t : List ℕ) → Numeral s → Numeral t → Says (by_size s t) (natural 0 s) (natural 0 t)
 unfolding by_size
-size_say s t p q = go (ltb (length s) (length t)) (ltb (length t) (length s)) refl refl
+size_say s t p q = go (nat_cmp (length s) (length t)) (ranked (length s) (length t) _ refl)
   where
-    go : (x y : Bool) → ltb (length s) (length t) ≡ x → ltb (length t) (length s) ≡ y
-        → Says (pick x Less (pick y Greater (by_bytes s t))) (natural 0 s) (natural 0 t)
-    go true y h k = fewer_less s t p q (ltb-true (length s) (length t) h)
-    go false true h k = fewer_less t s q p (ltb-true (length t) (length s) k)
-    go false false h k =
-        let m = ltb-false (length s) (length t) h in
-        let n = ltb-false (length t) (length s) k in
-        bytes_say s t 0 (omega arith) p.all q.all
+    go : (o : Ordering) → MatchOrdering o (length s < length t) (length s ≡ length t) (length t < length s)
+        → Says (ordering_then o (slice_cmp nat_cmp s t)) (natural 0 s) (natural 0 t)
+    go Less k = fewer_less s t p q k
+    go Equal k = bytes_say s t 0 k p.all q.all
+    go Greater k = fewer_less t s q p k
 
 -- ---- integers
 
 -- what is said of two numbers is the order of the integers
-pub says_order : (c : Compared) (x y : ℕ) → Says c x y → c ≡ order_of (pos x) (pos y)
+pub says_order : (c : Ordering) (x y : ℕ) → Says c x y → c ≡ order_of (pos x) (pos y)
 unfolding order_of
 says_order Less x y h = simp (lt-ltb x y h)
 says_order Equal x y h = let a : y ≤ x = omega arith in let b : x ≤ y = omega arith in simp (le-ltb x y a, le-ltb y x b)
 says_order Greater x y h = let a : y ≤ x = omega arith in simp (le-ltb x y a, lt-ltb y x h)
-says_order NotInt x y h = absurd h
 
 -- and the other way round below zero
-pub says_negated : (c : Compared) (x y : ℕ) → 0 < x → 0 < y → Says c y x → c ≡ order_of (neg_ℤ (pos x)) (neg_ℤ (pos y))
+pub says_negated : (c : Ordering) (x y : ℕ) → 0 < x → 0 < y → Says c y x → c ≡ order_of (neg_ℤ (pos x)) (neg_ℤ (pos y))
 unfolding order_of
 says_negated c zero y p q h = absurd (omega arith)
 says_negated c (suc x) zero p q h = absurd (omega arith)
 says_negated Less (suc x) (suc y) p q h = let a : y < x = omega arith in simp (lt-ltb y x a)
 says_negated Equal (suc x) (suc y) p q h = let a : y ≤ x = omega arith in let b : x ≤ y = omega arith in simp (le-ltb x y a, le-ltb y x b)
 says_negated Greater (suc x) (suc y) p q h = let a : x < y = omega arith in let b : x ≤ y = omega arith in simp (le-ltb y x b, lt-ltb x y a)
-says_negated NotInt (suc x) (suc y) p q h = absurd h

@@ -1,9 +1,8 @@
 -- COMPARING HAS ONE ANSWER ONLY (01, What each statement has to settle). Assumes nothing.
-use Rattle.std.specs.Prelude.{◌≡◌, refl, List, ℕ, ◌+◌, ℤ, pos, negsuc}
+use Rattle.std.specs.Prelude.{◌≡◌, refl, List, ℕ, ◌+◌, ℤ, pos, negsuc, Ok, Err}
 use Rattle.std.proofs.Common.{sym, ap, ◌∙◌, arith}
-use Rattle.integers.specs.declared.Compared.{Compared}
-use Rattle.integers.specs.declared.Compared.TheVariants.{Less, Equal, Greater, NotInt}
-use Rattle.integers.specs.Order.{Verdict, compared_verdict, compared}
+use Rattle.std.specs.declared.cmp.Ordering.TheVariants.{Less, Equal, Greater}
+use Rattle.integers.specs.Order.{Verdict, Compared, compared_verdict, compared}
 
 -- a verdict as one natural number
 mark : Verdict → ℕ
@@ -15,22 +14,22 @@ mark v = v.number + rank v.value
 
 pub verdict_tells : (c d : Compared) → compared_verdict c ≡ compared_verdict d → c ≡ d
 unfolding mark
-verdict_tells Less Less e = refl
-verdict_tells Less Equal e = absurd (omega (arith, ap mark e))
-verdict_tells Less Greater e = absurd (omega (arith, ap mark e))
-verdict_tells Less NotInt e = absurd (omega (arith, ap mark e))
-verdict_tells Equal Less e = absurd (omega (arith, ap mark e))
-verdict_tells Equal Equal e = refl
-verdict_tells Equal Greater e = absurd (omega (arith, ap mark e))
-verdict_tells Equal NotInt e = absurd (omega (arith, ap mark e))
-verdict_tells Greater Less e = absurd (omega (arith, ap mark e))
-verdict_tells Greater Equal e = absurd (omega (arith, ap mark e))
-verdict_tells Greater Greater e = refl
-verdict_tells Greater NotInt e = absurd (omega (arith, ap mark e))
-verdict_tells NotInt Less e = absurd (omega (arith, ap mark e))
-verdict_tells NotInt Equal e = absurd (omega (arith, ap mark e))
-verdict_tells NotInt Greater e = absurd (omega (arith, ap mark e))
-verdict_tells NotInt NotInt e = refl
+verdict_tells (Ok Less) (Ok Less) e = refl
+verdict_tells (Ok Less) (Ok Equal) e = absurd (omega (arith, ap mark e))
+verdict_tells (Ok Less) (Ok Greater) e = absurd (omega (arith, ap mark e))
+verdict_tells (Ok Less) (Err _) e = absurd (omega (arith, ap mark e))
+verdict_tells (Ok Equal) (Ok Less) e = absurd (omega (arith, ap mark e))
+verdict_tells (Ok Equal) (Ok Equal) e = refl
+verdict_tells (Ok Equal) (Ok Greater) e = absurd (omega (arith, ap mark e))
+verdict_tells (Ok Equal) (Err _) e = absurd (omega (arith, ap mark e))
+verdict_tells (Ok Greater) (Ok Less) e = absurd (omega (arith, ap mark e))
+verdict_tells (Ok Greater) (Ok Equal) e = absurd (omega (arith, ap mark e))
+verdict_tells (Ok Greater) (Ok Greater) e = refl
+verdict_tells (Ok Greater) (Err _) e = absurd (omega (arith, ap mark e))
+verdict_tells (Err _) (Ok Less) e = absurd (omega (arith, ap mark e))
+verdict_tells (Err _) (Ok Equal) e = absurd (omega (arith, ap mark e))
+verdict_tells (Err _) (Ok Greater) e = absurd (omega (arith, ap mark e))
+verdict_tells (Err _) (Err _) e = refl
 
 pub one_compared : (left right : List ℕ) (c d : Compared) → compared_verdict c ≡ compared left right → compared_verdict d ≡ compared left right → c ≡ d
 one_compared left right c d p q = verdict_tells c d (p ∙ sym q)

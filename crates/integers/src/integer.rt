@@ -1,7 +1,6 @@
-// Whether a text is an integer's, and its sign.
+// Whether a text is an integer's.
 ghost use Rattle.std.specs.Prelude.{◌≡◌};
 ghost use Rattle.integers.specs.Integer.{is_integer};
-ghost use Rattle.integers.specs.Contract.{negative};
 
 use super::numeral::counting;
 
@@ -9,24 +8,5 @@ use super::numeral::counting;
 pub fn is_integer(s: &[u8]) -> bool
     ensures { result ≡ is_integer s.now }
 {
-    if s.len() == 0 {
-        return false;
-    }
-    if s[0] == 45 {
-        return counting(&*s, 1);
-    }
-    if s[0] == 48 {
-        return s.len() == 1;
-    }
-    counting(&*s, 0)
-}
-
-// Whether the text begins with a minus.
-pub fn negative(s: &[u8]) -> bool
-    ensures { result ≡ negative s.now }
-{
-    if 0 < s.len() {
-        return s[0] == 45;
-    }
-    false
+    s == b"0".as_slice() || counting(s.strip_prefix(b"-").unwrap_or(s))
 }

@@ -4,15 +4,12 @@
 mod comparing;
 mod integer;
 mod numeral;
+mod text;
 
 pub use comparing::compare;
 pub use integer::is_integer;
+pub use text::Text;
 
-// How the left integer stands to the right one.
-#[derive(Clone, Copy)]
-pub enum Compared {
-    Less,
-    Equal,
-    Greater,
-    NotInt,
-}
+// A text compared isn't an integer's.
+#[derive(Clone, Copy, Debug, PartialEq, Eq)]
+pub struct NotInt;

@@ -14,7 +14,7 @@ use Rattle.exact.specs.Block.{lead, ind_fits}
 use Rattle.exact.specs.Lines.{reached, raised, soft_reached}
 use Rattle.rooms.specs.Told.{spot}
 use Rattle.rooms.specs.declared.Cursor.{Cursor}
-use Rattle.rooms.specs.declared.Block.TheVariants.{Done, Bad}
+use Rattle.std.specs.declared.result.Result.TheVariants.{Err, Ok}
 use Rattle.rooms.specs.Contract.{Ready, Span, Filled, Blocks}
 use Rattle.rooms.specs.Stores.{row_behind}
 use Rattle.rooms.specs.Laws
@@ -213,7 +213,7 @@ module _ (o : Bool) (k n : ℕ) (doc : List ℕ) (c : Cursor) (R₀ T₀ : List 
 
     pub block_last : (parent p : ℕ) (R'' : List ℕ) → Ended o doc m.at n p
         → R'' ≡ sets R' (width * c.row) (row_list unlined (kind_of o) c.at e 0 (cnt + 1) parent m.row)
-        → Blocks doc c parent (block_r o k n c.at (drop c.at doc)) (Done m (max (max far f) p) e) R₀ R'' T₀ T'
+        → Blocks doc c parent (block_r o k n c.at (drop c.at doc)) (Ok (m, max (max far f) p, e)) R₀ R'' T₀ T'
     block_last parent p R'' q h =
         let ts = children o (l.done ++ g.member ∷ []) in
         Laws.a_block doc c parent _ R₀ R'' T₀ T' m (max (max far f) p) e
@@ -231,7 +231,7 @@ module _ (o : Bool) (k n : ℕ) (doc : List ℕ) (c : Cursor) (R₀ T₀ : List 
 
   -- a member is refused
   pub block_bad : (R T R' T' : List ℕ) (cur : Cursor) (far cnt parent p : ℕ) → Loop o k n doc c R₀ T₀ R T cur far cnt → member_r o k n cur.at (drop cur.at doc) ≡ bad p
-      → Blocks doc c parent (block_r o k n c.at (drop c.at doc)) (Bad (max far p)) R₀ R' T₀ T'
+      → Blocks doc c parent (block_r o k n c.at (drop c.at doc)) (Err (max far p)) R₀ R' T₀ T'
   unfolding block_r
   block_bad R T R' T' cur far cnt parent p l h =
       Laws.not_block doc c parent _ R₀ R' T₀ T' (max far p)
@@ -248,12 +248,12 @@ module _ (k n : ℕ) (doc : List ℕ) (c : Cursor) (parent : ℕ) (R₀ T₀ R' 
   bullet_is = map_fmap (λ i. block_of false (i ∷ [])) (dashed_r (item_r k (suc (suc n))) c.at (drop c.at doc))
 
   pub bullet_bad : (p : ℕ) → member_r false k n c.at (drop c.at doc) ≡ bad p
-      → Blocks doc c parent (bullet_r (item_r k (suc (suc n))) c.at (drop c.at doc)) (Bad p) R₀ R' T₀ T'
+      → Blocks doc c parent (bullet_r (item_r k (suc (suc n))) c.at (drop c.at doc)) (Err p) R₀ R' T₀ T'
   bullet_bad p h = Laws.not_block doc c parent _ R₀ R' T₀ T' p (bullet_is ∙ ap (fmap (λ i. block_of false (i ∷ []))) h)
 
   pub bullet_last : (R'' : List ℕ) (m : Cursor) (far e : ℕ) → Read false doc (within c) c.row (member_r false k n c.at (drop c.at doc)) m far e R₀ R' T₀ T'
       → R'' ≡ sets R' (width * c.row) (row_list unlined (kind_of false) c.at e 0 1 parent m.row)
-      → Blocks doc c parent (bullet_r (item_r k (suc (suc n))) c.at (drop c.at doc)) (Done m far e) R₀ R'' T₀ T'
+      → Blocks doc c parent (bullet_r (item_r k (suc (suc n))) c.at (drop c.at doc)) (Ok (m, far, e)) R₀ R'' T₀ T'
   bullet_last R'' m far e g h =
       let ts = children false (g.member ∷ []) in
       let t : block_of false (g.member ∷ []) ≡ node (kind_of false) c.at e 1 (forest ts) = block_is false g.member [] ∙ rw (g.begins, g.ends) refl in

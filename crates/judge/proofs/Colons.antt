@@ -16,14 +16,12 @@ use Rattle.exact.specs.Comb.{seq_r, map_r, alt_r}
 use Rattle.exact.specs.Place.{peek, peek_in, peek_cons, byte_is, byte_not, alt_is, alt_not}
 use Rattle.rooms.specs.Told.{spot, tally}
 use Rattle.rooms.specs.declared.Cursor.{Cursor}
-use Rattle.rooms.specs.declared.Ans.{Ans}
-use Rattle.rooms.specs.declared.Ans.TheVariants.{Ok, No}
-use Rattle.rooms.specs.declared.Block.{Block}
-use Rattle.rooms.specs.declared.Block.TheVariants.{Done, Bad}
+use Rattle.rooms.specs.Contract.{Ans}
+use Rattle.std.specs.declared.result.Result.TheVariants.{Err, Ok}
+use Rattle.rooms.specs.Contract.{Block}
 use Rattle.rooms.specs.Contract.{onward, Takes, Ready, Taken, Answers, Blocks}
 use Rattle.rooms.specs.Laws
-use Rattle.characters.specs.declared.Skip.{Skip}
-use Rattle.characters.specs.declared.Skip.TheVariants
+use Rattle.characters.specs.Reads.{Skip}
 use Rattle.characters.specs.Reads.{Ends, Skips}
 use Rattle.characters.specs.Comments.{comment_r, line_comment_r, comment_ll}
 use Rattle.strings.specs.Keys.{key_r}
@@ -63,7 +61,7 @@ module _ (v n : Reader Tree) (doc : List ℕ) (at : ℕ) where
       let q : drop (suc at) doc ≡ 32 ∷ drop (suc (suc at)) doc = peek_cons doc (suc at) 32 (rw add-one at f) (omega arith) in
       rw (p, q) (behind_comment (comment_ll.firm (suc (suc at)) (drop (suc (suc at)) doc)))
 
-rest_below : (v n : Reader Tree) (doc : List ℕ) (c : Cursor) (p : ℕ) → Gap doc c (No p) → rest_r v n c.at (drop c.at doc) ≡ bind (ends_r false c.at (drop c.at doc)) (λ _. n)
+rest_below : (v n : Reader Tree) (doc : List ℕ) (c : Cursor) (p : ℕ) → Gap doc c (Err p) → rest_r v n c.at (drop c.at doc) ≡ bind (ends_r false c.at (drop c.at doc)) (λ _. n)
 rest_below v n doc c p (no_space _ f) = rest_none v n doc c.at f
 rest_below v n doc c p (two_spaces _ e f) = rest_two v n doc c.at e f
 
@@ -77,8 +75,8 @@ ready_at doc c d a r h l e =
 pub block_from : (doc : List ℕ) (c d : Cursor) (p a : ℕ) (o o' : Out Tree) (b : Block) (R R' T T' : List ℕ) → o ≡ o' → c.at ≤ a → d ≡ record { at = a; row = c.row; text = c.text }
     → Blocks doc d p o' b R R' T T' → Blocks doc c p o b R R' T T'
 unfolding Blocks
-block_from doc c d p a o o' (Bad q) R R' T T' h l e w = h ∙ w
-block_from doc c d p a o o' (Done n far z) R R' T T' h l e w =
+block_from doc c d p a o o' (Err q) R R' T T' h l e w = h ∙ w
+block_from doc c d p a o o' (Ok (n, far, z)) R R' T T' h l e w =
     let k = w.taken in
     let s = k.span in
     let x : d.at ≡ a = ap (λ (m : Cursor). m.at) e in
@@ -136,17 +134,17 @@ module _ (doc : List ℕ) (c : Cursor) (x : Ans) (g : Gap doc c x) where
         let z : d.at ≡ c.at + 1 = ap (λ (m : Cursor). m.at) u.next in
         block_from doc c d p (c.at + 1) _ _ b R R' T T' (rest_on (on_r k n) (nested_r k (suc (suc n))) doc c.at u.space u.single ∙ ap (λ (i : ℕ). on_r k n i (drop i doc)) (sym z)) (omega arith) u.next w
 
-    pub below_is : (q : ℕ) → x ≡ No q → rest_r (on_r k n) (nested_r k (suc (suc n))) c.at (drop c.at doc) ≡ bind (ends_r false c.at (drop c.at doc)) (λ _. nested_r k (suc (suc n)))
+    pub below_is : (q : ℕ) → x ≡ Err q → rest_r (on_r k n) (nested_r k (suc (suc n))) c.at (drop c.at doc) ≡ bind (ends_r false c.at (drop c.at doc)) (λ _. nested_r k (suc (suc n)))
     below_is q e = rest_below (on_r k n) (nested_r k (suc (suc n))) doc c q (rw e at g)
 
-    module _ (s : Skip) (y : ℕ) (e : x ≡ No y) (h : Skips doc c.at (ends_r false c.at (drop c.at doc)) s) where
-      pub behind_bad : (q : ℕ) → s ≡ TheVariants.Bad q → Behind (Bad q)
+    module _ (s : Skip) (y : ℕ) (e : x ≡ Err y) (h : Skips doc c.at (ends_r false c.at (drop c.at doc)) s) where
+      pub behind_bad : (q : ℕ) → s ≡ Err q → Behind (Err q)
       unfolding Skips
       behind_bad q z =
           let k' : ends_r false c.at (drop c.at doc) ≡ bad q = rw z at h in
           Laws.not_block doc c p _ R R' T T' q (below_is y e ∙ ap (λ (o : Out ℕ). bind o (λ _. nested_r k (suc (suc n)))) k')
 
-      pub behind_nested : (a j : ℕ) (d : Cursor) (b : Block) → s ≡ TheVariants.End a → d ≡ record { at = a; row = c.row; text = c.text } → j ≡ n + 2
+      pub behind_nested : (a j : ℕ) (d : Cursor) (b : Block) → s ≡ Ok a → d ≡ record { at = a; row = c.row; text = c.text } → j ≡ n + 2
           → Blocks doc d p (nested_r k j d.at (drop d.at doc)) b R R' T T' → Behind b
       unfolding Skips
       behind_nested a j d b z f i w =
@@ -159,7 +157,7 @@ module _ (doc : List ℕ) (c : Cursor) (x : Ans) (g : Gap doc c x) where
           f
           w
 
-pub ended_ready : (doc : List ℕ) (c d : Cursor) (o : Out ℕ) (s : Skip) (a : ℕ) → Ready doc c → Skips doc c.at o s → s ≡ TheVariants.End a
+pub ended_ready : (doc : List ℕ) (c d : Cursor) (o : Out ℕ) (s : Skip) (a : ℕ) → Ready doc c → Skips doc c.at o s → s ≡ Ok a
     → d ≡ record { at = a; row = c.row; text = c.text } → Ready doc d
 unfolding Skips
 ended_ready doc c d o s a r h z e = let k : Ends doc c.at o a = rw z at h in ready_at doc c d a r k.behind k.inside e
@@ -171,7 +169,7 @@ module _ (doc : List ℕ) (c : Cursor) (p : ℕ) (a : Ans) (R R' T T' : List ℕ
   key_inside m e = (Laws.taken doc c p _ R R' T T' a m e w).span.inside
 
   module _ (k n : ℕ) where
-    pub property_none : (q : ℕ) → a ≡ No q → Members true doc c p (member_r true k n c.at (drop c.at doc)) (Bad q) R R' T T'
+    pub property_none : (q : ℕ) → a ≡ Err q → Members true doc c p (member_r true k n c.at (drop c.at doc)) (Err q) R R' T T'
     unfolding Members member_r property_r
     property_none q e = ap (λ (o : Out Tree). bind o (λ ky. seq_r (byte_r (is (only 58))) λ _. map_r (field ky) (rest_r (on_r k n) (nested_r k (suc (suc n)))))) (Laws.refusal doc c p _ R R' T T' a q e w)
 
@@ -180,7 +178,7 @@ module _ (doc : List ℕ) (c : Cursor) (p : ℕ) (a : Ans) (R R' T T' : List ℕ
     got = Laws.taken doc c p _ R R' T T' a m e w
 
     module _ (k n : ℕ) where
-      pub property_cut : (q : ℕ) → t ≡ No q → Members true doc c p (member_r true k n c.at (drop c.at doc)) (Bad q) R R' T T'
+      pub property_cut : (q : ℕ) → t ≡ Err q → Members true doc c p (member_r true k n c.at (drop c.at doc)) (Err q) R R' T T'
       unfolding Members member_r property_r
       property_cut q z =
           ap (λ (o : Out Tree). bind o (λ ky. seq_r (byte_r (is (only 58))) λ _. map_r (field ky) (rest_r (on_r k n) (nested_r k (suc (suc n)))))) got.is
@@ -221,8 +219,8 @@ module _ (doc : List ℕ) (c : Cursor) (p : ℕ) (a : Ans) (R R' T T' : List ℕ
         pub property_got : (r : Block) → Blocks doc d p (rest_r (on_r k n) (nested_r k (suc (suc n))) d.at (drop d.at doc)) r R' R'' T' T''
             → Members true doc c p (member_r true k n c.at (drop c.at doc)) r R R'' T T''
         unfolding Members Blocks sizes
-        property_got (Bad q) x = property_is ∙ ap (fmap (field got.tree)) x
-        property_got (Done o far f) x =
+        property_got (Err q) x = property_is ∙ ap (fmap (field got.tree)) x
+        property_got (Ok (o, far, f)) x =
             let s = got.span in
             let v = x.taken in
             let u : d.at ≡ m.at + 1 = ap (λ (x : Cursor). x.at) y in

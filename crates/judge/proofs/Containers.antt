@@ -14,10 +14,9 @@ use Rattle.exact.specs.Comb.{map_r}
 use Rattle.exact.specs.Block.{lead}
 use Rattle.exact.specs.Lines.{spaces, indented_ok, indented_bad}
 use Rattle.rooms.specs.declared.Cursor.{Cursor}
-use Rattle.rooms.specs.declared.Ans.{Ans}
-use Rattle.rooms.specs.declared.Ans.TheVariants.{Ok, No}
-use Rattle.rooms.specs.declared.Block.{Block}
-use Rattle.rooms.specs.declared.Block.TheVariants.{Done, Bad}
+use Rattle.rooms.specs.Contract.{Ans}
+use Rattle.std.specs.declared.result.Result.TheVariants.{Err, Ok}
+use Rattle.rooms.specs.Contract.{Block}
 use Rattle.rooms.specs.Contract.{ample, onward, Ready, Blocks}
 use Rattle.rooms.specs.Indent.{spaces_lead}
 use Rattle.rooms.specs.Laws
@@ -33,8 +32,6 @@ use Rattle.blocks.specs.Nested.{nested_here_r, nested_r, item_r}
 use Rattle.blocks.proofs.StraightLaws.{nested_array, nested_object, nested_line, item_array, item_object, item_line}
 use Rattle.judge.specs.declared.Start.{Start}
 use Rattle.judge.specs.declared.Start.TheVariants.{Dash, Key, Line}
-use Rattle.judge.specs.declared.Next.{Next}
-use Rattle.judge.specs.declared.Next.TheVariants.{More, Over}
 use Rattle.judge.specs.Members.{Member, kind_of, member_r, block_r, array_block, object_block}
 use Rattle.judge.specs.Contract.{Stands, end_r, Neither, Looked, later, Enclosed, Again, Ended, Follows, Read, Members}
 use Rattle.judge.proofs.Outs.{fmap_reached}
@@ -45,11 +42,11 @@ use Rattle.judge.proofs.Blocks
 -- ---- answers of members, taken apart
 
 module _ (o : Bool) (doc : List ℕ) (c : Cursor) (p : ℕ) (out : Out (Member o)) (a : Block) (R R' T T' : List ℕ) (w : Members o doc c p out a R R' T T') where
-  pub member_read : (n : Cursor) (far e : ℕ) → a ≡ Done n far e → Read o doc c p out n far e R R' T T'
+  pub member_read : (n : Cursor) (far e : ℕ) → a ≡ Ok (n, far, e) → Read o doc c p out n far e R R' T T'
   unfolding Members
   member_read n far e z = rw z at w
 
-  pub member_refused : (q : ℕ) → a ≡ Bad q → out ≡ bad q
+  pub member_refused : (q : ℕ) → a ≡ Err q → out ≡ bad q
   unfolding Members
   member_refused q z = rw z at w
 
@@ -61,7 +58,7 @@ module _ (doc : List ℕ) (c : Cursor) (p k n : ℕ) (o : Bool) (R R' T T' : Lis
   member_property b e w = rw e w
 
   module _ (a : Ans) (e : o ≡ false) (h : Passed doc c 45 32 a) where
-    pub member_cut : (q : ℕ) → a ≡ No q → Members o doc c p (member_r o k n c.at (drop c.at doc)) (Bad q) R R' T T'
+    pub member_cut : (q : ℕ) → a ≡ Err q → Members o doc c p (member_r o k n c.at (drop c.at doc)) (Err q) R R' T T'
     unfolding Members member_r dashed_r
     member_cut q l =
         rw e
@@ -90,8 +87,8 @@ module _ (doc : List ℕ) (c : Cursor) (p k n : ℕ) (o : Bool) (R R' T T' : Lis
       member_item j b z w = let t : j ≡ suc (suc n) = omega arith in rw e (go b (rw t at w))
         where
           go : (b : Block) → Blocks doc m p (item_r k (suc (suc n)) m.at (drop m.at doc)) b R R' T T' → Members false doc c p (member_r false k n c.at (drop c.at doc)) b R R' T T'
-          go (Bad q) w = member_is ∙ ap (fmap (entry c.at)) w
-          go (Done x far z) w =
+          go (Err q) w = member_is ∙ ap (fmap (entry c.at)) w
+          go (Ok (x, far, z)) w =
               let v = w.taken in
               let s = v.span in
               let u : m.at ≡ c.at + 2 = ap (λ (x : Cursor). x.at) f in
@@ -134,11 +131,11 @@ module _ (o : Bool) (k n : ℕ) (doc : List ℕ) (c : Cursor) (R₀ T₀ : List 
     block_ready = l.ready
 
     module _ (a : Block) (R' T' : List ℕ) (w : Members o doc cur c.row (member_r o k n cur.at (drop cur.at doc)) a R R' T T') where
-      pub block_refused : (p q g : ℕ) → a ≡ Bad q → g ≡ max far q → Blocks doc c p (block_r o k n c.at (drop c.at doc)) (Bad g) R₀ R' T₀ T'
+      pub block_refused : (p q g : ℕ) → a ≡ Err q → g ≡ max far q → Blocks doc c p (block_r o k n c.at (drop c.at doc)) (Err g) R₀ R' T₀ T'
       block_refused p q g e h =
           rw h (Blocks.block_bad o k n doc c R₀ T₀ R T R' T' cur far cnt p q l (member_refused o doc cur c.row _ a R R' T T' w q e))
 
-      module _ (m : Cursor) (f e : ℕ) (z : a ≡ Done m f e) where
+      module _ (m : Cursor) (f e : ℕ) (z : a ≡ Ok (m, f, e)) where
         got : Read o doc cur c.row (member_r o k n cur.at (drop cur.at doc)) m f e R R' T T'
         got = member_read o doc cur c.row _ a R R' T T' w m f e z
 
@@ -162,22 +159,22 @@ module _ (o : Bool) (k n : ℕ) (doc : List ℕ) (c : Cursor) (R₀ T₀ : List 
               next_fits = omega (arith, r.small, v.inside, v.row, v.few_rows, y.few_rows);
             }
 
-        module _ (x : Next) (fl : Follows o doc m n x) where
-          pub block_done : (p q g h i : ℕ) (R'' : List ℕ) → x ≡ Over q → g ≡ max far f → h ≡ max g q → i ≡ cnt + 1
+        module _ (x : Ans) (fl : Follows o doc m n x) where
+          pub block_done : (p q g h i : ℕ) (R'' : List ℕ) → x ≡ Err q → g ≡ max far f → h ≡ max g q → i ≡ cnt + 1
               → R'' ≡ sets R' (width * c.row) (row_list unlined (kind_of o) c.at e 0 i p m.row)
-              → Blocks doc c p (block_r o k n c.at (drop c.at doc)) (Done m h e) R₀ R'' T₀ T'
+              → Blocks doc c p (block_r o k n c.at (drop c.at doc)) (Ok (m, h, e)) R₀ R'' T₀ T'
           unfolding Follows
           block_done p q g h i R'' y u v j s =
               let d : Ended o doc m.at n q = rw y at fl in
               rw (v, u) (Blocks.block_last o k n doc c R₀ T₀ R T R' T' cur m far cnt f e l got p q R'' d (rw j at s))
 
-          pub block_again : (g : ℕ) (d : Cursor) → x ≡ More d → g ≡ max far f → Blocks.Loop o k n doc c R₀ T₀ R' T' d g (cnt + 1)
+          pub block_again : (g : ℕ) (d : Cursor) → x ≡ Ok d → g ≡ max far f → Blocks.Loop o k n doc c R₀ T₀ R' T' d g (cnt + 1)
           unfolding Follows
           block_again g d y u =
               let q : Again o doc m.at n d.at × (d ≡ record { at = d.at; row = m.row; text = m.text }) = rw y at fl in
               rw u (subst (λ (z : Cursor). Blocks.Loop o k n doc c R₀ T₀ R' T' z (max far f) (cnt + 1)) (sym q.1) (Blocks.loop_more o k n doc c R₀ T₀ R T R' T' cur m far cnt f e l got d.at q.0))
 
-          pub block_falls : (d : Cursor) → x ≡ More d → length doc - d.at < length doc - cur.at
+          pub block_falls : (d : Cursor) → x ≡ Ok d → length doc - d.at < length doc - cur.at
           unfolding Follows
           block_falls d y =
               let q : Again o doc m.at n d.at × (d ≡ record { at = d.at; row = m.row; text = m.text }) = rw y at fl in
@@ -186,10 +183,10 @@ module _ (o : Bool) (k n : ℕ) (doc : List ℕ) (c : Cursor) (R₀ T₀ : List 
 -- ---- a nested bullet
 
 module _ (k n : ℕ) (doc : List ℕ) (c : Cursor) (p : ℕ) (R R' T T' : List ℕ) (a : Block) (w : Members false doc (Within c) c.row (member_r false k n c.at (drop c.at doc)) a R R' T T') where
-  pub bullet_refused : (q : ℕ) → a ≡ Bad q → Blocks doc c p (bullet_r (item_r k (suc (suc n))) c.at (drop c.at doc)) (Bad q) R R' T T'
+  pub bullet_refused : (q : ℕ) → a ≡ Err q → Blocks doc c p (bullet_r (item_r k (suc (suc n))) c.at (drop c.at doc)) (Err q) R R' T T'
   bullet_refused q e = Blocks.bullet_bad k n doc c p R T R' T' q (member_refused false doc (Within c) c.row _ a R R' T T' w q e)
 
-  module _ (m : Cursor) (f e : ℕ) (z : a ≡ Done m f e) where
+  module _ (m : Cursor) (f e : ℕ) (z : a ≡ Ok (m, f, e)) where
     pub bullet_encloses : Ready doc c → Enclosed c e 1 m.row
     bullet_encloses r =
         let g = member_read false doc (Within c) c.row _ a R R' T T' w m f e z in
@@ -204,7 +201,7 @@ module _ (k n : ℕ) (doc : List ℕ) (c : Cursor) (p : ℕ) (R R' T T' : List �
         }
 
     pub bullet_done : (R'' : List ℕ) → R'' ≡ sets R' (width * c.row) (row_list unlined (kind_of false) c.at e 0 1 p m.row)
-        → Blocks doc c p (bullet_r (item_r k (suc (suc n))) c.at (drop c.at doc)) (Done m f e) R R'' T T'
+        → Blocks doc c p (bullet_r (item_r k (suc (suc n))) c.at (drop c.at doc)) (Ok (m, f, e)) R R'' T T'
     bullet_done R'' s = Blocks.bullet_last k n doc c p R T R' T' R'' m f e (member_read false doc (Within c) c.row _ a R R' T T' w m f e z) s
 
 pub bullet_ready : (doc : List ℕ) (c : Cursor) → Ready doc c → Stands doc (Within c)
@@ -274,7 +271,7 @@ module _ (doc : List ℕ) (c : Cursor) (p n : ℕ) (b : Block) (R R' T T' : List
 -- ---- nested content
 
 module _ (doc : List ℕ) (c : Cursor) (p n i : ℕ) (R R' T T' : List ℕ) (h : i ≡ lead n (drop c.at doc)) where
-  pub nested_cut : (k : ℕ) (m : Cursor) → m ≡ record { at = c.at + i; row = c.row; text = c.text } → i < n → Blocks doc c p (nested_r k n c.at (drop c.at doc)) (Bad m.at) R R' T T'
+  pub nested_cut : (k : ℕ) (m : Cursor) → m ≡ record { at = c.at + i; row = c.row; text = c.text } → i < n → Blocks doc c p (nested_r k n c.at (drop c.at doc)) (Err m.at) R R' T T'
   nested_cut k m f l =
       let s = spaces_lead n (drop c.at doc) in
       Laws.not_block doc c p _ R R' T T' m.at

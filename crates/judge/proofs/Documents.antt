@@ -10,7 +10,7 @@ use borrow.Author.Rules.{rules}
 use borrow.Author.Tests.{le-leb, lt-leb, lt-ltb, le-ltb}
 use Rattle.language.specs.Tree.{Tree}
 use Rattle.language.specs.Document.{Document}
-use Rattle.language.specs.declared.Answer.TheVariants.{Char, Syntax, Deep, End}
+use Rattle.language.specs.declared.Refusal.TheVariants.{Char, Syntax, Deep, End}
 use Rattle.language.specs.Answered.{limit, deepest}
 use Rattle.exact.specs.Verdict.{Tail, Far, Verdict, acc, stop, stops}
 use Rattle.exact.specs.Class.{is, only, only_yes, only_no}
@@ -23,14 +23,12 @@ use Rattle.exact.specs.Place.{peek, peek_in, peek_cons, There, byte_there, none_
 use Rattle.exact.specs.Lines.{reached, raised, raised_ok, bind_reached}
 use Rattle.rooms.specs.Told.{spot, tally, spot_low, tally_low}
 use Rattle.rooms.specs.declared.Cursor.{Cursor}
-use Rattle.rooms.specs.declared.Ans.{Ans}
-use Rattle.rooms.specs.declared.Ans.TheVariants.{Ok, No}
-use Rattle.rooms.specs.declared.Block.{Block}
-use Rattle.rooms.specs.declared.Block.TheVariants.{Done, Bad}
+use Rattle.rooms.specs.Contract.{Ans}
+use Rattle.std.specs.declared.result.Result.TheVariants.{Err, Ok}
+use Rattle.rooms.specs.Contract.{Block}
 use Rattle.rooms.specs.Contract.{Ready, Taken, Blocks}
 use Rattle.rooms.specs.Laws
-use Rattle.characters.specs.declared.Skip.{Skip}
-use Rattle.characters.specs.declared.Skip.TheVariants
+use Rattle.characters.specs.Reads.{Skip}
 use Rattle.characters.specs.Reads.{Ends, Skips}
 use Rattle.utf8.specs.Allowed.{bad_char}
 use Rattle.utf8.specs.Told.{Answer, refused_char, refused_syntax, refused_deep, refused_end}
@@ -63,15 +61,15 @@ tally_none = tally_low 0 (omega arith)
 -- ---- a comment and its LF
 
 module _ (doc : List ℕ) (at : ℕ) (r : Skip) (h : Skips doc at (comment_r at (drop at doc)) r) where
-  pub comment_bad : (p : ℕ) → r ≡ TheVariants.Bad p → Skips doc at (comment_line_r at (drop at doc)) (TheVariants.Bad p)
+  pub comment_bad : (p : ℕ) → r ≡ Err p → Skips doc at (comment_line_r at (drop at doc)) (Err p)
   unfolding Skips comment_line_r
   comment_bad p e = let k : comment_r at (drop at doc) ≡ bad p = rw e at h in ap (λ (o : Out (List ℕ)). bind o (λ _. byte_r (is (only 10)))) k
 
-  pub comment_in : (n : ℕ) → r ≡ TheVariants.End n → n ≤ length doc
+  pub comment_in : (n : ℕ) → r ≡ Ok n → n ≤ length doc
   unfolding Skips
   comment_in n e = let k : Ends doc at (comment_r at (drop at doc)) n = rw e at h in k.inside
 
-  pub comment_fed : (n : ℕ) (s : Skip) → r ≡ TheVariants.End n → Skips doc n (feed_r n (drop n doc)) s → Skips doc at (comment_line_r at (drop at doc)) s
+  pub comment_fed : (n : ℕ) (s : Skip) → r ≡ Ok n → Skips doc n (feed_r n (drop n doc)) s → Skips doc at (comment_line_r at (drop at doc)) s
   unfolding Skips comment_line_r feed_r
   comment_fed n s e g =
       let k : Ends doc at (comment_r at (drop at doc)) n = rw e at h in
@@ -79,8 +77,8 @@ module _ (doc : List ℕ) (at : ℕ) (r : Skip) (h : Skips doc at (comment_r at 
     where
       go : (s : Skip) → Ends doc at (comment_r at (drop at doc)) n → comment_line_r at (drop at doc) ≡ byte_r (is (only 10)) n (drop n doc) → Skips doc n (byte_r (is (only 10)) n (drop n doc)) s
           → Skips doc at (comment_line_r at (drop at doc)) s
-      go (TheVariants.End m) k q g = record { value = g.value; is = q ∙ g.is; behind = omega (arith, k.behind, g.behind); inside = g.inside }
-      go (TheVariants.Bad p) k q g = q ∙ g
+      go (Ok m) k q g = record { value = g.value; is = q ∙ g.is; behind = omega (arith, k.behind, g.behind); inside = g.inside }
+      go (Err p) k q g = q ∙ g
 
 -- ---- the comments before the root
 
@@ -125,24 +123,24 @@ module _ (doc : List ℕ) (at b : ℕ) (l : Headed doc at) (h : b ≡ peek doc a
     head_turn : (m : ℕ) × (head_r 0 doc ≡ fmap (l.done ++◌) (bind (comment_line_r at (drop at doc)) (λ v a t. fmap (v ∷◌) (hashes m a t)))) × (length doc ≤ m + (at + 1))
     head_turn = let u = hash_turn l.bound l.enough e (drop at doc) refl in (u.0, l.rest ∙ ap (fmap (l.done ++◌)) u.1, u.2)
 
-    pub head_bad : (p : ℕ) → r ≡ TheVariants.Bad p → Skips doc 0 (head_r 0 doc) (TheVariants.Bad p)
+    pub head_bad : (p : ℕ) → r ≡ Err p → Skips doc 0 (head_r 0 doc) (Err p)
     unfolding Skips
     head_bad p z =
         let k : comment_line_r at (drop at doc) ≡ bad p = rw z at g in
         let u = head_turn in
         u.1 ∙ ap (λ (o : Out ℕ). fmap (l.done ++◌) (bind o (λ v a t. fmap (v ∷◌) (hashes u.0 a t)))) k
 
-    got : (n : ℕ) → r ≡ TheVariants.End n → Ends doc at (comment_line_r at (drop at doc)) n
+    got : (n : ℕ) → r ≡ Ok n → Ends doc at (comment_line_r at (drop at doc)) n
     unfolding Skips
     got n z = rw z at g
 
-    ahead : (n : ℕ) → r ≡ TheVariants.End n → at < n
+    ahead : (n : ℕ) → r ≡ Ok n → at < n
     ahead n z = let k = got n z in hash_ahead k.value n (drop n doc) (hash_tame.tame at (drop at doc)) k.is
 
-    pub head_falls : (n : ℕ) → r ≡ TheVariants.End n → length doc - n < length doc - at
+    pub head_falls : (n : ℕ) → r ≡ Ok n → length doc - n < length doc - at
     head_falls n z = let k = got n z in let a = ahead n z in omega (arith, k.inside)
 
-    pub head_more : (n : ℕ) → r ≡ TheVariants.End n → Headed doc n
+    pub head_more : (n : ℕ) → r ≡ Ok n → Headed doc n
     head_more n z =
         let k = got n z in
         let a = ahead n z in
@@ -157,7 +155,7 @@ module _ (doc : List ℕ) (at b : ℕ) (l : Headed doc at) (h : b ≡ peek doc a
           inside = k.inside;
         }
 
-  pub head_last : (b ≡ 35 → ⊥) → Skips doc 0 (head_r 0 doc) (TheVariants.End at)
+  pub head_last : (b ≡ 35 → ⊥) → Skips doc 0 (head_r 0 doc) (Ok at)
   unfolding Skips
   head_last e =
       record {
@@ -222,7 +220,7 @@ module _ (doc : List ℕ) (c : Cursor) (b : Block) (R R' T T' : List ℕ) where
 -- ---- what follows the root
 
 module _ (doc : List ℕ) (n : Cursor) (far e : ℕ) (h : e ≡ run_end (only 10) doc n.at) where
-  pub finish_no : (g : ℕ) → e < length doc → g ≡ max far e → Finished doc n far (No g)
+  pub finish_no : (g : ℕ) → e < length doc → g ≡ max far e → Finished doc n far (Err g)
   unfolding Finished
   finish_no g l k = (k ∙ ap (max far) h, rw h at l)
 
@@ -240,38 +238,38 @@ module _ (k : ℕ) (doc : List ℕ) where
   stopped R R' T T' p h = record { filled = λ t e. never (sym e ∙ h) }
 
   module _ (r : Skip) (hd : Skips doc 0 (head_r 0 doc) r) where
-    pub head_no : (p : ℕ) → r ≡ TheVariants.Bad p → verdict k doc ≡ stop p
+    pub head_no : (p : ℕ) → r ≡ Err p → verdict k doc ≡ stop p
     unfolding Skips verdict whole_r
     head_no p e = let z : head_r 0 doc ≡ bad p = rw e at hd in ap (λ (o : Out (List ℕ)). finish (bind o (λ _. seq_r (root_r k) blanks_r)) end_r) z
 
-    pub passed_none : (p : ℕ) → r ≡ TheVariants.Bad p → Checked k doc (No p)
+    pub passed_none : (p : ℕ) → r ≡ Err p → Checked k doc (Err p)
     unfolding Checked
     passed_none p e = head_no p e
 
-    pub passed_nothing : (R T : List ℕ) (p : ℕ) → r ≡ TheVariants.Bad p → Filled k doc R R T T
+    pub passed_nothing : (R T : List ℕ) (p : ℕ) → r ≡ Err p → Filled k doc R R T T
     passed_nothing R T p e = stopped R R T T p (head_no p e)
 
-    pub passed_ready : (at : ℕ) → length doc ≤ limit → r ≡ TheVariants.End at → Ready doc (record { at = at; row = 0; text = 0 })
+    pub passed_ready : (at : ℕ) → length doc ≤ limit → r ≡ Ok at → Ready doc (record { at = at; row = 0; text = 0 })
     unfolding Skips
     passed_ready at l e = let z : Ends doc 0 (head_r 0 doc) at = rw e at hd in record { small = l; inside = z.inside; few_rows = omega arith; few_text = omega (arith, spot_none); few_escapes = omega (arith, tally_none) }
 
-    module _ (at : ℕ) (e : r ≡ TheVariants.End at) (b : Block) (R R' T T' : List ℕ)
+    module _ (at : ℕ) (e : r ≡ Ok at) (b : Block) (R R' T T' : List ℕ)
         (w : Blocks doc (record { at = at; row = 0; text = 0 }) 0 (root_r k at (drop at doc)) b R R' T T') where
       behind : verdict k doc ≡ finish (bind (root_r k at (drop at doc)) blanks_r) end_r
       unfolding Skips verdict whole_r
       behind = let z : Ends doc 0 (head_r 0 doc) at = rw e at hd in ap (λ (o : Out (List ℕ)). finish (bind o (λ _. seq_r (root_r k) blanks_r)) end_r) z.is
 
-      pub root_no : (p : ℕ) → b ≡ Bad p → verdict k doc ≡ stop p
+      pub root_no : (p : ℕ) → b ≡ Err p → verdict k doc ≡ stop p
       root_no p z = behind ∙ ap (λ (o : Out Tree). finish (bind o blanks_r) end_r) (Laws.block_refusal doc _ 0 _ R R' T T' b p z w)
 
-      pub passed_not : (p : ℕ) → b ≡ Bad p → Checked k doc (No p)
+      pub passed_not : (p : ℕ) → b ≡ Err p → Checked k doc (Err p)
       unfolding Checked
       passed_not p z = root_no p z
 
-      pub passed_unfilled : (p : ℕ) → b ≡ Bad p → Filled k doc R R' T T'
+      pub passed_unfilled : (p : ℕ) → b ≡ Err p → Filled k doc R R' T T'
       passed_unfilled p z = stopped R R' T T' p (root_no p z)
 
-      module _ (n : Cursor) (far f : ℕ) (z : b ≡ Done n far f) where
+      module _ (n : Cursor) (far f : ℕ) (z : b ≡ Ok (n, far, f)) where
         pub got_root : Taken doc (record { at = at; row = 0; text = 0 }) 0 (root_r k at (drop at doc)) n far R R' T T'
         got_root = (Laws.block_taken doc _ 0 _ R R' T T' b n far f z w).taken
 
@@ -309,7 +307,7 @@ module _ (k : ℕ) (doc : List ℕ) where
             let y : m.row ≡ n.row = ap (λ (c : Cursor). c.row) x.0 in
             let u : m.text ≡ n.text = ap (λ (c : Cursor). c.text) x.0 in
             record { tree = got_root.tree; is = whole_yes x.1; row = omega (arith, s.row); text = ap spot u ∙ (s.text ∙ omega (arith, spot_none)); escapes = ap tally u ∙ (s.escapes ∙ omega (arith, tally_none)) }
-        passed (No p) x = whole_no x.1 ∙ ap stop (sym x.0)
+        passed (Err p) x = whole_no x.1 ∙ ap stop (sym x.0)
 
         pub passed_filled : (a : Ans) → Finished doc n far a → Filled k doc R R' T T'
         unfolding Finished
@@ -319,7 +317,7 @@ module _ (k : ℕ) (doc : List ℕ) where
                   let q : t ≡ got_root.tree = let y = whole_yes x.1 in cc in
                   (rw q (rw spot_none at got_root.filled.table), rw q (rw spot_none at got_root.filled.room));
             }
-        passed_filled (No p) x = stopped R R' T T' _ (whole_no x.1)
+        passed_filled (Err p) x = stopped R R' T T' _ (whole_no x.1)
 
 -- ---- an empty room stays empty, and the whole with it
 
@@ -336,7 +334,7 @@ module _ (doc : List ℕ) (p : ℕ) (h : verdict deepest doc ≡ stop p) where
   told : (g : Answer Tree) → judge doc ≡ g → Judged doc g
   told g e = subst (Judged doc) e (judged doc)
 
-  pub blame_end : length doc ≤ p → Blamed doc (End (record { 0 = p }))
+  pub blame_end : length doc ≤ p → Blamed doc (Err (End (record { 0 = p })))
   unfolding judge
   blame_end l =
       let v = far_of (subst (Verdict (Document deepest) 0 doc) h (exact deepest doc)) in
@@ -344,26 +342,26 @@ module _ (doc : List ℕ) (p : ℕ) (h : verdict deepest doc ≡ stop p) where
       record { stops = rw e (told (refused_end (length doc)) (rw (h, le-leb (length doc) p l) refl)); alone = refl }
 
   module _ (a : Ans) (l : p < length doc) (w : Checked (deepest + 1) doc a) where
-    pub blame_deep : (n : Cursor) → a ≡ Ok n → Blamed doc (Deep (record { 0 = p }))
+    pub blame_deep : (n : Cursor) → a ≡ Ok n → Blamed doc (Err (Deep (record { 0 = p })))
     unfolding judge Checked
     blame_deep n e =
         let k : Known (deepest + 1) doc n = rw e at w in
         record { stops = told (refused_deep p) (rw (h, lt-leb (length doc) p l, k.is) refl); alone = refl }
 
-    module _ (q : ℕ) (e : a ≡ No q) where
+    module _ (q : ℕ) (e : a ≡ Err q) where
       second : verdict (deepest + 1) doc ≡ stop q
       unfolding Checked
       second = rw e at w
 
-      pub blame_later : p < q → Blamed doc (Deep (record { 0 = p }))
+      pub blame_later : p < q → Blamed doc (Err (Deep (record { 0 = p })))
       unfolding judge
       blame_later k = record { stops = told (refused_deep p) (rw (h, lt-leb (length doc) p l, second, lt-ltb p q k) refl); alone = refl }
 
-      pub blame_char : (x : Bool) → q ≤ p → x ≡ bad_char p doc → x ≡ true → Blamed doc (Char (record { 0 = p }))
+      pub blame_char : (x : Bool) → q ≤ p → x ≡ bad_char p doc → x ≡ true → Blamed doc (Err (Char (record { 0 = p })))
       unfolding judge
       blame_char x k f g = record { stops = told (refused_char p) (rw (h, lt-leb (length doc) p l, second, le-ltb p q k, sym f ∙ g) refl); alone = refl }
 
-      pub blame_here : (x : Bool) → q ≤ p → x ≡ bad_char p doc → x ≡ false → Blamed doc (Syntax (record { 0 = p }))
+      pub blame_here : (x : Bool) → q ≤ p → x ≡ bad_char p doc → x ≡ false → Blamed doc (Err (Syntax (record { 0 = p })))
       unfolding judge
       blame_here x k f g = record { stops = told (refused_syntax p) (rw (h, lt-leb (length doc) p l, second, le-ltb p q k, sym f ∙ g) refl); alone = refl }
 

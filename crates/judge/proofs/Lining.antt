@@ -18,18 +18,14 @@ use Rattle.exact.specs.Lines.{reached, raised, raised_ok, bind_reached}
 use Rattle.rooms.specs.Told.{ESCAPE, spot, tally, spot_on, tally_on}
 use Rattle.rooms.specs.declared.Cursor.{Cursor}
 use Rattle.rooms.specs.declared.Words.{Words}
-use Rattle.rooms.specs.declared.Ans.{Ans}
-use Rattle.rooms.specs.declared.Ans.TheVariants.{Ok, No}
-use Rattle.rooms.specs.declared.Far.{Far}
-use Rattle.rooms.specs.declared.Far.TheVariants.{Upto, Not}
-use Rattle.rooms.specs.declared.Block.{Block}
-use Rattle.rooms.specs.declared.Block.TheVariants.{Done, Bad}
+use Rattle.rooms.specs.Contract.{Ans}
+use Rattle.std.specs.declared.result.Result.TheVariants.{Err, Ok}
+use Rattle.rooms.specs.Contract.{Far}
+use Rattle.rooms.specs.Contract.{Block}
 use Rattle.rooms.specs.Contract.{columns, ample, Ready, Span, Taken, Answers, Reaches, Blocks, Small}
 use Rattle.rooms.specs.Laws
 use Rattle.language.specs.declared.Kind.{Kind}
-use Rattle.characters.specs.declared.Skip.{Skip}
-use Rattle.characters.specs.declared.Skip.TheVariants.{End}
-use Rattle.characters.specs.declared.Skip.TheVariants
+use Rattle.characters.specs.Reads.{Skip}
 use Rattle.characters.specs.Reads.{Ends, Skips}
 use Rattle.characters.specs.Comments.{optional_comment_ll}
 use Rattle.strings.specs.Contract.{Texted, Texts}
@@ -78,15 +74,15 @@ end_is false v at s = go (optional_comment_ll.firm at s)
     go f_bad = refl
 
 module _ (doc : List ℕ) (c : Cursor) (p k : ℕ) (root : Bool) (a : Far) (R R' T T' : List ℕ) (w : Reaches doc c p (value_r true k c.at (drop c.at doc)) a R R' T T') where
-  pub line_none : (q : ℕ) → a ≡ Not q → Blocks doc c p (line_r (end_r root) k c.at (drop c.at doc)) (Bad q) R R' T T'
+  pub line_none : (q : ℕ) → a ≡ Err q → Blocks doc c p (line_r (end_r root) k c.at (drop c.at doc)) (Err q) R R' T T'
   unfolding line_r
   line_none q e =
       Laws.not_block doc c p _ R R' T T' q (ap (λ (o : Out Tree). bind o (end_r root)) (Laws.reached_refusal doc c p _ R R' T T' a q e w))
 
-  pub line_inside : (n : Cursor) (far : ℕ) → a ≡ Upto n far → n.at ≤ length doc
+  pub line_inside : (n : Cursor) (far : ℕ) → a ≡ Ok (n, far) → n.at ≤ length doc
   line_inside n far e = (Laws.reached_taken doc c p _ R R' T T' a n far e w).span.inside
 
-  module _ (n : Cursor) (far : ℕ) (s : Skip) (e : a ≡ Upto n far) (h : Skips doc n.at (ends_r root n.at (drop n.at doc)) s) where
+  module _ (n : Cursor) (far : ℕ) (s : Skip) (e : a ≡ Ok (n, far)) (h : Skips doc n.at (ends_r root n.at (drop n.at doc)) s) where
     got : Taken doc c p (value_r true k c.at (drop c.at doc)) n far R R' T T'
     got = Laws.reached_taken doc c p _ R R' T T' a n far e w
 
@@ -96,14 +92,14 @@ module _ (doc : List ℕ) (c : Cursor) (p k : ℕ) (root : Bool) (a : Far) (R R'
         ap (λ (o : Out Tree). bind o (end_r root)) got.is
         ∙ (bind_reached far got.tree n.at (drop n.at doc) (end_r root) ∙ ap (raised far) (end_is root got.tree n.at (drop n.at doc)))
 
-    pub line_cut : (q g : ℕ) → s ≡ TheVariants.Bad q → g ≡ max far q → Blocks doc c p (line_r (end_r root) k c.at (drop c.at doc)) (Bad g) R R' T T'
+    pub line_cut : (q g : ℕ) → s ≡ Err q → g ≡ max far q → Blocks doc c p (line_r (end_r root) k c.at (drop c.at doc)) (Err g) R R' T T'
     unfolding Skips
     line_cut q g z y =
         let x : ends_r root n.at (drop n.at doc) ≡ bad q = rw z at h in
         Laws.not_block doc c p _ R R' T T' g (rw y (behind ∙ (ap (λ (o : Out ℕ). raised far (bind o (λ _. ret_r got.tree))) x ∙ raised_bad far q)))
 
-    pub line_done : (m : ℕ) (d : Cursor) → s ≡ End m → d ≡ record { at = m; row = n.row; text = n.text }
-        → Blocks doc c p (line_r (end_r root) k c.at (drop c.at doc)) (Done d far n.at) R R' T T'
+    pub line_done : (m : ℕ) (d : Cursor) → s ≡ Ok m → d ≡ record { at = m; row = n.row; text = n.text }
+        → Blocks doc c p (line_r (end_r root) k c.at (drop c.at doc)) (Ok (d, far, n.at)) R R' T T'
     unfolding Skips
     line_done m d z y =
         let x : Ends doc n.at (ends_r root n.at (drop n.at doc)) m = rw z at h in
@@ -171,24 +167,24 @@ module _ (doc : List ℕ) (c : Cursor) (p : ℕ) (a : Block) (R R' T T' : List �
 -- ---- no earlier than p
 
 module _ (b : Block) (p : ℕ) where
-  pub kept_done : (n : Cursor) (far e : ℕ) → b ≡ Done n far e → Done n far e ≡ later b p
+  pub kept_done : (n : Cursor) (far e : ℕ) → b ≡ Ok (n, far, e) → Ok (n, far, e) ≡ later b p
   unfolding later
   kept_done n far e h = rw h refl
 
-  pub kept_bad : (q g : ℕ) → b ≡ Bad q → g ≡ max q p → Bad g ≡ later b p
+  pub kept_bad : (q g : ℕ) → b ≡ Err q → g ≡ max q p → Err g ≡ later b p
   unfolding later
   kept_bad q g h k = rw (h, k) refl
 
 pub later_block : (doc : List ℕ) (c : Cursor) (parent : ℕ) (o : Out Tree) (b : Block) (p : ℕ) (R R' T T' : List ℕ) → Blocks doc c parent o b R R' T T'
     → Blocks doc c parent (merge o (bad p)) (later b p) R R' T T'
 unfolding Blocks later
-later_block doc c parent o (Done n far e) p R R' T T' h =
+later_block doc c parent o (Ok (n, far, e)) p R R' T T' h =
     record { taken = record { tree = h.taken.tree; is = rw h.taken.is (go far); span = h.taken.span; filled = h.taken.filled }; ends = h.ends; inner = h.inner }
   where
     go : (f : ℕ) → merge (reached f h.taken.tree n.at (drop n.at doc)) (bad p) ≡ reached f h.taken.tree n.at (drop n.at doc)
     go zero = refl
     go (suc f) = refl
-later_block doc c parent o (Bad q) p R R' T T' h = rw h refl
+later_block doc c parent o (Err q) p R R' T T' h = rw h refl
 
 -- ---- a key and its row
 
@@ -200,7 +196,7 @@ abbrev rowless : Cursor → Cursor
 rowless c = record { at = c.at; row = 0; text = c.text }
 
 module _ (doc : List ℕ) (c : Cursor) (p : ℕ) (a : Ans) (R R' T T' : List ℕ) (w : Texts doc (rowless c) (name_r c.at (drop c.at doc)) a T T') where
-  pub key_none : (q : ℕ) → a ≡ No q → Answers doc c p (key_r c.at (drop c.at doc)) (No q) R R' T T'
+  pub key_none : (q : ℕ) → a ≡ Err q → Answers doc c p (key_r c.at (drop c.at doc)) (Err q) R R' T T'
   key_none q e = Laws.refused doc c p _ R R' T T' q (name_bad doc (rowless c) a T T' w q e)
 
   module _ (n : Cursor) (e : a ≡ Ok n) (r : Stands doc c) where

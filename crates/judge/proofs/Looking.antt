@@ -19,13 +19,12 @@ use Rattle.exact.specs.Place.{peek, peek_cons, There, byte_there, none_there, th
 use Rattle.exact.specs.Block.{ind, lead}
 use Rattle.exact.specs.Lines.{spaces, ind_short, ind_full, ind_peek}
 use Rattle.rooms.specs.declared.Cursor.{Cursor}
-use Rattle.rooms.specs.declared.Ans.{Ans}
-use Rattle.rooms.specs.declared.Ans.TheVariants.{Ok, No}
+use Rattle.rooms.specs.Contract.{Ans}
+use Rattle.std.specs.declared.result.Result.TheVariants.{Err, Ok}
 use Rattle.rooms.specs.Contract.{Takes}
 use Rattle.rooms.specs.Indent.{spaces_lead}
 use Rattle.rooms.specs.Laws
-use Rattle.characters.specs.declared.Skip.{Skip}
-use Rattle.characters.specs.declared.Skip.TheVariants.{End, Bad}
+use Rattle.characters.specs.Reads.{Skip}
 use Rattle.characters.specs.Reads.{Ends, Skips}
 use Rattle.characters.specs.Comments.{optional_comment_r}
 use Rattle.strings.specs.Contract.{Texts}
@@ -34,7 +33,6 @@ use Rattle.strings.specs.Quoted.{quoted_s}
 use Rattle.blocks.specs.First.{refuted}
 use Rattle.blocks.specs.KeyLook.{colon, keyed, dashed, key_none, key_end}
 use Rattle.judge.specs.declared.Start.TheVariants.{Dash, Key, Line}
-use Rattle.judge.specs.declared.Next.TheVariants.{More, Over}
 use Rattle.judge.specs.Members.{firsts}
 use Rattle.judge.proofs.Names.{name_bad, name_is}
 use Rattle.judge.specs.Contract.{feed_r, ends_r, Gap, one_space, no_space, two_spaces, Looked, Follows}
@@ -50,14 +48,14 @@ eqb_is a b = go (eqb b a) refl
 -- ---- a space
 
 module _ (doc : List ℕ) (c : Cursor) (t : Ans) (h : Takes doc c 32 t) where
-  pub gap_none : (p : ℕ) → t ≡ No p → Gap doc c (No p)
+  pub gap_none : (p : ℕ) → t ≡ Err p → Gap doc c (Err p)
   gap_none p e = no_space p (Laws.take_other doc c 32 t h p e)
 
   module _ (n : Cursor) (y : ℕ) (e : t ≡ Ok n) (g : y ≡ peek doc n.at) where
     behind : y ≡ peek doc (c.at + 1)
     behind = g ∙ ap (λ (m : Cursor). peek doc m.at) (Laws.take_next doc c 32 t h n e)
 
-    pub gap_two : y ≡ 32 → Gap doc c (No c.at)
+    pub gap_two : y ≡ 32 → Gap doc c (Err c.at)
     gap_two k = two_spaces c.at (Laws.take_byte doc c 32 t h n e) (sym k ∙ behind)
 
     pub gap_one : (y ≡ 32 → ⊥) → Gap doc c (Ok n)
@@ -74,15 +72,15 @@ module _ (doc : List ℕ) (at : ℕ) (root : Bool) where
   unfolding ends_r
   ends_feed r e h = rw e h
 
-  pub ends_bad : (r : Skip) (p : ℕ) → root ≡ false → r ≡ Bad p → Skips doc at (optional_comment_r at (drop at doc)) r → Skips doc at (ends_r root at (drop at doc)) (Bad p)
+  pub ends_bad : (r : Skip) (p : ℕ) → root ≡ false → r ≡ Err p → Skips doc at (optional_comment_r at (drop at doc)) r → Skips doc at (ends_r root at (drop at doc)) (Err p)
   unfolding ends_r Skips
   ends_bad r p e z h = let k : optional_comment_r at (drop at doc) ≡ bad p = rw z at h in rw e (ap (λ (o : Out (List ℕ)). bind o (λ _. feed_r)) k)
 
-  pub ends_behind : (r : Skip) (n : ℕ) → r ≡ End n → Skips doc at (optional_comment_r at (drop at doc)) r → n ≤ length doc
+  pub ends_behind : (r : Skip) (n : ℕ) → r ≡ Ok n → Skips doc at (optional_comment_r at (drop at doc)) r → n ≤ length doc
   unfolding Skips
   ends_behind r n z h = let k : Ends doc at (optional_comment_r at (drop at doc)) n = rw z at h in k.inside
 
-  pub ends_ok : (r s : Skip) (n : ℕ) → root ≡ false → r ≡ End n → Skips doc at (optional_comment_r at (drop at doc)) r → Skips doc n (feed_r n (drop n doc)) s → Skips doc at (ends_r root at (drop at doc)) s
+  pub ends_ok : (r s : Skip) (n : ℕ) → root ≡ false → r ≡ Ok n → Skips doc at (optional_comment_r at (drop at doc)) r → Skips doc n (feed_r n (drop n doc)) s → Skips doc at (ends_r root at (drop at doc)) s
   unfolding ends_r Skips
   ends_ok r s n e z h g =
       let k : Ends doc at (optional_comment_r at (drop at doc)) n = rw z at h in
@@ -90,8 +88,8 @@ module _ (doc : List ℕ) (at : ℕ) (root : Bool) where
       go s q k g
     where
       go : (s : Skip) → ends_r root at (drop at doc) ≡ feed_r n (drop n doc) → Ends doc at (optional_comment_r at (drop at doc)) n → Skips doc n (feed_r n (drop n doc)) s → Skips doc at (ends_r root at (drop at doc)) s
-      go (End m) q k g = record { value = g.value; is = q ∙ g.is; behind = omega (arith, k.behind, g.behind); inside = g.inside }
-      go (Bad p) q k g = q ∙ g
+      go (Ok m) q k g = record { value = g.value; is = q ∙ g.is; behind = omega (arith, k.behind, g.behind); inside = g.inside }
+      go (Err p) q k g = q ∙ g
 
 -- ---- what a member begins with
 
@@ -131,7 +129,7 @@ module _ (o : Bool) (doc : List ℕ) (c : Cursor) (n i : ℕ) (h : i ≡ lead n 
   ends_at : d.at ≡ c.at + lead n (drop c.at doc)
   ends_at = ap (λ (m : Cursor). m.at) on ∙ ap (c.at +◌) h
 
-  pub line_short : i < n → Follows o doc c n (Over d.at)
+  pub line_short : i < n → Follows o doc c n (Err d.at)
   unfolding Follows
   line_short k =
       record {
@@ -153,14 +151,14 @@ module _ (o : Bool) (doc : List ℕ) (c : Cursor) (n i : ℕ) (h : i ≡ lead n 
       past false = refl
       past true = refl
 
-  pub line_more : (b : ℕ) (x : Bool) → n ≤ i → i ≤ n → b ≡ peek doc d.at → x ≡ is (firsts o) b → x ≡ true → Follows o doc c n (More d)
+  pub line_more : (b : ℕ) (x : Bool) → n ≤ i → i ≤ n → b ≡ peek doc d.at → x ≡ is (firsts o) b → x ≡ true → Follows o doc c n (Ok d)
   unfolding Follows
   line_more b x k m g y z =
       let e : i ≡ n = omega arith in
       let t : d.at ≡ c.at + n = omega (arith, ap (λ (m : Cursor). m.at) on) in
       (record { begins = full_look k m b g ∙ (sym y ∙ z); there = t; full = sym h ∙ e }, rw on refl)
 
-  pub line_other : (b : ℕ) (x : Bool) → n ≤ i → i ≤ n → b ≡ peek doc d.at → x ≡ is (firsts o) b → x ≡ false → Follows o doc c n (Over d.at)
+  pub line_other : (b : ℕ) (x : Bool) → n ≤ i → i ≤ n → b ≡ peek doc d.at → x ≡ is (firsts o) b → x ≡ false → Follows o doc c n (Err d.at)
   unfolding Follows
   line_other b x k m g y z =
       record { none = full_look k m b g ∙ (sym y ∙ z); upto = ends_at; inside = omega (arith, ap (λ (m : Cursor). m.at) on) }
@@ -168,7 +166,7 @@ module _ (o : Bool) (doc : List ℕ) (c : Cursor) (n i : ℕ) (h : i ≡ lead n 
 -- ---- how a block begins
 
 module _ (doc : List ℕ) (c : Cursor) (t : Ans) (h : Takes doc c 45 t) where
-  pub dash_none : (p : ℕ) → t ≡ No p → false ≡ dashed (drop c.at doc)
+  pub dash_none : (p : ℕ) → t ≡ Err p → false ≡ dashed (drop c.at doc)
   dash_none p k = sym (go (there doc c.at))
     where
       go : There doc c.at → dashed (drop c.at doc) ≡ false
@@ -208,7 +206,7 @@ module _ (doc : List ℕ) (c : Cursor) (d : Bool) (hd : d ≡ dashed (drop c.at 
       none = go (there doc c.at)
 
 module _ (doc : List ℕ) (c : Cursor) (T T' : List ℕ) (hd : dashed (drop c.at doc) ≡ false) (a : Ans) (w : Texts doc c (name_r c.at (drop c.at doc)) a T T') where
-  pub look_none : (q : ℕ) → a ≡ No q → Looked doc c.at (Line q)
+  pub look_none : (q : ℕ) → a ≡ Err q → Looked doc c.at (Line q)
   unfolding Looked
   look_none q z = let k = name_bad doc c a T T' w q z in record { no_dash = hd; no_key = ap keyed k; stops = sym (ap reach k) }
 

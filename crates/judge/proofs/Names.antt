@@ -8,15 +8,15 @@ use Rattle.exact.specs.Lang.{ret_r}
 use Rattle.language.specs.Kind.{KEY}
 use Rattle.language.specs.Tree.{leaf}
 use Rattle.rooms.specs.declared.Cursor.{Cursor}
-use Rattle.rooms.specs.declared.Ans.{Ans}
-use Rattle.rooms.specs.declared.Ans.TheVariants.{Ok, No}
+use Rattle.rooms.specs.Contract.{Ans}
+use Rattle.std.specs.declared.result.Result.TheVariants.{Err, Ok}
 use Rattle.strings.specs.Contract.{Texted, Texts}
 use Rattle.strings.specs.Joining.{itself}
 use Rattle.strings.specs.Keys.{name_r, key_r}
 use Rattle.strings.specs.Spans.{spanned_r}
 
 module _ (doc : List ℕ) (c : Cursor) (a : Ans) (T T' : List ℕ) (w : Texts doc c (name_r c.at (drop c.at doc)) a T T') where
-  pub name_bad : (q : ℕ) → a ≡ No q → key_r c.at (drop c.at doc) ≡ bad q
+  pub name_bad : (q : ℕ) → a ≡ Err q → key_r c.at (drop c.at doc) ≡ bad q
   unfolding Texts key_r spanned_r
   name_bad q e = let k : name_r c.at (drop c.at doc) ≡ bad q = rw e at w in ap (λ o. bind o (λ s e. ret_r (leaf KEY c.at e s) e)) k
 

@@ -13,14 +13,12 @@ use Rattle.exact.specs.Lines.{reached}
 use Rattle.exact.specs.Place.{peek}
 use Rattle.exact.specs.Block.{lead}
 use Rattle.rooms.specs.declared.Cursor.{Cursor}
-use Rattle.rooms.specs.declared.Ans.{Ans}
-use Rattle.rooms.specs.declared.Ans.TheVariants.{Ok, No}
-use Rattle.rooms.specs.declared.Block.{Block}
-use Rattle.rooms.specs.declared.Block.TheVariants.{Done, Bad}
+use Rattle.rooms.specs.Contract.{Ans}
+use Rattle.std.specs.declared.result.Result.TheVariants.{Err, Ok}
+use Rattle.rooms.specs.Contract.{Block}
 use Rattle.rooms.specs.Contract.{onward, Ready, Takes, Answers, Blocks, Span, Taken}
 use Rattle.rooms.specs.Laws
-use Rattle.characters.specs.declared.Skip.{Skip}
-use Rattle.characters.specs.declared.Skip.TheVariants
+use Rattle.characters.specs.Reads.{Skip}
 use Rattle.characters.specs.Reads.{Ends, Skips}
 use Rattle.notes.specs.Flat.{flats}
 use Rattle.language.specs.Answered.{limit}
@@ -41,8 +39,6 @@ use Rattle.blocks.specs.Openers.{opener_r, nested_line_r}
 use Rattle.blocks.specs.Nested.{nested_here_r, nested_r, item_r}
 use Rattle.judge.specs.declared.Start.{Start}
 use Rattle.judge.specs.declared.Start.TheVariants.{Dash, Key, Line}
-use Rattle.judge.specs.declared.Next.{Next}
-use Rattle.judge.specs.declared.Next.TheVariants.{More, Over}
 use Rattle.judge.specs.Members.{Member, kind_of, children, members, block_of, member_r, block_r, children_append, children_none, block_is}
 use Rattle.judge.specs.Contract.{ends_r, end_r, Gap, Neither, Looked, Again, Ended, Follows, Read, Members}
 use Rattle.judge.proofs.Spans.{key_leaf}
@@ -53,7 +49,7 @@ use Rattle.judge.proofs.Noting.{gives_merge, nested_line_notes}
 
 -- ---- where a reader is refused, nothing is asked
 
-pub refused_notes : (doc : List ℕ) (c : Cursor) (p : ℕ) (o : Out Tree) (q at row : ℕ) (R R' T T' S S' : List ℕ) → Blocks doc c p o (Bad q) R R' T T' → Notes one doc at row p o S S'
+pub refused_notes : (doc : List ℕ) (c : Cursor) (p : ℕ) (o : Out Tree) (q at row : ℕ) (R R' T T' S S' : List ℕ) → Blocks doc c p o (Err q) R R' T T' → Notes one doc at row p o S S'
 unfolding Blocks
 refused_notes doc c p o q at row R R' T T' S S' h = notes_bad q h
 
@@ -69,11 +65,11 @@ module _ (doc : List ℕ) (c : Cursor) (x : Ans) (g : Gap doc c x) (p k n : ℕ)
       let z : d.at ≡ c.at + 1 = ap (λ (m : Cursor). m.at) u.next in
       notes_same (Colons.rest_on (on_r k n) (nested_r k (suc (suc n))) doc c.at u.space u.single ∙ ap (λ (i : ℕ). on_r k n i (drop i doc)) (sym z)) (omega arith) (sym (ap (λ (m : Cursor). m.row) u.next)) w
 
-  module _ (s : Skip) (y : ℕ) (e : x ≡ No y) (h : Skips doc c.at (ends_r false c.at (drop c.at doc)) s) where
-    pub behind_bad_notes : (q : ℕ) → s ≡ TheVariants.Bad q → Behind
+  module _ (s : Skip) (y : ℕ) (e : x ≡ Err y) (h : Skips doc c.at (ends_r false c.at (drop c.at doc)) s) where
+    pub behind_bad_notes : (q : ℕ) → s ≡ Err q → Behind
     behind_bad_notes q z = refused_notes doc c p _ q c.at c.row [] [] [] [] S S' (Colons.behind_bad doc c x g p k n [] [] [] [] s y e h q z)
 
-    pub behind_nested_notes : (a j : ℕ) (d : Cursor) → s ≡ TheVariants.End a → d ≡ record { at = a; row = c.row; text = c.text } → j ≡ n + 2
+    pub behind_nested_notes : (a j : ℕ) (d : Cursor) → s ≡ Ok a → d ≡ record { at = a; row = c.row; text = c.text } → j ≡ n + 2
         → Notes one doc d.at d.row p (nested_r k j d.at (drop d.at doc)) S S' → Behind
     unfolding Skips
     behind_nested_notes a j d z f i w =
@@ -94,12 +90,12 @@ module _ (doc : List ℕ) (c : Cursor) (p : ℕ) (a : Ans) (R R' T T' : List ℕ
   abbrev Own : Type 0
   Own = Notes (members true) doc c.at c.row p (member_r true k n c.at (drop c.at doc)) S S'
 
-  pub property_none_notes : (q : ℕ) → a ≡ No q → Own
+  pub property_none_notes : (q : ℕ) → a ≡ Err q → Own
   unfolding Members
   property_none_notes q e = notes_bad q (Colons.property_none doc c p a R R' T T' w k n q e)
 
   module _ (m : Cursor) (t : Ans) (e : a ≡ Ok m) (h : Takes doc m 58 t) where
-    pub property_cut_notes : (q : ℕ) → t ≡ No q → Own
+    pub property_cut_notes : (q : ℕ) → t ≡ Err q → Own
     unfolding Members
     property_cut_notes q z = notes_bad q (Colons.property_cut doc c p a R R' T T' w m t e h k n q z)
 
@@ -148,7 +144,7 @@ module _ (doc : List ℕ) (c : Cursor) (p k n : ℕ) (o : Bool) (S S' : List ℕ
   member_property_notes e w = rw e w
 
   module _ (a : Ans) (e : o ≡ false) (h : Passed doc c 45 32 a) where
-    pub member_cut_notes : (q : ℕ) → a ≡ No q → Member-notes
+    pub member_cut_notes : (q : ℕ) → a ≡ Err q → Member-notes
     unfolding Members
     member_cut_notes q l = notes_bad q (Containers.member_cut doc c p k n o [] [] [] [] a e h q l)
 
@@ -189,11 +185,11 @@ module _ (o : Bool) (k n : ℕ) (doc : List ℕ) (c : Cursor) (R₀ T₀ S₀ : 
   module _ (R T S : List ℕ) (cur : Cursor) (far cnt : ℕ) (nl : Noticed o k n doc c R₀ T₀ S₀ R T S cur far cnt) (a : Block) (R' T' S' : List ℕ)
       (w : Members o doc cur c.row (member_r o k n cur.at (drop cur.at doc)) a R R' T T')
       (ns : Notes (members o) doc cur.at cur.row c.row (member_r o k n cur.at (drop cur.at doc)) S S') where
-    pub block_refused_notes : (p q g : ℕ) → a ≡ Bad q → g ≡ max far q → Notes one doc c.at c.row p (block_r o k n c.at (drop c.at doc)) S₀ S'
+    pub block_refused_notes : (p q g : ℕ) → a ≡ Err q → g ≡ max far q → Notes one doc c.at c.row p (block_r o k n c.at (drop c.at doc)) S₀ S'
     block_refused_notes p q g e h =
         refused_notes doc c p _ g c.at c.row R₀ R' T₀ T' S₀ S' (Containers.block_refused o k n doc c R₀ T₀ R T cur far cnt nl.loop a R' T' w p q g e h)
 
-    module _ (m : Cursor) (f e : ℕ) (z : a ≡ Done m f e) where
+    module _ (m : Cursor) (f e : ℕ) (z : a ≡ Ok (m, f, e)) where
       got : Read o doc cur c.row (member_r o k n cur.at (drop cur.at doc)) m f e R R' T T'
       got = Containers.member_read o doc cur c.row _ a R R' T T' w m f e z
 
@@ -206,8 +202,8 @@ module _ (o : Bool) (k n : ℕ) (doc : List ℕ) (c : Cursor) (R₀ T₀ S₀ : 
           rw (children_append o nl.loop.done (got.member ∷ []))
           (kept_trees (c.row + 1) c.row (children o nl.loop.done) (members o got.member) nl.kept (kept_known ns₁ f got.member m.at (drop m.at doc) got.is))
 
-      module _ (x : Next) (fl : Follows o doc m n x) where
-        pub block_done_notes : (p q : ℕ) → x ≡ Over q → Notes one doc c.at c.row p (block_r o k n c.at (drop c.at doc)) S₀ S'
+      module _ (x : Ans) (fl : Follows o doc m n x) where
+        pub block_done_notes : (p q : ℕ) → x ≡ Err q → Notes one doc c.at c.row p (block_r o k n c.at (drop c.at doc)) S₀ S'
         unfolding Follows
         block_done_notes p q y =
             let d : Ended o doc m.at n q = rw y at fl in
@@ -215,7 +211,7 @@ module _ (o : Bool) (k n : ℕ) (doc : List ℕ) (c : Cursor) (R₀ T₀ S₀ : 
             (Blocks.block_tree o k n doc c R₀ T₀ R T R' T' cur m far cnt f e nl.loop got q d)
             (kept_node c.row p (kind_of o) c.at e (cnt + 1) (forest (children o (nl.loop.done ++ got.member ∷ []))) both)
 
-        pub block_again_notes : (g : ℕ) (d : Cursor) → x ≡ More d → g ≡ max far f → Noticed o k n doc c R₀ T₀ S₀ R' T' S' d g (cnt + 1)
+        pub block_again_notes : (g : ℕ) (d : Cursor) → x ≡ Ok d → g ≡ max far f → Noticed o k n doc c R₀ T₀ S₀ R' T' S' d g (cnt + 1)
         unfolding Follows Blocks.loop_more
         block_again_notes g d y u =
             let q : Again o doc m.at n d.at × (d ≡ record { at = d.at; row = m.row; text = m.text }) = rw y at fl in
@@ -287,14 +283,14 @@ module _ (doc : List ℕ) (c : Cursor) (p n i : ℕ) (S S' : List ℕ) (h : i �
 
     module _ (z : k ≡ 0 → ⊥) (s : Start) (g : Looked doc m.at s) where
       pub nested_dash_notes : s ≡ Dash → Notes one doc m.at m.row p (block_r false (k - 1) n m.at (drop m.at doc)) S S' → In
-      nested_dash_notes e x = from _ (Containers.dash_is doc c p n i [] [] [] [] h m l u f k (Bad 0) z s g e) x
+      nested_dash_notes e x = from _ (Containers.dash_is doc c p n i [] [] [] [] h m l u f k (Err 0) z s g e) x
 
       pub nested_key_notes : s ≡ Key → Notes one doc m.at m.row p (block_r true (k - 1) n m.at (drop m.at doc)) S S' → In
-      nested_key_notes e x = from _ (Containers.key_is doc c p n i [] [] [] [] h m l u f k (Bad 0) z s g e) x
+      nested_key_notes e x = from _ (Containers.key_is doc c p n i [] [] [] [] h m l u f k (Err 0) z s g e) x
 
       pub nested_other_notes : (q : ℕ) → s ≡ Line q → S' ≡ S → In
       nested_other_notes q e y =
-          from _ (Containers.line_is doc c p n i [] [] [] [] h m l u f k (Bad 0) z s g q e)
+          from _ (Containers.line_is doc c p n i [] [] [] [] h m l u f k (Err 0) z s g q e)
           (merge_notes doc m.at m.row p q _ (nested_line_r n m.at (drop m.at doc)) S S' refl (rw y (nested_line_notes doc m.at m.row p n S)))
 
 pub ruleset nested_noting = (nested_cut_notes, nested_none_notes, nested_dash_notes, nested_key_notes, nested_other_notes, rules)

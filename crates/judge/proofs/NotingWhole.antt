@@ -10,13 +10,11 @@ use Rattle.language.specs.Tree.{Tree, forest}
 use Rattle.exact.specs.Verdict.{acc, stop}
 use Rattle.exact.specs.Out.{Reader}
 use Rattle.rooms.specs.declared.Cursor.{Cursor}
-use Rattle.rooms.specs.declared.Ans.{Ans}
-use Rattle.rooms.specs.declared.Ans.TheVariants.{Ok, No}
-use Rattle.rooms.specs.declared.Block.{Block}
-use Rattle.rooms.specs.declared.Block.TheVariants.{Done, Bad}
+use Rattle.rooms.specs.Contract.{Ans}
+use Rattle.std.specs.declared.result.Result.TheVariants.{Err, Ok}
+use Rattle.rooms.specs.Contract.{Block}
 use Rattle.rooms.specs.Contract.{Blocks}
-use Rattle.characters.specs.declared.Skip.{Skip}
-use Rattle.characters.specs.declared.Skip.TheVariants
+use Rattle.characters.specs.Reads.{Skip}
 use Rattle.characters.specs.Reads.{Skips}
 use Rattle.notes.specs.Flat.{flat, flats, flats_one}
 use Rattle.notes.specs.Notes.{Kept, kept_wide, Notes, one, kept_known}
@@ -60,17 +58,17 @@ module _ (k : ℕ) (doc : List ℕ) where
   unlogged S S' p h = record { logged = λ t e. Documents.never (sym e ∙ h) }
 
   module _ (r : Skip) (hd : Skips doc 0 (head_r 0 doc) r) where
-    pub passed_none_logged : (S : List ℕ) (p : ℕ) → r ≡ TheVariants.Bad p → Logged k doc S S
+    pub passed_none_logged : (S : List ℕ) (p : ℕ) → r ≡ Err p → Logged k doc S S
     passed_none_logged S p e = unlogged S S p (Documents.head_no k doc r hd p e)
 
-    module _ (at : ℕ) (e : r ≡ TheVariants.End at) (b : Block) (R R' T T' S S' : List ℕ)
+    module _ (at : ℕ) (e : r ≡ Ok at) (b : Block) (R R' T T' S S' : List ℕ)
         (w : Blocks doc (record { at = at; row = 0; text = 0 }) 0 (root_r k at (drop at doc)) b R R' T T') where
-      pub passed_not_logged : (p : ℕ) → b ≡ Bad p → Logged k doc S S'
+      pub passed_not_logged : (p : ℕ) → b ≡ Err p → Logged k doc S S'
       passed_not_logged p z = unlogged S S' p (Documents.root_no k doc r hd at e b R R' T T' w p z)
 
-      pub passed_logged : (n : Cursor) (far f : ℕ) (a : Ans) → b ≡ Done n far f → Finished doc n far a → Notes one doc at 0 0 (root_r k at (drop at doc)) S S' → Logged k doc S S'
+      pub passed_logged : (n : Cursor) (far f : ℕ) (a : Ans) → b ≡ Ok (n, far, f) → Finished doc n far a → Notes one doc at 0 0 (root_r k at (drop at doc)) S S' → Logged k doc S S'
       unfolding Finished
-      passed_logged n far f (No p) z x y = unlogged S S' _ (Documents.whole_no k doc r hd at e b R R' T T' w n far f z x.1)
+      passed_logged n far f (Err p) z x y = unlogged S S' _ (Documents.whole_no k doc r hd at e b R R' T T' w n far f z x.1)
       passed_logged n far f (Ok m) z x y =
           let g = Documents.got_root k doc r hd at e b R R' T T' w n far f z in
           let u : Kept doc at (flats 0 0 (forest (g.tree ∷ []))) n.at S S' = kept_known y far g.tree n.at (drop n.at doc) g.is in

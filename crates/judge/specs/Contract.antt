@@ -13,10 +13,9 @@ use Rattle.exact.specs.Block.{ind, lead}
 use Rattle.exact.specs.Lines.{reached}
 use Rattle.rooms.specs.Told.{spot, tally}
 use Rattle.rooms.specs.declared.Cursor.{Cursor}
-use Rattle.rooms.specs.declared.Ans.{Ans}
-use Rattle.rooms.specs.declared.Ans.TheVariants.{Ok, No}
-use Rattle.rooms.specs.declared.Block.{Block}
-use Rattle.rooms.specs.declared.Block.TheVariants.{Done, Bad}
+use Rattle.rooms.specs.Contract.{Ans}
+use Rattle.std.specs.declared.result.Result.TheVariants.{Err, Ok}
+use Rattle.rooms.specs.Contract.{Block}
 use Rattle.rooms.specs.Contract.{ample, onward}
 use Rattle.characters.specs.Comments.{comment_r, optional_comment_r}
 use Rattle.strings.specs.Keys.{key_r}
@@ -28,8 +27,6 @@ use Rattle.blocks.specs.Document.{verdict}
 use Rattle.blocks.specs.ValueLine.{feed_end_r, comment_end_r}
 use Rattle.judge.specs.declared.Start.{Start}
 use Rattle.judge.specs.declared.Start.TheVariants.{Dash, Key, Line}
-use Rattle.judge.specs.declared.Next.{Next}
-use Rattle.judge.specs.declared.Next.TheVariants.{More, Over}
 use Rattle.judge.specs.Members.{Member, firsts, begin, children}
 
 -- ASKED of a cursor where a member of a block begins: the block's own row came before, so its row may be one ahead of its place
@@ -55,8 +52,8 @@ end_r false = comment_end_r
 -- BEHIND A COLON at c: a space and no second one, taken; or not
 pub data Gap (doc : List ℕ) (c : Cursor) : Ans → Type 0 where
   one_space : 32 ≡ peek doc c.at → (peek doc (c.at + 1) ≡ 32 → ⊥) → Gap doc c (Ok (onward c 1))
-  no_space : (p : ℕ) → (peek doc c.at ≡ 32 → ⊥) → Gap doc c (No p)
-  two_spaces : (p : ℕ) → 32 ≡ peek doc c.at → 32 ≡ peek doc (c.at + 1) → Gap doc c (No p)
+  no_space : (p : ℕ) → (peek doc c.at ≡ 32 → ⊥) → Gap doc c (Err p)
+  two_spaces : (p : ℕ) → 32 ≡ peek doc c.at → 32 ≡ peek doc (c.at + 1) → Gap doc c (Err p)
 
 -- A LOOK says how a block begins: with a dash and a space, with a key and a colon, or with neither, and then where the key ends
 pub record Neither (at : ℕ) (s : List ℕ) (p : ℕ) : Type 0 where
@@ -71,8 +68,8 @@ Looked doc at (Line p) = Neither at (drop at doc) p
 
 -- a refusal is no earlier than p
 unfoldable pub later : Block → ℕ → Block
-later (Done n far e) p = Done n far e
-later (Bad q) p = Bad (max q p)
+later (Ok (n, far, e)) p = Ok (n, far, e)
+later (Err q) p = Err (max q p)
 
 -- the numbers of a block's row fit
 pub record Enclosed (c : Cursor) (e count next : ℕ) : Type 0 where
@@ -93,9 +90,9 @@ pub record Ended (o : Bool) (doc : List ℕ) (at n p : ℕ) : Type 0 where
   pub upto : p ≡ at + lead n (drop at doc)
   pub inside : p ≤ length doc
 
-unfoldable pub Follows : Bool → List ℕ → Cursor → ℕ → Next → Type 0
-Follows o doc c n (More d) = Again o doc c.at n d.at × (d ≡ record { at = d.at; row = c.row; text = c.text })
-Follows o doc c n (Over p) = Ended o doc c.at n p
+unfoldable pub Follows : Bool → List ℕ → Cursor → ℕ → Ans → Type 0
+Follows o doc c n (Ok d) = Again o doc c.at n d.at × (d ≡ record { at = d.at; row = c.row; text = c.text })
+Follows o doc c n (Err p) = Ended o doc c.at n p
 
 -- A MEMBER at c: its trees are written with one parent, it ends at e, and n stands behind its lines
 pub record Read (o : Bool) (doc : List ℕ) (c : Cursor) (parent : ℕ) (out : Out (Member o)) (n : Cursor) (far e : ℕ) (R R' T T' : List ℕ) : Type 0 where
@@ -108,8 +105,8 @@ pub record Read (o : Bool) (doc : List ℕ) (c : Cursor) (parent : ℕ) (out : O
   pub written : Written doc c n parent (children o (member ∷ [])) R R' T T'
 
 unfoldable pub Members : (o : Bool) → List ℕ → Cursor → ℕ → Out (Member o) → Block → List ℕ → List ℕ → List ℕ → List ℕ → Type 0
-Members o doc c parent out (Done n far e) R R' T T' = Read o doc c parent out n far e R R' T T'
-Members o doc c parent out (Bad p) R R' T T' = out ≡ bad p
+Members o doc c parent out (Ok (n, far, e)) R R' T T' = Read o doc c parent out n far e R R' T T'
+Members o doc c parent out (Err p) R R' T T' = out ≡ bad p
 
 -- COMMENTS before the root, each with its LF
 unfoldable pub comment_line_r : Reader ℕ
@@ -118,7 +115,7 @@ comment_line_r = seq_r comment_r λ _. byte_r (is (only 10))
 -- WHAT FOLLOWS the root that ends at n: blank lines and the document's end, or the place where it goes on otherwise
 unfoldable pub Finished : List ℕ → Cursor → ℕ → Ans → Type 0
 Finished doc n far (Ok m) = (m ≡ n) × (length doc ≤ run_end (only 10) doc n.at)
-Finished doc n far (No p) = (p ≡ max far (run_end (only 10) doc n.at)) × (run_end (only 10) doc n.at < length doc)
+Finished doc n far (Err p) = (p ≡ max far (run_end (only 10) doc n.at)) × (run_end (only 10) doc n.at < length doc)
 
 -- A WHOLE DOCUMENT read with an allowance of k: its tree and counts, or how far it begins one
 pub record Known (k : ℕ) (doc : List ℕ) (n : Cursor) : Type 0 where
@@ -130,7 +127,7 @@ pub record Known (k : ℕ) (doc : List ℕ) (n : Cursor) : Type 0 where
 
 unfoldable pub Checked : ℕ → List ℕ → Ans → Type 0
 Checked k doc (Ok n) = Known k doc n
-Checked k doc (No p) = verdict k doc ≡ stop p
+Checked k doc (Err p) = verdict k doc ≡ stop p
 
 -- .. and what it has written
 pub record Filled (k : ℕ) (doc rows rows' text text' : List ℕ) : Type 0 where

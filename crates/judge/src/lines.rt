@@ -13,10 +13,9 @@ ghost use Rattle.judge.specs.Contract.{Stands, end_r, later, Enclosed};
 
 use super::look::{line_end, moved};
 use blocktext::{joined, open_bytes, open_string, property_bytes, property_string};
-use characters::Skip;
 use inline::line_value;
 use language::Kind;
-use rooms::{Ans, Block, Cursor, Far, greater, put_row, row_of};
+use rooms::{Ans, Block, Cursor, put_row, row_of};
 use strings::name;
 
 // A value on this line, and the line's end; at the root no comment.
@@ -34,19 +33,16 @@ pub fn value_line(
     ensures blocks { Blocks doc.now c parent (line_r (end_r root) allow c.at (drop c.at doc.now)) result rows.old rows.new text.old text.new }
     ensures notes { Notes one doc.now c.at c.row parent (line_r (end_r root) allow c.at (drop c.at doc.now)) keys.old keys.new }
 {
-    match line_value(&*doc, rows, text, keys, c, parent, allow) {
-        Far::Not(p) => Block::Bad(p),
-        Far::Upto(n, far) => {
-            let e = n.at;
-            match line_end(&*doc, e, root) {
-                Skip::Bad(p) => Block::Bad(greater(far, p)),
-                Skip::End(a) => Block::Done(moved(n, a), far, e),
-            }
-        }
+    let (n, far) = line_value(doc, rows, text, keys, c, parent, allow)?;
+    let e = n.at;
+    match line_end(doc, e, root) {
+        Ok(a) => Ok((moved(n, a), far, e)),
+        Err(p) => Err(far.max(p)),
     }
 }
 
 // Behind a colon's space: a block string or block bytes of a property at col, or a value on this line.
+// Stays (point 2): `on_line` and `opener` read by two grammars (on_r, opener_r) and share but the choice by the first byte; as one, with a flag, each arm and the contract would choose again.
 pub fn on_line(
     doc: &[u8],
     rows: &mut [u32],
@@ -62,10 +58,10 @@ pub fn on_line(
     ensures blocks { Blocks doc.now c parent (on_r allow col c.at (drop c.at doc.now)) result rows.old rows.new text.old text.new }
     ensures notes { Notes one doc.now c.at c.row parent (on_r allow col c.at (drop c.at doc.now)) keys.old keys.new }
 {
-    match c.look(&*doc) {
-        96 => property_string(&*doc, rows, text, c, parent, col),
-        62 => property_bytes(&*doc, rows, text, c, parent, col),
-        _ => value_line(&*doc, rows, text, keys, c, parent, allow, false),
+    match c.look(doc) {
+        96 => property_string(doc, rows, text, c, parent, col),
+        62 => property_bytes(doc, rows, text, c, parent, col),
+        _ => value_line(doc, rows, text, keys, c, parent, allow, false),
     }
 }
 
@@ -86,10 +82,10 @@ pub fn opener(
     ensures blocks { Blocks doc.now c parent (opener_r (end_r root) allow col c.at (drop c.at doc.now)) result rows.old rows.new text.old text.new }
     ensures notes { Notes one doc.now c.at c.row parent (opener_r (end_r root) allow col c.at (drop c.at doc.now)) keys.old keys.new }
 {
-    match c.look(&*doc) {
-        96 => open_string(&*doc, rows, text, c, parent, col),
-        62 => open_bytes(&*doc, rows, text, c, parent, col),
-        _ => value_line(&*doc, rows, text, keys, c, parent, allow, root),
+    match c.look(doc) {
+        96 => open_string(doc, rows, text, c, parent, col),
+        62 => open_bytes(doc, rows, text, c, parent, col),
+        _ => value_line(doc, rows, text, keys, c, parent, allow, root),
     }
 }
 
@@ -106,10 +102,10 @@ pub fn nested_line(
     requires col_le_columns { col ≤ columns }
     ensures { Blocks doc.now c parent (nested_line_r col c.at (drop c.at doc.now)) result rows.old rows.new text.old text.new }
 {
-    if c.look(&*doc) == 96 {
-        return open_string(&*doc, rows, text, c, parent, col);
+    if c.look(doc) == 96 {
+        return open_string(doc, rows, text, c, parent, col);
     }
-    joined(&*doc, rows, text, c, parent, col)
+    joined(doc, rows, text, c, parent, col)
 }
 
 // The answer, refused no earlier than p.
@@ -117,8 +113,8 @@ pub fn kept(b: Block, p: usize) -> Block
     ensures { result ≡ later b p }
 {
     match b {
-        Block::Done(n, far, e) => Block::Done(n, far, e),
-        Block::Bad(q) => Block::Bad(greater(q, p)),
+        Ok((n, far, e)) => Ok((n, far, e)),
+        Err(q) => Err(q.max(p)),
     }
 }
 
@@ -133,18 +129,14 @@ pub fn key_row(doc: &[u8], rows: &mut [u32], text: &mut [u8], c: Cursor, parent:
         row: 0,
         text: c.text,
     };
-    match name(&*doc, text, from) {
-        Ans::No(p) => Ans::No(p),
-        Ans::Ok(n) => {
-            let w = row_of(Kind::KEY, c.at, n.at, c.spot(), n.spot(), parent, row + 1);
-            put_row(rows, row, w);
-            Ans::Ok(Cursor {
-                at: n.at,
-                row: row + 1,
-                text: n.text,
-            })
-        }
-    }
+    let n = name(doc, text, from)?;
+    let w = row_of(Kind::KEY, c.at, n.at, c.spot(), n.spot(), parent, row + 1);
+    put_row(rows, row, w);
+    Ok(Cursor {
+        at: n.at,
+        row: row + 1,
+        text: n.text,
+    })
 }
 
 fn kind_of(object: bool) -> Kind

@@ -9,13 +9,12 @@ ghost use Rattle.notes.specs.Notes.{Notes, one};
 ghost use Rattle.judge.specs.Members.{members, member_r, block_r};
 ghost use Rattle.judge.specs.Contract.{Stands, Members};
 
+use super::Start;
 use super::lines::{enclose, kept, key_row, nested_line, on_line, opener};
 use super::look::{further, line_end, moved, one_space, starts};
-use super::{Next, Start};
-use characters::Skip;
 use inline::pass;
 use notes::note;
-use rooms::{Ans, Block, Cursor, greater};
+use rooms::{Block, Cursor, anew_block};
 
 // What stands behind the colon of a property at col.
 #[cycle(behind_block_bullet_item_member_nested_property)]
@@ -34,13 +33,11 @@ fn behind(
     ensures blocks { Blocks doc.now c parent (rest_r (on_r allow col) (nested_r allow (suc (suc col))) c.at (drop c.at doc.now)) result rows.old rows.new text.old text.new }
     ensures notes { Notes one doc.now c.at c.row parent (rest_r (on_r allow col) (nested_r allow (suc (suc col))) c.at (drop c.at doc.now)) keys.old keys.new }
 {
-    if let Ans::Ok(n) = one_space(&*doc, c) {
-        return on_line(&*doc, rows, text, keys, n, parent, col, allow).anew();
+    if let Ok(n) = one_space(doc, c) {
+        return anew_block(on_line(doc, rows, text, keys, n, parent, col, allow));
     }
-    match line_end(&*doc, c.at, false) {
-        Skip::Bad(p) => Block::Bad(p),
-        Skip::End(a) => nested(&*doc, rows, text, keys, moved(c, a), parent, col + 2, allow).anew(),
-    }
+    let a = line_end(doc, c.at, false)?;
+    anew_block(nested(doc, rows, text, keys, moved(c, a), parent, col + 2, allow))
 }
 
 // A property at col: its key, a colon, and what stands behind it.
@@ -60,16 +57,10 @@ fn property(
     ensures members { Members true doc.now c parent (member_r true allow col c.at (drop c.at doc.now)) result rows.old rows.new text.old text.new }
     ensures notes { Notes (members true) doc.now c.at c.row parent (member_r true allow col c.at (drop c.at doc.now)) keys.old keys.new }
 {
-    match key_row(&*doc, rows, text, c, parent) {
-        Ans::No(p) => Block::Bad(p),
-        Ans::Ok(n) => match n.take(&*doc, 58) {
-            Ans::No(p) => Block::Bad(p),
-            Ans::Ok(m) => {
-                note(&*doc, keys, parent, c.at, allow);
-                behind(&*doc, rows, text, keys, m, parent, col, allow)
-            }
-        },
-    }
+    let n = key_row(doc, rows, text, c, parent)?;
+    let m = n.take(doc, 58)?;
+    note(doc, keys, parent, c.at, allow);
+    behind(doc, rows, text, keys, m, parent, col, allow)
 }
 
 // A member of a block at col: a property, or a dash, a space and an item.
@@ -91,12 +82,10 @@ fn member(
     ensures notes { Notes (members object) doc.now c.at c.row parent (member_r object allow col c.at (drop c.at doc.now)) keys.old keys.new }
 {
     if object {
-        return property(&*doc, rows, text, keys, c, parent, col, allow);
+        return property(doc, rows, text, keys, c, parent, col, allow);
     }
-    match pass(&*doc, c, 45, 32) {
-        Ans::No(p) => Block::Bad(p),
-        Ans::Ok(n) => item(&*doc, rows, text, keys, n, parent, col + 2, allow),
-    }
+    let n = pass(doc, c, 45, 32)?;
+    item(doc, rows, text, keys, n, parent, col + 2, allow)
 }
 
 // A block at col whose first member begins at the cursor.
@@ -126,17 +115,17 @@ pub fn block(
     let mut far: usize = 0;
     let mut count: usize = 0;
     loop {
-        match member(&*doc, rows, text, keys, cur, row as u32, col, allow, object) {
-            Block::Bad(p) => return Block::Bad(greater(far, p)),
-            Block::Done(n, f, e) => {
-                far = greater(far, f);
+        match member(doc, rows, text, keys, cur, row as u32, col, allow, object) {
+            Err(p) => return Err(far.max(p)),
+            Ok((n, f, e)) => {
+                far = far.max(f);
                 count += 1;
-                match further(&*doc, n, col, object) {
-                    Next::Over(p) => {
+                match further(doc, n, col, object) {
+                    Err(p) => {
                         enclose(rows, c, e, parent, count, n.row, object);
-                        return Block::Done(n, greater(far, p), e);
+                        return Ok((n, far.max(p), e));
                     }
-                    Next::More(m) => cur = m,
+                    Ok(m) => cur = m,
                 }
             }
         }
@@ -166,13 +155,9 @@ fn bullet(
         row: row + 1,
         text: c.text,
     };
-    match member(&*doc, rows, text, keys, cur, row as u32, col, allow, false) {
-        Block::Bad(p) => Block::Bad(p),
-        Block::Done(n, f, e) => {
-            enclose(rows, c, e, parent, 1, n.row, false);
-            Block::Done(n, f, e)
-        }
-    }
+    let (n, f, e) = member(doc, rows, text, keys, cur, row as u32, col, allow, false)?;
+    enclose(rows, c, e, parent, 1, n.row, false);
+    Ok((n, f, e))
 }
 
 // An item with the content column col.
@@ -193,13 +178,13 @@ fn item(
     ensures notes { Notes one doc.now c.at c.row parent (item_r allow col c.at (drop c.at doc.now)) keys.old keys.new }
 {
     if allow == 0 {
-        return opener(&*doc, rows, text, keys, c, parent, col, allow, false).anew();
+        return anew_block(opener(doc, rows, text, keys, c, parent, col, allow, false));
     }
-    match starts(&*doc, c) {
-        Start::Dash => bullet(&*doc, rows, text, keys, c, parent, col, allow - 1),
-        Start::Key => block(&*doc, rows, text, keys, c, parent, col, allow - 1, true).anew(),
+    match starts(doc, c) {
+        Start::Dash => bullet(doc, rows, text, keys, c, parent, col, allow - 1),
+        Start::Key => anew_block(block(doc, rows, text, keys, c, parent, col, allow - 1, true)),
         Start::Line(p) => {
-            let line = opener(&*doc, rows, text, keys, c, parent, col, allow, false);
+            let line = opener(doc, rows, text, keys, c, parent, col, allow, false);
             kept(line, p)
         }
     }
@@ -222,19 +207,19 @@ fn nested(
     ensures blocks { Blocks doc.now c parent (nested_r allow col c.at (drop c.at doc.now)) result rows.old rows.new text.old text.new }
     ensures notes { Notes one doc.now c.at c.row parent (nested_r allow col c.at (drop c.at doc.now)) keys.old keys.new }
 {
-    let i = c.indent(&*doc, col);
+    let i = c.indent(doc, col);
     let n = moved(c, c.at + i);
     if i < col {
-        return Block::Bad(n.at);
+        return Err(n.at);
     }
     if allow == 0 {
-        return nested_line(&*doc, rows, text, n, parent, col);
+        return nested_line(doc, rows, text, n, parent, col);
     }
-    match starts(&*doc, n) {
-        Start::Dash => block(&*doc, rows, text, keys, n, parent, col, allow - 1, false),
-        Start::Key => block(&*doc, rows, text, keys, n, parent, col, allow - 1, true).anew(),
+    match starts(doc, n) {
+        Start::Dash => block(doc, rows, text, keys, n, parent, col, allow - 1, false),
+        Start::Key => anew_block(block(doc, rows, text, keys, n, parent, col, allow - 1, true)),
         Start::Line(p) => {
-            let line = nested_line(&*doc, rows, text, n, parent, col);
+            let line = nested_line(doc, rows, text, n, parent, col);
             kept(line, p)
         }
     }

@@ -1,8 +1,9 @@
 -- THE ANSWER AND THE ROOMS (01, What the reader takes and gives; Numbers of refusal): what is right for a document and the rooms lent. Assumes nothing.
-use Rattle.std.specs.Prelude.{List, ◌++◌, ℕ, suc, ◌*◌, ◌≤◌, ◌<◌, length, take, drop}
+use Rattle.std.specs.Prelude.{List, ◌++◌, ℕ, suc, ◌*◌, ◌≤◌, ◌<◌, length, take, drop, Result, Ok, Err}
 use Rattle.notation.specs.Lang.{Begins}
-use Rattle.language.specs.declared.Answer.{Answer}
-use Rattle.language.specs.declared.Answer.TheVariants.{Accepted, Long, Char, Syntax, Deep, End, Repeat, Rows, Text}
+use Rattle.language.specs.declared.Accepted.{Accepted}
+use Rattle.language.specs.declared.Refusal.{Refusal}
+use Rattle.language.specs.declared.Refusal.TheVariants.{Long, Char, Syntax, Deep, End, Repeat, Rows, Text}
 use Rattle.language.specs.Tree.{Tree, width, size, text_of, escapes_of, rows_of, Repeats, Once}
 use Rattle.language.specs.Characters.{Allowed}
 use Rattle.language.specs.Document.{Document}
@@ -44,52 +45,42 @@ TEXT = 8
 abbrev pub BADROW : ℕ
 BADROW = 9
 
+-- what `read` answers
+abbrev pub Answer : Type 0
+Answer = Result Accepted Refusal
+
 -- "Where an answer is an enum, a definition gives this paper's number and values for each of its cases, and the promises use that definition" (01, Expected forms by place).
 -- The number is 0 for an acceptance; the values are the counts, or the place, the rows needed or the bytes needed, and 0
 abbrev pub number : Answer → ℕ
-number (Accepted rows bytes escapes) = 0
-number Long = LONG
-number (Char p) = CHAR
-number (Syntax p) = SYNTAX
-number (Deep p) = DEEP
-number (End p) = END
-number (Repeat p) = REPEAT
-number (Rows rows) = ROWS
-number (Text bytes) = TEXT
+number (Ok a) = 0
+number (Err Long) = LONG
+number (Err (Char p)) = CHAR
+number (Err (Syntax p)) = SYNTAX
+number (Err (Deep p)) = DEEP
+number (Err (End p)) = END
+number (Err (Repeat p)) = REPEAT
+number (Err (Rows rows)) = ROWS
+number (Err (Text bytes)) = TEXT
 
 abbrev pub value : Answer → ℕ
-value (Accepted rows bytes escapes) = rows.0
-value Long = 0
-value (Char p) = p.0
-value (Syntax p) = p.0
-value (Deep p) = p.0
-value (End p) = p.0
-value (Repeat p) = p.0
-value (Rows rows) = rows.0
-value (Text bytes) = bytes
+value (Ok a) = a.rows.0
+value (Err Long) = 0
+value (Err (Char p)) = p.0
+value (Err (Syntax p)) = p.0
+value (Err (Deep p)) = p.0
+value (Err (End p)) = p.0
+value (Err (Repeat p)) = p.0
+value (Err (Rows rows)) = rows.0
+value (Err (Text bytes)) = bytes
 
 abbrev pub second : Answer → ℕ
-second (Accepted rows bytes escapes) = bytes
-second Long = 0
-second (Char p) = 0
-second (Syntax p) = 0
-second (Deep p) = 0
-second (End p) = 0
-second (Repeat p) = 0
-second (Rows rows) = 0
-second (Text bytes) = 0
+second (Ok a) = a.text
+second (Err refusal) = 0
 
 -- "Acceptance answers with the document's total" (02, Ticket 2); every refusal has none
 abbrev pub third : Answer → ℕ
-third (Accepted rows bytes escapes) = escapes
-third Long = 0
-third (Char p) = 0
-third (Syntax p) = 0
-third (Deep p) = 0
-third (End p) = 0
-third (Repeat p) = 0
-third (Rows rows) = 0
-third (Text bytes) = 0
+third (Ok a) = a.escapes
+third (Err refusal) = 0
 
 -- some document begins so, with at most 32 containers one inside another
 abbrev pub Viable : List ℕ → Type 0

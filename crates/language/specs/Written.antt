@@ -1,25 +1,29 @@
 -- WHAT THE WRITER AND THE TEST OF SOUNDNESS PROMISE (02, Ticket 1). Assumes nothing.
-use Rattle.std.specs.Prelude.{List, ◌++◌, ℕ, ◌≤◌, ◌<◌, length, drop}
-use Rattle.language.specs.declared.Wrote.{Wrote}
-use Rattle.language.specs.declared.Wrote.TheVariants.{Done, BadRow, TooLong, TooShort}
+use Rattle.std.specs.Prelude.{List, ◌++◌, ℕ, ◌≤◌, ◌<◌, length, drop, Result, Ok, Err}
+use Rattle.language.specs.declared.WriteRefusal.{WriteRefusal}
+use Rattle.language.specs.declared.WriteRefusal.TheVariants.{BadRow, TooLong, TooShort}
 use Rattle.language.specs.Tree.{Tree}
 use Rattle.language.specs.Answered.{limit, LONG, TEXT, BADROW}
 use Rattle.language.specs.Lent.{bytes_in}
 use Rattle.language.specs.Sound.{Holds, Sound}
 use Rattle.language.specs.House.{house}
 
+-- what `write` answers
+abbrev pub Wrote : Type 0
+Wrote = Result ℕ WriteRefusal
+
 -- the number and the count of each answer of `write`
 abbrev pub wrote_number : Wrote → ℕ
-wrote_number (Done n) = 0
-wrote_number BadRow = BADROW
-wrote_number TooLong = LONG
-wrote_number (TooShort n) = TEXT
+wrote_number (Ok n) = 0
+wrote_number (Err BadRow) = BADROW
+wrote_number (Err TooLong) = LONG
+wrote_number (Err (TooShort n)) = TEXT
 
 abbrev pub wrote_count : Wrote → ℕ
-wrote_count (Done n) = n
-wrote_count BadRow = 0
-wrote_count TooLong = 0
-wrote_count (TooShort n) = n
+wrote_count (Ok n) = n
+wrote_count (Err BadRow) = 0
+wrote_count (Err TooLong) = 0
+wrote_count (Err (TooShort n)) = n
 
 -- THE PROMISE OF `sound`: 0, or BADROW
 pub data Sounded (table : List ℕ) (rows : ℕ) (text : List ℕ) : ℕ → Type 0 where

@@ -4,6 +4,7 @@
 ghost use Rattle.std.specs.Prelude.{◌≡◌, ◌/◌};
 ghost use Rattle.language.specs.Kind.{has_text};
 ghost use Rattle.language.specs.Answered as answered;
+ghost use Rattle.language.specs.Written as written;
 ghost use Rattle.language.specs.Tree.{width};
 ghost use Rattle.language.specs.Lent.{words_in, bytes_in};
 
@@ -23,28 +24,27 @@ pub const LENT: usize = 16777216;
 pub fn rows_lent(table: &[u32]) -> usize
     ensures { result ≡ words_in table.now / width }
 {
-    let rows = table.len() / WIDTH;
-    if rows < LENT { rows } else { LENT }
+    (table.len() / WIDTH).min(LENT)
 }
 
 // The bytes that a lent text room or output counts for.
 pub fn bytes_lent(room: &[u8]) -> usize
     ensures { result ≡ bytes_in room.now }
 {
-    let bytes = room.len();
-    if bytes < LENT { bytes } else { LENT }
+    room.len().min(LENT)
 }
 
 // A place is counted in bytes from 0.
-#[derive(Clone, Copy)]
+#[derive(Clone, Copy, Debug, PartialEq, Eq)]
 pub struct Place(pub usize);
 
 // A row is counted from 0, and is never taken for a place.
-#[derive(Clone, Copy)]
+#[derive(Clone, Copy, Debug, PartialEq, Eq)]
 pub struct Row(pub usize);
 
 // The kind of a row, by its number.
-#[derive(Clone, Copy)]
+// Stays (point 1): a lent table may hold any word, and `has_text` of the contracts answers for each, so this is no enum of the ten.
+#[derive(Clone, Copy, Debug, PartialEq, Eq)]
 pub struct Kind(pub u32);
 
 impl Kind {
@@ -72,24 +72,24 @@ impl Kind {
     pub fn has_text(self) -> bool
         ensures { result ≡ has_text self.0 }
     {
-        let number = self.0;
-        let key = Kind::KEY;
-        if number == key.0 {
-            return true;
-        }
-        let integer = Kind::INTEGER;
-        if number < integer.0 {
-            return false;
-        }
-        let bytes = Kind::BYTES;
-        number <= bytes.0
+        matches!(
+            self,
+            Kind::INTEGER | Kind::FLOAT | Kind::STRING | Kind::BYTES | Kind::KEY
+        )
     }
 }
 
-// What `read` answers: the rows read, the count of text bytes and that of escapes; or a refusal, with its place, the rows needed or the count of text bytes needed.
-#[derive(Clone, Copy)]
-pub enum Answer {
-    Accepted(Row, usize, usize),
+// What an accepted document has: its rows, the bytes of its texts, and its escapes.
+#[derive(Clone, Copy, Debug, PartialEq, Eq)]
+pub struct Accepted {
+    pub rows: Row,
+    pub text: usize,
+    pub escapes: usize,
+}
+
+// Why `read` refuses a document, with the place, the rows needed or the count of text bytes needed.
+#[derive(Clone, Copy, Debug, PartialEq, Eq)]
+pub enum Refusal {
     Long,
     Char(Place),
     Syntax(Place),
@@ -100,78 +100,83 @@ pub enum Answer {
     Text(usize),
 }
 
-// What `write` answers: the count of bytes written; that the table is not sound; that the bytes are too many; or how many bytes the output would need.
-#[derive(Clone, Copy)]
-pub enum Wrote {
-    Done(usize),
+// Why `write` refuses a table: it is not sound; the bytes are too many; or how many bytes the output would need.
+#[derive(Clone, Copy, Debug, PartialEq, Eq)]
+pub enum WriteRefusal {
     BadRow,
     TooLong,
     TooShort(usize),
 }
 
-// The number of an answer and its three values, as documents 01 and 02 count them.
-impl Answer {
-    pub fn number(self) -> u32
-        ensures { result ≡ answered.number self }
-    {
-        match self {
-            Answer::Accepted(_, _, _) => 0,
-            Answer::Long => 1,
-            Answer::Char(_) => 2,
-            Answer::Syntax(_) => 3,
-            Answer::Deep(_) => 4,
-            Answer::End(_) => 5,
-            Answer::Repeat(_) => 6,
-            Answer::Rows(_) => 7,
-            Answer::Text(_) => 8,
-        }
+// The number of an answer of `read` and its three values, as documents 01 and 02 count them.
+pub fn number(answer: Result<Accepted, Refusal>) -> u32
+    ensures { result ≡ answered.number answer }
+{
+    match answer {
+        Ok(_) => 0,
+        Err(Refusal::Long) => 1,
+        Err(Refusal::Char(_)) => 2,
+        Err(Refusal::Syntax(_)) => 3,
+        Err(Refusal::Deep(_)) => 4,
+        Err(Refusal::End(_)) => 5,
+        Err(Refusal::Repeat(_)) => 6,
+        Err(Refusal::Rows(_)) => 7,
+        Err(Refusal::Text(_)) => 8,
     }
+}
 
-    pub fn value(self) -> usize
-        ensures { result ≡ answered.value self }
-    {
-        match self {
-            Answer::Accepted(rows, _, _) => rows.0,
-            Answer::Long => 0,
-            Answer::Char(p) => p.0,
-            Answer::Syntax(p) => p.0,
-            Answer::Deep(p) => p.0,
-            Answer::End(p) => p.0,
-            Answer::Repeat(p) => p.0,
-            Answer::Rows(rows) => rows.0,
-            Answer::Text(bytes) => bytes,
-        }
+pub fn value(answer: Result<Accepted, Refusal>) -> usize
+    ensures { result ≡ answered.value answer }
+{
+    match answer {
+        Ok(accepted) => accepted.rows.0,
+        Err(Refusal::Long) => 0,
+        Err(Refusal::Char(p)) => p.0,
+        Err(Refusal::Syntax(p)) => p.0,
+        Err(Refusal::Deep(p)) => p.0,
+        Err(Refusal::End(p)) => p.0,
+        Err(Refusal::Repeat(p)) => p.0,
+        Err(Refusal::Rows(rows)) => rows.0,
+        Err(Refusal::Text(bytes)) => bytes,
     }
+}
 
-    pub fn second(self) -> usize
-        ensures { result ≡ answered.second self }
-    {
-        match self {
-            Answer::Accepted(_, bytes, _) => bytes,
-            Answer::Long => 0,
-            Answer::Char(_) => 0,
-            Answer::Syntax(_) => 0,
-            Answer::Deep(_) => 0,
-            Answer::End(_) => 0,
-            Answer::Repeat(_) => 0,
-            Answer::Rows(_) => 0,
-            Answer::Text(_) => 0,
-        }
+// Stays (point 2), as `third` does: a function for each definition that the contracts name, here `answered.second`.
+pub fn second(answer: Result<Accepted, Refusal>) -> usize
+    ensures { result ≡ answered.second answer }
+{
+    match answer {
+        Ok(accepted) => accepted.text,
+        Err(_) => 0,
     }
+}
 
-    pub fn third(self) -> usize
-        ensures { result ≡ answered.third self }
-    {
-        match self {
-            Answer::Accepted(_, _, escapes) => escapes,
-            Answer::Long => 0,
-            Answer::Char(_) => 0,
-            Answer::Syntax(_) => 0,
-            Answer::Deep(_) => 0,
-            Answer::End(_) => 0,
-            Answer::Repeat(_) => 0,
-            Answer::Rows(_) => 0,
-            Answer::Text(_) => 0,
-        }
+pub fn third(answer: Result<Accepted, Refusal>) -> usize
+    ensures { result ≡ answered.third answer }
+{
+    match answer {
+        Ok(accepted) => accepted.escapes,
+        Err(_) => 0,
+    }
+}
+
+// The number of an answer of `write` and its count, as document 02 counts them.
+pub fn wrote_number(answer: Result<usize, WriteRefusal>) -> u32
+    ensures { result ≡ written.wrote_number answer }
+{
+    match answer {
+        Ok(_) => 0,
+        Err(WriteRefusal::BadRow) => 9,
+        Err(WriteRefusal::TooLong) => 1,
+        Err(WriteRefusal::TooShort(_)) => 8,
+    }
+}
+
+pub fn wrote_count(answer: Result<usize, WriteRefusal>) -> usize
+    ensures { result ≡ written.wrote_count answer }
+{
+    match answer {
+        Ok(bytes) | Err(WriteRefusal::TooShort(bytes)) => bytes,
+        Err(WriteRefusal::BadRow) | Err(WriteRefusal::TooLong) => 0,
     }
 }

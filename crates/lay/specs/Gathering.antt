@@ -1,6 +1,7 @@
 -- A WINDOW OF KEYS of an object, by the places of their texts (`Gathered`): each has a text of its own, and marks of theirs are marks of the object's pairs. Assumes nothing.
-use Rattle.std.specs.Prelude.{◌≡◌, List, ℕ, ◌+◌, ◌-◌, ◌*◌, ◌≤◌, ◌<◌, length, get_or, set}
-use Rattle.std.proofs.Common.{sym, subst, subst₂, ◌∙◌, arith, length-set, get_or-set_same, get_or-set_other, rules}
+use Rattle.std.specs.Prelude.{◌≡◌, refl, List, ℕ, ◌+◌, ◌-◌, ◌*◌, ◌≤◌, ◌<◌, ◌++◌, zero, suc, length, get_or, set, take, drop, replicate}
+use Rattle.std.proofs.lemmas.List.{length-replicate}
+use Rattle.std.proofs.Common.{sym, ap, subst, subst₂, ◌∙◌, arith, length-set, length-append, length-drop, length-take-le, get_or-set_same, get_or-set_other, rules}
 use Rattle.std.proofs.Math.Decide.{ℕ_discrete}
 use Rattle.language.specs.Tree.{Forest, Field, text_of, width}
 use Rattle.distinct.specs.Names.{spelt, Held, Sits, Twice, twice_none, twice_more}
@@ -10,7 +11,7 @@ use Rattle.sound.specs.Standing.{size_some}
 use Rattle.overlay.specs.Overlay.{pairs_of, absent, value_of}
 use Rattle.overlay.specs.Lists.{no_value, value_here, value_there}
 use Rattle.lay.specs.Targets.{ceiling}
-use Rattle.lay.specs.Matching.{Stand, Pair, stand_first, Mark, Marks, marks_end, marks_more, Match}
+use Rattle.lay.specs.Matching.{Stand, Pair, stand_first, Mark, Marks, marks_end, marks_more, Match, row_of}
 
 -- the pairs from row q up to `end`
 pub record Pairing (table text : List ℕ) (q end : ℕ) : Type 0 where
@@ -44,14 +45,27 @@ zeros_more marks n m z = record { zero = λ k l. by k l (ℕ_discrete k n) }
     by k l (yes e) = rw e (get_or-set_same marks n 0 0 m)
     by k l (no e) = get_or-set_other marks n k 0 0 e ∙ z.zero k (omega arith)
 
-pub zeros_done : (marks : List ℕ) (n i : ℕ) → Zeros marks i → n ≤ i → Zeros marks n
-zeros_done marks n i z l = record { zero = λ k m. z.zero k (omega arith) }
+-- marks that are taken back
+zeros_front : (n : ℕ) (rest : List ℕ) (k : ℕ) → k < n → get_or (replicate n 0 ++ rest) k 0 ≡ 0
+zeros_front zero rest k l = absurd (omega arith)
+zeros_front (suc n) rest zero l = refl
+zeros_front (suc n) rest (suc k) l = zeros_front n rest k (omega arith)
+
+module _ (marks ys : List ℕ) (n : ℕ) (l : n ≤ length marks) (e : ys ≡ replicate (length (take n marks)) 0) where
+  again : ys ≡ replicate n 0
+  again = e ∙ ap (λ (k : ℕ). replicate k 0) (length-take-le n marks l)
+
+  pub zeros_filled : Zeros (ys ++ drop n marks) n
+  zeros_filled = record { zero = λ k m. ap (λ (y : List ℕ). get_or (y ++ drop n marks) k 0) again ∙ zeros_front n (drop n marks) k m }
+
+  pub filled_length : length (ys ++ drop n marks) ≡ length marks
+  filled_length = omega (arith, length-append ys (drop n marks), length-drop n marks, ap length again, length-replicate {A = ℕ} n 0)
 
 -- THE FIRST n PAIRS, whose keys stand in the rooms
 pub record Full (table text : List ℕ) (q end : ℕ) (h : Pairing table text q end) (froms tos : List ℕ) (n : ℕ) : Type 0 where
   pub held : Held text froms tos n
   pub once : Twice text froms tos n → ⊥
-  pub marks_of : (other words : List ℕ) (gs : List Field) (marks : List ℕ) → ((k : ℕ) → k < n → Mark other words gs (spelt text froms tos k) (get_or marks k 0))
+  pub marks_of : (other words : List ℕ) (gs : List Field) (marks : List ℕ) → ((k : ℕ) → k < n → Mark other words gs (spelt text froms tos k) (row_of (get_or marks k 0)))
       → Marks other words gs marks n 0 (pairs_of h.trees)
 
 pub record Gathered (table text : List ℕ) (q end : ℕ) (froms tos marks : List ℕ) (most n : ℕ) : Type 0 where
@@ -67,7 +81,7 @@ pub record Coming (table text : List ℕ) (q end : ℕ) (h : Pairing table text 
   pub held : Held text froms tos n
   pub once : Twice text froms tos n → ⊥
   pub apart : (k : ℕ) → k < n → value_of (spelt text froms tos k) (pairs_of left) ≡ absent
-  pub glue : (other words : List ℕ) (gs : List Field) (marks : List ℕ) (m : ℕ) → n ≤ m → ((k : ℕ) → k < n → Mark other words gs (spelt text froms tos k) (get_or marks k 0))
+  pub glue : (other words : List ℕ) (gs : List Field) (marks : List ℕ) (m : ℕ) → n ≤ m → ((k : ℕ) → k < n → Mark other words gs (spelt text froms tos k) (row_of (get_or marks k 0)))
       → Marks other words gs marks m n (pairs_of left) → Marks other words gs marks m 0 (pairs_of h.trees)
 
 module _ (table text : List ℕ) (q end : ℕ) (h : Pairing table text q end) where
@@ -149,11 +163,11 @@ module _ (table text : List ℕ) (q end : ℕ) (h : Pairing table text q end) wh
               apart = λ k j. gone k j (ℕ_discrete k n);
               glue =
                   λ other words gs marks c p g z.
-                  x.glue other words gs marks c (omega arith) (λ k j. subst (λ (s : List ℕ). Mark other words gs s (get_or marks k 0)) (sym (earlier j)) (g k (omega arith)))
+                  x.glue other words gs marks c (omega arith) (λ k j. subst (λ (s : List ℕ). Mark other words gs s (row_of (get_or marks k 0))) (sym (earlier j)) (g k (omega arith)))
                   (subst
                   (Marks other words gs marks c n)
                   (sym one.is)
-                  (marks_more (omega arith) (subst (λ (s : List ℕ). Mark other words gs s (get_or marks n 0)) key_text (g n (omega arith))) z));
+                  (marks_more (omega arith) (subst (λ (s : List ℕ). Mark other words gs s (row_of (get_or marks n 0))) key_text (g n (omega arith))) z));
             }
           where
             gone : (k : ℕ) → k < n + 1 → Dec (k ≡ n) → value_of (spelt text (set froms n a) (set tos n e) k) (pairs_of one.rest) ≡ absent

@@ -17,8 +17,10 @@ use Rattle.overlay.specs.Clash.{clashing}
 use Rattle.overlay.proofs.ClashLaws.{clashes_one, clashes_other}
 use Rattle.lay.specs.declared.Spot.{Spot}
 use Rattle.lay.specs.declared.Grown.{Grown}
-use Rattle.lay.specs.declared.Lay.{Lay}
-use Rattle.lay.specs.declared.Lay.TheVariants.{Done, Clash}
+use Rattle.std.specs.Prelude.{Option, Some, None, is_some, Result, Ok, Err}
+use Rattle.std.specs.Option.{unwrap_or}
+use Rattle.exact.specs.Class.{clash}
+use Rattle.lay.specs.declared.Clash.{Clash}
 use Rattle.lay.specs.Targets.{ceiling, Stored, stored_then, stored_as, alone, alone_size, alone_text}
 use Rattle.lay.specs.Keeping.{Keep, bare_size, bare_text}
 use Rattle.lay.specs.Matching.{Object, Mark, mark_none, mark_some}
@@ -100,9 +102,9 @@ pub record Two (lower lt : List ℕ) (r : ℕ) (upper ut : List ℕ) (s k : ℕ)
   pub fits : Fits a (alone (unspan (over under above)))
 
 -- PROMISED: they clash, or the one over the other is stored
-pub data Lays (t u : Tree) (p : ℕ) (a : Spot) (l m x y : List ℕ) : Lay → Type 0 where
-  lays_over : {b : Spot} → clashes t u ≡ false → Stored p (alone (unspan (over t u))) a b l m x y → Lays t u p a l m x y (Done b)
-  lays_clash : clashes t u ≡ true → Lays t u p a l m x y Clash
+pub data Lays (t u : Tree) (p : ℕ) (a : Spot) (l m x y : List ℕ) : Result Spot Clash → Type 0 where
+  lays_over : {b : Spot} → clashes t u ≡ false → Stored p (alone (unspan (over t u))) a b l m x y → Lays t u p a l m x y (Ok b)
+  lays_clash : {e : Clash} → clashes t u ≡ true → Lays t u p a l m x y (Err e)
 
 module _ (lower lt : List ℕ) (r : ℕ) (upper ut : List ℕ) (s k : ℕ) (a : Spot) (h : Two lower lt r upper ut s k a) where
   pub lay_lower_word : width * r + 0 < length lower
@@ -118,10 +120,10 @@ module _ (lower lt : List ℕ) (r : ℕ) (upper ut : List ℕ) (s k : ℕ) (a : 
     above_object : (b : Bool) → eqb j 9 ≡ b → is_object h.above ≡ b
     above_object b q = object_kind h.above_sane ∙ (ap (λ (n : ℕ). eqb n 9) (sym (kind_word upper ut h.above_here f)) ∙ q)
 
-    pub lay_one : {p : ℕ} {l m x y : List ℕ} → i ≡ 9 → (j ≡ 9 → ⊥) → Lays h.under h.above p a l m x y Clash
+    pub lay_one : {p : ℕ} {l m x y : List ℕ} {c : Clash} → i ≡ 9 → (j ≡ 9 → ⊥) → Lays h.under h.above p a l m x y (Err c)
     lay_one u v = lays_clash (clashes_one h.under h.above (under_object true (borrow.Author.Tests.eq-eqb i 9 u)) (above_object false (borrow.Author.Tests.ne_eqb j 9 v)))
 
-    pub lay_other : {p : ℕ} {l m x y : List ℕ} → (i ≡ 9 → ⊥) → j ≡ 9 → Lays h.under h.above p a l m x y Clash
+    pub lay_other : {p : ℕ} {l m x y : List ℕ} {c : Clash} → (i ≡ 9 → ⊥) → j ≡ 9 → Lays h.under h.above p a l m x y (Err c)
     lay_other u v = lays_clash (clashes_other h.under h.above (under_object false (borrow.Author.Tests.ne_eqb i 9 u)) ∙ above_object true (borrow.Author.Tests.eq-eqb j 9 v))
 
     module _ (u : i ≡ 9 → ⊥) where
@@ -131,7 +133,7 @@ module _ (lower lt : List ℕ) (r : ℕ) (upper ut : List ℕ) (s k : ℕ) (a : 
       pub lay_keep : Keep upper ut s a
       lay_keep = fits_keep upper ut h.above (kept_value h.above_sane.shaped) h.above_here (fits_as (ap (λ (t : Tree). alone (unspan t)) answered) h.fits)
 
-      pub lay_kept : (j ≡ 9 → ⊥) → {p : ℕ} {l m x y : List ℕ} {b : Spot} → ((i : Keep upper ut s a) → Stored p (alone (unspan i.tree)) a b l m x y) → Lays h.under h.above p a l m x y (Done b)
+      pub lay_kept : (j ≡ 9 → ⊥) → {p : ℕ} {l m x y : List ℕ} {b : Spot} → ((i : Keep upper ut s a) → Stored p (alone (unspan i.tree)) a b l m x y) → Lays h.under h.above p a l m x y (Ok b)
       unfolding lay_keep fits_keep
       lay_kept v f =
           lays_over
@@ -155,7 +157,7 @@ lay_objects lower lt r upper ut s k a h {i} {j} e f u v =
     }
 
 pub lay_object_told : (lower lt : List ℕ) (r : ℕ) (upper ut : List ℕ) (s k : ℕ) (a : Spot) (h : Two lower lt r upper ut s k a) {i j : ℕ} → i ≡ get_or lower (width * r + 0) 0 → j ≡ get_or upper (width * s + 0) 0
-    → i ≡ 9 → j ≡ 9 → {p : ℕ} {l m x y : List ℕ} {v : Lay} → ((o : Objects lower lt r upper ut s k a) → Lays o.two.under o.two.above p a l m x y v) → Lays h.under h.above p a l m x y v
+    → i ≡ 9 → j ≡ 9 → {p : ℕ} {l m x y : List ℕ} {v : Result Spot Clash} → ((o : Objects lower lt r upper ut s k a) → Lays o.two.under o.two.above p a l m x y v) → Lays h.under h.above p a l m x y v
 unfolding lay_objects
 lay_object_told lower lt r upper ut s k a h e f u v g = g (lay_objects lower lt r upper ut s k a h e f u v)
 
@@ -170,37 +172,37 @@ pub record Lowers (lower lt : List ℕ) (r : ℕ) (upper ut : List ℕ) (s k : �
   pub both : Both lower lt r upper ut s k
   pub fits : Fits a (bares (mended (pairs both.under.tree) (pairs both.above.tree)))
 
-pub data Lowered (fs gs : List Field) (p : ℕ) (a : Spot) (l m x y : List ℕ) : Lay → Type 0 where
-  lowered : {b : Spot} → clashing fs gs ≡ false → Stored p (bares (mended fs gs)) a b l m x y → Lowered fs gs p a l m x y (Done b)
-  lowered_clash : clashing fs gs ≡ true → Lowered fs gs p a l m x y Clash
+pub data Lowered (fs gs : List Field) (p : ℕ) (a : Spot) (l m x y : List ℕ) : Result Spot Clash → Type 0 where
+  lowered : {b : Spot} → clashing fs gs ≡ false → Stored p (bares (mended fs gs)) a b l m x y → Lowered fs gs p a l m x y (Ok b)
+  lowered_clash : {e : Clash} → clashing fs gs ≡ true → Lowered fs gs p a l m x y (Err e)
 
 -- an answer is one of the two
-spot_of : Spot → Lay → Spot
-spot_of d (Done b) = b
-spot_of d Clash = d
+spot_of : Spot → Result Spot Clash → Spot
+spot_of d (Ok b) = b
+spot_of d (Err e) = d
 
-same_spot : {b c : Spot} → Done b ≡ Done c → b ≡ c
+same_spot : {b c : Spot} → ◌≡◌ {A = Result Spot Clash} (Ok b) (Ok c) → b ≡ c
 unfolding spot_of
 same_spot {b} e = ap (spot_of b) e
 
-not_both : {b : Spot} → Done b ≡ Clash → ⊥
+not_both : {b : Spot} {d : Clash} → Ok b ≡ Err d → ⊥
 not_both e = let z : ◌≡◌ {A = ℕ} 0 1 = cc in omega arith
 
 module _ {fs gs : List Field} {p : ℕ} {a : Spot} {l m x y : List ℕ} where
-  pub lowered_done : {v : Lay} {b : Spot} → v ≡ Done b → Lowered fs gs p a l m x y v → (clashing fs gs ≡ false) × Stored p (bares (mended fs gs)) a b l m x y
+  pub lowered_done : {v : Result Spot Clash} {b : Spot} → v ≡ Ok b → Lowered fs gs p a l m x y v → (clashing fs gs ≡ false) × Stored p (bares (mended fs gs)) a b l m x y
   lowered_done e (lowered c s) = (c, subst (λ (z : Spot). Stored p (bares (mended fs gs)) a z l m x y) (same_spot e) s)
   lowered_done e (lowered_clash c) = absurd (not_both (sym e))
 
-  pub lowered_clashed : {v : Lay} → v ≡ Clash → Lowered fs gs p a l m x y v → clashing fs gs ≡ true
+  pub lowered_clashed : {v : Result Spot Clash} {d : Clash} → v ≡ Err d → Lowered fs gs p a l m x y v → clashing fs gs ≡ true
   lowered_clashed e (lowered c s) = absurd (not_both e)
   lowered_clashed e (lowered_clash c) = c
 
 module _ {t u : Tree} {p : ℕ} {a : Spot} {l m x y : List ℕ} where
-  pub lays_done : {v : Lay} {b : Spot} → v ≡ Done b → Lays t u p a l m x y v → (clashes t u ≡ false) × Stored p (alone (unspan (over t u))) a b l m x y
+  pub lays_done : {v : Result Spot Clash} {b : Spot} → v ≡ Ok b → Lays t u p a l m x y v → (clashes t u ≡ false) × Stored p (alone (unspan (over t u))) a b l m x y
   lays_done e (lays_over c s) = (c, subst (λ (z : Spot). Stored p (alone (unspan (over t u))) a z l m x y) (same_spot e) s)
   lays_done e (lays_clash c) = absurd (not_both (sym e))
 
-  pub lays_clashed : {v : Lay} → v ≡ Clash → Lays t u p a l m x y v → clashes t u ≡ true
+  pub lays_clashed : {v : Result Spot Clash} {d : Clash} → v ≡ Err d → Lays t u p a l m x y v → clashes t u ≡ true
   lays_clashed e (lays_over c s) = absurd (not_both e)
   lays_clashed e (lays_clash c) = c
 
@@ -208,17 +210,13 @@ pub record News (upper ut : List ℕ) (s : ℕ) (lower lt : List ℕ) (r k : ℕ
   pub both : Both lower lt r upper ut s k
   pub fits : Fits a (bares (new_ones (pairs both.under.tree) (pairs both.above.tree)))
 
--- where the new pairs end
-abbrev pub spot : Grown → Spot
-spot g = record { row = g.row; text = g.text }
-
 pub record Grew (fs gs : List Field) (p : ℕ) (a : Spot) (g : Grown) (l m x y : List ℕ) : Type 0 where
-  pub stored : Stored p (bares (new_ones fs gs)) a (spot g) l m x y
+  pub stored : Stored p (bares (new_ones fs gs)) a g.at l m x y
   pub counts : g.count ≡ count (new_ones fs gs)
 
--- ---- THE PAIR OF A KEY of the lower, and m, the row of that key in the upper, 0 for none
+-- ---- THE PAIR OF A KEY of the lower, and m, the row of that key in the upper
 
-pub record Topping (lower lt : List ℕ) (q : ℕ) (upper ut : List ℕ) (m k : ℕ) (a : Spot) : Type 0 where
+pub record Topping (lower lt : List ℕ) (q : ℕ) (upper ut : List ℕ) (m : Option ℕ) (k : ℕ) (a : Spot) : Type 0 where
   pub key : Tree
   pub val : Tree
   pub gs : List Field
@@ -238,31 +236,31 @@ pub record There (upper ut : List ℕ) (gs : List Field) (s : List ℕ) (m : ℕ
   pub here : At upper ut (m + 1) tree
   pub few : m + 1 + size tree < ceiling
 
-pub marked_there : {upper ut : List ℕ} {gs : List Field} {s : List ℕ} {m : ℕ} → Mark upper ut gs s m → (m ≡ 0 → ⊥) → There upper ut gs s m
-marked_there (mark_none e) g = absurd (g refl)
-marked_there (mark_some w o f e i) g = record { tree = w; is = e; here = i; few = f }
+pub marked_there : {upper ut : List ℕ} {gs : List Field} {s : List ℕ} {m : Option ℕ} {r : ℕ} → Mark upper ut gs s m → m ≡ Some r → There upper ut gs s r
+marked_there (mark_none e) g = absurd (clash (ap is_some g) refl)
+marked_there {upper} {ut} {gs} {s} (mark_some w o f e i) g = subst (There upper ut gs s) (ap (λ (x : Option ℕ). unwrap_or x 0) g) (record { tree = w; is = e; here = i; few = f })
 
-pub marked_missing : {upper ut : List ℕ} {gs : List Field} {s : List ℕ} {m : ℕ} → Mark upper ut gs s m → m ≡ 0 → value_of s gs ≡ absent
+pub marked_missing : {upper ut : List ℕ} {gs : List Field} {s : List ℕ} {m : Option ℕ} → Mark upper ut gs s m → is_some m ≡ false → value_of s gs ≡ absent
 marked_missing (mark_none e) g = e
-marked_missing (mark_some w o f e i) g = absurd (omega arith)
+marked_missing (mark_some w o f e i) g = absurd (clash refl g)
 
 abbrev pub clash_at : Tree → Value → Bool
 clash_at v x = at (λ w. clashes v w) false x
 
-pub data Tops (key val : Tree) (x : Value) (p : ℕ) (a : Spot) (l m u v : List ℕ) : Lay → Type 0 where
-  tops : {b : Spot} → clash_at val x ≡ false → Stored p (bares (field key (topped val x) ∷ [])) a b l m u v → Tops key val x p a l m u v (Done b)
-  tops_clash : clash_at val x ≡ true → Tops key val x p a l m u v Clash
+pub data Tops (key val : Tree) (x : Value) (p : ℕ) (a : Spot) (l m u v : List ℕ) : Result Spot Clash → Type 0 where
+  tops : {b : Spot} → clash_at val x ≡ false → Stored p (bares (field key (topped val x) ∷ [])) a b l m u v → Tops key val x p a l m u v (Ok b)
+  tops_clash : {e : Clash} → clash_at val x ≡ true → Tops key val x p a l m u v (Err e)
 
 module _ {key val : Tree} {z : Value} {p : ℕ} {a : Spot} {l m x y : List ℕ} where
-  pub tops_done : {v : Lay} {b : Spot} → v ≡ Done b → Tops key val z p a l m x y v → (clash_at val z ≡ false) × Stored p (bares (field key (topped val z) ∷ [])) a b l m x y
+  pub tops_done : {v : Result Spot Clash} {b : Spot} → v ≡ Ok b → Tops key val z p a l m x y v → (clash_at val z ≡ false) × Stored p (bares (field key (topped val z) ∷ [])) a b l m x y
   tops_done e (tops c s) = (c, subst (λ (w : Spot). Stored p (bares (field key (topped val z) ∷ [])) a w l m x y) (same_spot e) s)
   tops_done e (tops_clash c) = absurd (not_both (sym e))
 
-  pub tops_clashed : {v : Lay} → v ≡ Clash → Tops key val z p a l m x y v → clash_at val z ≡ true
+  pub tops_clashed : {v : Result Spot Clash} {d : Clash} → v ≡ Err d → Tops key val z p a l m x y v → clash_at val z ≡ true
   tops_clashed e (tops c s) = absurd (not_both e)
   tops_clashed e (tops_clash c) = c
 
-module _ (lower lt : List ℕ) (q : ℕ) (upper ut : List ℕ) (m k : ℕ) (a : Spot) (h : Topping lower lt q upper ut m k a) where
+module _ (lower lt : List ℕ) (q : ℕ) (upper ut : List ℕ) (m : Option ℕ) (k : ℕ) (a : Spot) (h : Topping lower lt q upper ut m k a) where
   abbrev over_it : Tree
   over_it = topped h.val (value_of (text_of h.key) h.gs)
 
@@ -272,7 +270,7 @@ module _ (lower lt : List ℕ) (q : ℕ) (upper ut : List ℕ) (m k : ℕ) (a : 
   pub pair_key : Keep lower lt q a
   pair_key = fits_keep lower lt h.key h.key_kept h.key_here (fits_first (alone (unspan h.key)) (alone (unspan over_it)) parts)
 
-  pub pair_there : (m ≡ 0 → ⊥) → m + 1 < ceiling
+  pub pair_there : {r : ℕ} → m ≡ Some r → r + 1 < ceiling
   pair_there z = omega (arith, (marked_there h.mark z).few)
 
   pub pair_next : q + 1 < ceiling
@@ -290,9 +288,9 @@ module _ (lower lt : List ℕ) (q : ℕ) (upper ut : List ℕ) (m k : ℕ) (a : 
     stored_pair t e s = stored_as (sym (bares_pair h.key over_it)) (stored_then keyed (stored_as (ap (λ (u : Tree). alone (unspan u)) (sym e)) s))
 
     -- the upper has no such key
-    module _ (z : m ≡ 0) where
+    module _ (z : m ≡ None) where
       missing : value_of (text_of h.key) h.gs ≡ absent
-      missing = marked_missing h.mark z
+      missing = marked_missing h.mark (ap is_some z)
 
       lone : over_it ≡ h.val
       lone = ap (topped h.val) missing
@@ -301,16 +299,16 @@ module _ (lower lt : List ℕ) (q : ℕ) (upper ut : List ℕ) (m k : ℕ) (a : 
       pair_alone = fits_keep lower lt h.val (kept_value h.val_sane.shaped) h.val_here (fits_as (ap (λ (u : Tree). alone (unspan u)) lone) rest)
 
       pub pair_kept : {c : Spot} {l'' x'' : List ℕ} → ((i : Keep lower lt (q + 1) b) → Stored p (alone (unspan i.tree)) b c l' l'' x' x'')
-          → Tops h.key h.val (value_of (text_of h.key) h.gs) p a l l'' x x'' (Done c)
+          → Tops h.key h.val (value_of (text_of h.key) h.gs) p a l l'' x x'' (Ok c)
       unfolding pair_alone fits_keep
       pair_kept g = tops (ap (clash_at h.val) missing) (stored_pair h.val lone (g pair_alone))
 
     -- the upper has it
-    module _ (z : m ≡ 0 → ⊥) where
-      there : There upper ut h.gs (text_of h.key) m
+    module _ {r : ℕ} (z : m ≡ Some r) where
+      there : There upper ut h.gs (text_of h.key) r
       there = marked_there h.mark z
 
-      pub pair_two : Two lower lt (q + 1) upper ut (m + 1) k b
+      pub pair_two : Two lower lt (q + 1) upper ut (r + 1) k b
       pair_two =
           let w = there in
           record {
@@ -325,11 +323,11 @@ module _ (lower lt : List ℕ) (q : ℕ) (upper ut : List ℕ) (m k : ℕ) (a : 
             fits = fits_as (ap (λ (u : Value). alone (unspan (topped h.val u))) w.is) rest;
           }
 
-      pub pair_laid : {l'' x'' : List ℕ} {v : Lay} → ((i : Two lower lt (q + 1) upper ut (m + 1) k b) → Lays i.under i.above p b l' l'' x' x'' v)
+      pub pair_laid : {l'' x'' : List ℕ} {v : Result Spot Clash} → ((i : Two lower lt (q + 1) upper ut (r + 1) k b) → Lays i.under i.above p b l' l'' x' x'' v)
           → Tops h.key h.val (value_of (text_of h.key) h.gs) p a l l'' x x'' v
       unfolding pair_two
       pair_laid {l''} {x''} g = by (g pair_two)
         where
-          by : {v : Lay} → Lays h.val there.tree p b l' l'' x' x'' v → Tops h.key h.val (value_of (text_of h.key) h.gs) p a l l'' x x'' v
+          by : {v : Result Spot Clash} → Lays h.val there.tree p b l' l'' x' x'' v → Tops h.key h.val (value_of (text_of h.key) h.gs) p a l l'' x x'' v
           by (lays_over c s) = tops (ap (clash_at h.val) there.is ∙ c) (stored_pair (over h.val there.tree) (ap (topped h.val) there.is) s)
           by (lays_clash c) = tops_clash (ap (clash_at h.val) there.is ∙ c)

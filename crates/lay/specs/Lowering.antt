@@ -1,6 +1,6 @@
 -- THE LOWER'S PAIRS, one after another, each with what the upper has for its key; then the upper's new ones; and the object of both. Assumes nothing.
 use Rattle.std.specs.Prelude.{◌≡◌, Bool, ℕ, zero, suc, ◌+◌, ◌-◌, ◌*◌, ◌≤◌, ◌<◌, length}
-use Rattle.std.proofs.Math.Path.{refl, sym, ap, ap₂, subst}
+use Rattle.std.proofs.Math.Path.{refl, sym, ap, subst}
 use Rattle.std.proofs.Common.{◌∙◌}
 use mathlib.Core.List.{List, [], ◌∷◌, ◌++◌, append_assoc, append-nil}
 use native.Mathlib.Omega.{arith}
@@ -24,12 +24,13 @@ use Rattle.overlay.specs.Clash.{clashing}
 use Rattle.overlay.proofs.ClashLaws.{clashes_objects}
 use Rattle.lay.specs.declared.Spot.{Spot}
 use Rattle.lay.specs.declared.Grown.{Grown}
-use Rattle.lay.specs.declared.Lay.{Lay}
-use Rattle.lay.specs.declared.Lay.TheVariants.{Done, Clash}
+use Rattle.std.specs.Prelude.{true, false, Option, is_some, Result, Ok, Err}
+use Rattle.distinct.specs.Chains.{some_of}
+use Rattle.lay.specs.declared.Clash.{Clash}
 use Rattle.lay.specs.Targets.{ceiling, Stored, stored_none, stored_then, stored_as, stored_node, alone, alone_size, alone_text, head_size, own_length}
 use Rattle.lay.specs.Keeping.{Keep}
-use Rattle.lay.specs.Matching.{Stand, Pair, stand_first, stand_none, inside, Mark, Marks, marks_end, Refill, Refilled, marks_first, marks_agree}
-use Rattle.lay.specs.Laying.{bares, bares_append, Fits, fits_as, fits_first, fits_behind, fits_keep, bares_pair, Lays, lays_over, lays_clash, Objects, Both, Lowers, Lowered, lowered, lowered_clash, lowered_done, lowered_clashed, News, Grew, spot, Topping, Tops, tops_done, tops_clashed, clash_at, marked_there, marked_missing}
+use Rattle.lay.specs.Matching.{Stand, Pair, stand_first, stand_none, inside, Mark, Marks, marks_end, Refill, Refilled, marks_first, marks_agree, row_of}
+use Rattle.lay.specs.Laying.{bares, bares_append, Fits, fits_as, fits_first, fits_behind, fits_keep, bares_pair, Lays, lays_over, lays_clash, Objects, Both, Lowers, Lowered, lowered, lowered_clash, lowered_done, lowered_clashed, News, Grew, Topping, Tops, tops_done, tops_clashed, clash_at, marked_there, marked_missing}
 
 pub count_append : (us vs : List Field) → count (us ++ vs) ≡ count us + count vs
 count_append [] vs = omega arith
@@ -81,7 +82,7 @@ module _ (lower lt : List ℕ) (r : ℕ) (upper ut : List ℕ) (s k : ℕ) (a : 
         }
 
     module _ (q : ℕ) (b : Spot) (l m x y marks : List ℕ) (n i : ℕ) (g : Going q b l m x y marks n i) where
-      pub going_end : stop ≤ q → Lowered fs gs p a l m x y (Done b)
+      pub going_end : stop ≤ q → Lowered fs gs p a l m x y (Ok b)
       unfolding mended clashing
       going_end z =
           let o = stand_none lower lt g.stands z in
@@ -139,11 +140,11 @@ module _ (lower lt : List ℕ) (r : ℕ) (upper ut : List ℕ) (s k : ℕ) (a : 
             fits_first (bares (new ∷ [])) (bares us) (fits_as (bares_append (new ∷ []) us) (fits_behind (bares ((new ∷ []) ++ us)) f g.stored))
 
         module _ (marks₁ : List ℕ) (n₁ i₁ most : ℕ) (w : Refilled lower lt q stop upper ut s marks n i marks₁ most n₁ i₁) where
-          now_marked : Mark upper ut gs (text_of one.key) (get_or marks₁ i₁ 0) × Marks upper ut gs marks₁ n₁ (i₁ + 1) (pairs_of one.rest)
+          now_marked : Mark upper ut gs (text_of one.key) (row_of (get_or marks₁ i₁ 0)) × Marks upper ut gs marks₁ n₁ (i₁ + 1) (pairs_of one.rest)
           unfolding going_refill
           now_marked = marks_first one.is w.some (w.marked going_refill)
 
-          pub going_topping : {j : ℕ} → j ≡ get_or marks₁ i₁ 0 → Topping lower lt q upper ut j k b
+          pub going_topping : {j : Option ℕ} → j ≡ row_of (get_or marks₁ i₁ 0) → Topping lower lt q upper ut j k b
           going_topping {j} f =
               record {
                 key = one.key;
@@ -159,16 +160,16 @@ module _ (lower lt : List ℕ) (r : ℕ) (upper ut : List ℕ) (s k : ℕ) (a : 
                 fits = room;
               }
 
-          module _ {j : ℕ} (f : j ≡ get_or marks₁ i₁ 0) (v : Lay) (m' y' : List ℕ)
+          module _ {j : Option ℕ} (f : j ≡ row_of (get_or marks₁ i₁ 0)) (v : Result Spot Clash) (m' y' : List ℕ)
               (t : (o : Topping lower lt q upper ut j k b) → Tops o.key o.val (value_of (text_of o.key) o.gs) p b m m' y y' v) where
             told : Tops one.key one.val x_of p b m m' y y' v
             unfolding going_topping
             told = t (going_topping f)
 
-            pub going_clash : v ≡ Clash → {m'' y'' : List ℕ} → Lowered fs gs p a l m'' x y'' Clash
+            pub going_clash : {e₁ e₂ : Clash} → v ≡ Err e₁ → {m'' y'' : List ℕ} → Lowered fs gs p a l m'' x y'' (Err e₂)
             going_clash u = lowered_clash (calm_is ∙ ap (λ (c : Bool). or c (clashing (pairs_of one.rest) gs)) (tops_clashed u told))
 
-            pub going_on : (c : Spot) → v ≡ Done c → {j' : ℕ} → j' ≡ get_or lower (width * (q + 1) + 6) 0 → (marks₂ : List ℕ) → ((d : ℕ) → d < n₁ → get_or marks₂ d 0 ≡ get_or marks₁ d 0)
+            pub going_on : (c : Spot) → v ≡ Ok c → {j' : ℕ} → j' ≡ get_or lower (width * (q + 1) + 6) 0 → (marks₂ : List ℕ) → ((d : ℕ) → d < n₁ → get_or marks₂ d 0 ≡ get_or marks₁ d 0)
                 → Going j' c l m' x y' marks₂ n₁ (i₁ + 1)
             going_on c u {j'} d marks₂ o =
                 let us = mended (pairs_of one.rest) gs in
@@ -185,8 +186,8 @@ module _ (lower lt : List ℕ) (r : ℕ) (upper ut : List ℕ) (s k : ℕ) (a : 
 
 -- ---- THE UPPER'S NEW PAIRS
 
--- one of its keys, and m, the row of that key in the lower, 0 for none
-pub record Adding (upper ut : List ℕ) (q m : ℕ) (g : Grown) : Type 0 where
+-- one of its keys, and m, the row of that key in the lower
+pub record Adding (upper ut : List ℕ) (q : ℕ) (m : Option ℕ) (g : Grown) : Type 0 where
   pub lower : List ℕ
   pub lt : List ℕ
   pub deep : ℕ
@@ -200,51 +201,50 @@ pub record Adding (upper ut : List ℕ) (q m : ℕ) (g : Grown) : Type 0 where
   pub mark : Mark lower lt fs (text_of key) m
   pub few : q + 1 + size val < ceiling
   pub few_pairs : g.count + 1 < ceiling
-  pub fits : Fits (spot g) (bares (new_ones fs (field key val ∷ [])))
+  pub fits : Fits g.at (bares (new_ones fs (field key val ∷ [])))
 
 pub record Added (fs us : List Field) (p : ℕ) (g d : Grown) (l m x y : List ℕ) : Type 0 where
-  pub stored : Stored p (bares (new_ones fs us)) (spot g) (spot d) l m x y
+  pub stored : Stored p (bares (new_ones fs us)) g.at d.at l m x y
   pub counts : d.count ≡ g.count + count (new_ones fs us)
 
-module _ (upper ut : List ℕ) (q m : ℕ) (g : Grown) (h : Adding upper ut q m g) where
+module _ (upper ut : List ℕ) (q : ℕ) (m : Option ℕ) (g : Grown) (h : Adding upper ut q m g) where
   abbrev us₁ : List Field
   us₁ = field h.key h.val ∷ []
 
   -- the lower has it
-  pub adding_left : (m ≡ 0 → ⊥) → {p : ℕ} {l x : List ℕ} → Added h.fs us₁ p g g l l x x
+  pub adding_left : is_some m ≡ true → {p : ℕ} {l x : List ℕ} → Added h.fs us₁ p g g l l x x
   unfolding new_ones unspans
   adding_left z {p} {l} {x} =
-      let w = marked_there h.mark z in
+      let w = marked_there h.mark (some_of m true (sym z) refl).1 in
       let e : new_ones h.fs us₁ ≡ [] = new_left h.fs h.key h.val [] w.is in
       record { stored = stored_as (sym (ap bares e)) stored_none; counts = omega (arith, ap count e) }
 
-  module _ (z : m ≡ 0) where
+  module _ (z : is_some m ≡ false) where
     new_is : new_ones h.fs us₁ ≡ us₁
     unfolding new_ones
     new_is = new_kept h.fs h.key h.val [] (marked_missing h.mark z)
 
-    rooms : Fits (spot g) (beside (alone (unspan h.key)) (alone (unspan h.val)))
+    rooms : Fits g.at (beside (alone (unspan h.key)) (alone (unspan h.val)))
     rooms = fits_as (ap bares new_is ∙ bares_pair h.key h.val) h.fits
 
-    pub adding_key : Keep upper ut q (spot g)
+    pub adding_key : Keep upper ut q g.at
     adding_key = fits_keep upper ut h.key h.key_kept h.key_here (fits_first (alone (unspan h.key)) (alone (unspan h.val)) rooms)
 
-    module _ {p : ℕ} {b : Spot} {l l' x x' : List ℕ} (f : (i : Keep upper ut q (spot g)) → Stored p (alone (unspan i.tree)) (spot g) b l l' x x') where
-      stored_key : Stored p (alone (unspan h.key)) (spot g) b l l' x x'
+    module _ {p : ℕ} {b : Spot} {l l' x x' : List ℕ} (f : (i : Keep upper ut q g.at) → Stored p (alone (unspan i.tree)) g.at b l l' x x') where
+      stored_key : Stored p (alone (unspan h.key)) g.at b l l' x x'
       unfolding adding_key fits_keep
       stored_key = f adding_key
 
       pub adding_value : Keep upper ut (q + 1) b
       adding_value = fits_keep upper ut h.val (kept_value h.val_sane.shaped) h.val_here (fits_behind (alone (unspan h.val)) rooms stored_key)
 
-      pub adding_done : {l'' x'' : List ℕ} (c : Spot) → ((i : Keep upper ut (q + 1) b) → Stored p (alone (unspan i.tree)) b c l' l'' x' x'') → (d : Grown) → d.row ≡ c.row → d.text ≡ c.text
+      pub adding_done : {l'' x'' : List ℕ} (c : Spot) → ((i : Keep upper ut (q + 1) b) → Stored p (alone (unspan i.tree)) b c l' l'' x' x'') → (d : Grown) → d.at ≡ c
           → d.count ≡ g.count + 1 → Added h.fs us₁ p g d l l'' x x''
       unfolding adding_value fits_keep
-      adding_done {l''} {x''} c t d i j o =
+      adding_done {l''} {x''} c t d i o =
           let u = t adding_value in
-          let e : c ≡ spot d = ap₂ (λ (w v : ℕ). record { row = w; text = v }) (sym i) (sym j) in
           record {
-            stored = subst (λ (w : Spot). Stored p (bares (new_ones h.fs us₁)) (spot g) w l l'' x x'') e (stored_as (sym (ap bares new_is ∙ bares_pair h.key h.val)) (stored_then stored_key u));
+            stored = subst (λ (w : Spot). Stored p (bares (new_ones h.fs us₁)) g.at w l l'' x x'') (sym i) (stored_as (sym (ap bares new_is ∙ bares_pair h.key h.val)) (stored_then stored_key u));
             counts = o ∙ ap (λ (w : ℕ). g.count + w) (sym (ap count new_is));
           }
 
@@ -270,22 +270,21 @@ module _ (upper ut : List ℕ) (s : ℕ) (lower lt : List ℕ) (r k : ℕ) (a : 
       pub stands : Stand upper ut k q stop left
       pub done : List Field
       pub is : new_ones fs₂ gs₂ ≡ done ++ new_ones fs₂ (pairs_of left)
-      pub stored : Stored p (bares done) a (spot g) l m x y
+      pub stored : Stored p (bares done) a g.at l m x y
       pub counts : g.count ≡ count done
       pub few_count : g.count + 1 ≤ q
       pub marked : Marks lower lt fs₂ marks n i (pairs_of left)
 
-    pub newing_start : {l x marks : List ℕ} (g : Grown) → g.row ≡ a.row → g.text ≡ a.text → g.count ≡ 0 → Newing (s + 1) g l l x x marks 0 0
+    pub newing_start : {l x marks : List ℕ} (g : Grown) → g.at ≡ a → g.count ≡ 0 → Newing (s + 1) g l l x x marks 0 0
     unfolding unspans
-    newing_start {l} {x} g i j c =
+    newing_start {l} {x} g i c =
         let o = inside upper ut stop e h.both.above in
-        let z : a ≡ spot g = ap₂ (λ (w v : ℕ). record { row = w; text = v }) (sym i) (sym j) in
         record {
           left = o.trees;
           stands = o.stands;
           done = [];
           is = ap (new_ones fs₂) o.are;
-          stored = subst (λ (w : Spot). Stored p none a w l l x x) z stored_none;
+          stored = subst (λ (w : Spot). Stored p none a w l l x x) (sym i) stored_none;
           counts = c;
           few_count = omega arith;
           marked = marks_end;
@@ -334,7 +333,7 @@ module _ (upper ut : List ℕ) (s : ℕ) (lower lt : List ℕ) (r k : ℕ) (a : 
         news_is : new_ones fs₂ gs₂ ≡ w.done ++ (new_ones fs₂ it ++ new_ones fs₂ (pairs_of first.rest))
         news_is = w.is ∙ (ap (λ (us : List Field). w.done ++ new_ones fs₂ us) first.is ∙ ap (λ (us : List Field). w.done ++ us) (new_append fs₂ it (pairs_of first.rest)))
 
-        roomy : Fits (spot g) (bares (new_ones fs₂ it))
+        roomy : Fits g.at (bares (new_ones fs₂ it))
         roomy =
             let us = new_ones fs₂ (pairs_of first.rest) in
             let ns = new_ones fs₂ it in
@@ -350,11 +349,11 @@ module _ (upper ut : List ℕ) (s : ℕ) (lower lt : List ℕ) (r k : ℕ) (a : 
             by absent = omega arith
 
         module _ (marks₁ : List ℕ) (n₁ i₁ most : ℕ) (t : Refilled upper ut q stop lower lt r marks n i marks₁ most n₁ i₁) where
-          marked_now : Mark lower lt fs₂ (text_of first.key) (get_or marks₁ i₁ 0) × Marks lower lt fs₂ marks₁ n₁ (i₁ + 1) (pairs_of first.rest)
+          marked_now : Mark lower lt fs₂ (text_of first.key) (row_of (get_or marks₁ i₁ 0)) × Marks lower lt fs₂ marks₁ n₁ (i₁ + 1) (pairs_of first.rest)
           unfolding newing_refill
           marked_now = marks_first first.is t.some (t.marked newing_refill)
 
-          pub newing_adding : {j : ℕ} → j ≡ get_or marks₁ i₁ 0 → Adding upper ut q j g
+          pub newing_adding : {j : Option ℕ} → j ≡ row_of (get_or marks₁ i₁ 0) → Adding upper ut q j g
           newing_adding {j} f =
               record {
                 lower = lower;
@@ -373,7 +372,7 @@ module _ (upper ut : List ℕ) (s : ℕ) (lower lt : List ℕ) (r k : ℕ) (a : 
                 fits = roomy;
               }
 
-          pub newing_on : {j : ℕ} → j ≡ get_or marks₁ i₁ 0 → (d : Grown) (m' y' : List ℕ) → ((o : Adding upper ut q j g) → Added o.fs (field o.key o.val ∷ []) p g d m m' y y')
+          pub newing_on : {j : Option ℕ} → j ≡ row_of (get_or marks₁ i₁ 0) → (d : Grown) (m' y' : List ℕ) → ((o : Adding upper ut q j g) → Added o.fs (field o.key o.val ∷ []) p g d m m' y y')
               → {j' : ℕ} → j' ≡ get_or upper (width * (q + 1) + 6) 0 → Newing j' d l m' x y' marks₁ n₁ (i₁ + 1)
           unfolding newing_adding
           newing_on f d m' y' o {j'} u =
@@ -457,15 +456,15 @@ module _ (lower lt : List ℕ) (r : ℕ) (upper ut : List ℕ) (s k : ℕ) (a : 
     unfolding object_both
     object_lowers = record { both = object_both; fits = fits_first (bares (mended fs₃ gs₃)) (bares (new_ones fs₃ gs₃)) inner }
 
-    module _ {l m x y : List ℕ} {v : Lay} (t : (o : Lowers lower lt r upper ut s (k - 1) b) → Lowered (pairs o.both.under.tree) (pairs o.both.above.tree) a.row b l m x y v) where
+    module _ {l m x y : List ℕ} {v : Result Spot Clash} (t : (o : Lowers lower lt r upper ut s (k - 1) b) → Lowered (pairs o.both.under.tree) (pairs o.both.above.tree) a.row b l m x y v) where
       lower_told : Lowered fs₃ gs₃ a.row b l m x y v
       unfolding object_lowers object_both
       lower_told = t object_lowers
 
-      pub object_clash : v ≡ Clash → {p : ℕ} {l' m' x' y' : List ℕ} → Lays h.two.under h.two.above p a l' m' x' y' Clash
+      pub object_clash : {e₁ e₂ : Clash} → v ≡ Err e₁ → {p : ℕ} {l' m' x' y' : List ℕ} → Lays h.two.under h.two.above p a l' m' x' y' (Err e₂)
       object_clash e = lays_clash (clashes_objects h.two.under h.two.above h.under_object h.above_object ∙ lowered_clashed e lower_told)
 
-      module _ (c : Spot) (e : v ≡ Done c) where
+      module _ (c : Spot) (e : v ≡ Ok c) where
         pub object_news : News upper ut s lower lt r (k - 1) c
         unfolding object_both
         object_news = record { both = object_both; fits = fits_behind (bares (new_ones fs₃ gs₃)) inner (lowered_done e lower_told).1 }
@@ -475,7 +474,7 @@ module _ (lower lt : List ℕ) (r : ℕ) (upper ut : List ℕ) (s k : ℕ) (a : 
           unfolding object_news object_both
           new_told = u object_news
 
-          both_stored : Stored a.row (bares (laid_pairs fs₃ gs₃)) b (spot g) l n x z
+          both_stored : Stored a.row (bares (laid_pairs fs₃ gs₃)) b g.at l n x z
           both_stored = stored_as (sym pairs_are) (stored_then (lowered_done e lower_told).1 new_told.stored)
 
           module _ (w : ℕ) (q : w ≡ get_or lower (width * r + 4) 0) where
@@ -489,10 +488,10 @@ module _ (lower lt : List ℕ) (r : ℕ) (upper ut : List ℕ) (s k : ℕ) (a : 
             pub object_count : w + g.count < ceiling
             object_count = omega (arith, counted, few_pairs (laid_pairs fs₃ gs₃), inner.rows_fit, ap sizes pairs_are)
 
-            pub object_next : g.row < ceiling
+            pub object_next : g.at.row < ceiling
             object_next = omega (arith, both_stored.row_is, inner.rows_fit, ap sizes pairs_are)
 
-            pub object_done : {p : ℕ} {n' : List ℕ} → n' ≡ sets n (width * a.row) (row_list unlined 9 0 0 0 (w + g.count) p g.row) → Lays h.two.under h.two.above p a l n' x z (Done (spot g))
+            pub object_done : {p : ℕ} {n' : List ℕ} → n' ≡ sets n (width * a.row) (row_list unlined 9 0 0 0 (w + g.count) p g.at.row) → Lays h.two.under h.two.above p a l n' x z (Ok g.at)
             object_done o =
                 lays_over
                 (clashes_objects h.two.under h.two.above h.under_object h.above_object ∙ (lowered_done e lower_told).0)

@@ -1,10 +1,11 @@
 -- THE PAIRS OF AN OBJECT IN A TABLE (`Stand`), one after another, and the row of a key's match among them (`Mark`). Assumes nothing.
 use mathlib.Core.Path.{◌≡◌, refl, sym, ap, subst, subst₂, ◌∙◌}
 use mathlib.Core.List.{List, [], ◌∷◌, ◌++◌}
-use Rattle.std.specs.Prelude.{Bool, true, false, ℕ, zero, suc, ◌+◌, ◌-◌, ◌*◌, ◌≤◌, ◌<◌, get_or, set, take, drop}
+use Rattle.std.specs.Prelude.{Bool, true, false, ℕ, zero, suc, ◌+◌, ◌-◌, ◌*◌, ◌≤◌, ◌<◌, get_or, set, take, drop, Option, Some, None}
 use Rattle.std.proofs.Common.{arith, length-drop, get_or-set_same, get_or-set_other, length-take-le}
 use Rattle.std.proofs.Math.ListN.{length}
 use Rattle.std.proofs.Math.Seq.{slice}
+use Rattle.std.specs.Option.{unwrap_or}
 use Rattle.exact.specs.Tells.{Tells, tells_yes, tells_no}
 use Rattle.language.specs.Kind.{KEY}
 use Rattle.language.specs.Tree.{Tree, leaf, Forest, none, more, Decoded, Field, field, width, size, sizes, text_of}
@@ -133,15 +134,38 @@ module _ (table text : List ℕ) where
             counts = (Rattle.shaped.specs.RowsAt.node_row table text h.rows).to_is;
           }
 
--- THE MATCH of the text s among pairs that stand in a table: the row of that key, or 0
-pub data Mark (table text : List ℕ) (gs : List Field) (s : List ℕ) : ℕ → Type 0 where
-  mark_none : value_of s gs ≡ absent → Mark table text gs s 0
-  mark_some : {m : ℕ} (w : Tree) → 0 < m → m + 1 + size w < ceiling → value_of s gs ≡ value w → At table text (m + 1) w → Mark table text gs s m
+-- THE MATCH of the text s among pairs that stand in a table: the row of that key, which is not the first
+pub data Mark (table text : List ℕ) (gs : List Field) (s : List ℕ) : Option ℕ → Type 0 where
+  mark_none : value_of s gs ≡ absent → Mark table text gs s None
+  mark_some : {m : ℕ} (w : Tree) → 0 < m → m + 1 + size w < ceiling → value_of s gs ≡ value w → At table text (m + 1) w → Mark table text gs s (Some m)
+
+-- the row that a word of the marks says, 0 for none
+pub row_of : ℕ → Option ℕ
+row_of zero = None
+row_of (suc n) = Some (suc n)
+
+pub row_some : {m : ℕ} → (m ≡ 0 → ⊥) → row_of m ≡ Some m
+unfolding row_of
+row_some {m = zero} l = absurd (l refl)
+row_some {m = suc n} l = refl
+
+pub row_none : {m : ℕ} → m ≡ 0 → row_of m ≡ None
+unfolding row_of
+row_none e = rw e refl
+
+pub mark_word : {table text : List ℕ} {gs : List Field} {s : List ℕ} {o : Option ℕ} {m : ℕ} → m ≡ unwrap_or o 0 → Mark table text gs s o → Mark table text gs s (row_of m)
+mark_word {table} {text} {gs} {s} {m = m} e x = by x e
+  where
+    by : {o : Option ℕ} → Mark table text gs s o → m ≡ unwrap_or o 0 → Mark table text gs s (row_of m)
+    by (mark_none a) f = subst (Mark table text gs s) (sym (row_none f)) (mark_none a)
+    by (mark_some {m = n} w p l a i) f =
+        let g : row_of m ≡ Some n = row_some (λ z. omega arith) ∙ ap Some f in
+        subst (Mark table text gs s) (sym g) (mark_some w p l a i)
 
 -- so many of these pairs have their matches in the marks from the i-th on
 pub data Marks (table text : List ℕ) (gs : List Field) (marks : List ℕ) (n : ℕ) : ℕ → List Field → Type 0 where
   marks_end : {fs : List Field} → Marks table text gs marks n n fs
-  marks_more : {i : ℕ} {k v : Tree} {fs : List Field} → i < n → Mark table text gs (text_of k) (get_or marks i 0) → Marks table text gs marks n (i + 1) fs
+  marks_more : {i : ℕ} {k v : Tree} {fs : List Field} → i < n → Mark table text gs (text_of k) (row_of (get_or marks i 0)) → Marks table text gs marks n (i + 1) fs
       → Marks table text gs marks n i (field k v ∷ fs)
 
 -- ---- one key sought among the pairs of an object
@@ -164,7 +188,7 @@ module _ (table text s : List ℕ) (from stop : ℕ) where
   seek_start h = record { deep = h.deep; left = h.trees; stands = h.stands; is = refl }
 
   module _ (gs : List Field) (r : ℕ) (x : Seeking gs r) where
-    pub seek_end : stop ≤ r → Mark table text gs s 0
+    pub seek_end : stop ≤ r → Mark table text gs s None
     unfolding value_of
     seek_end l = mark_none (x.is ∙ ap (value_of s) (stand_none table text x.stands l))
 
@@ -182,7 +206,7 @@ module _ (table text s : List ℕ) (from stop : ℕ) where
       seek_ahead e = (omega (arith, one.onward), omega (arith, one.within))
 
       module _ (b : Bool) (t : Tells (s ≡ text_at table text r) b) where
-        pub seek_found : b ≡ true → 0 < r → stop < ceiling → Mark table text gs s r
+        pub seek_found : b ≡ true → 0 < r → stop < ceiling → Mark table text gs s (Some r)
         seek_found e p g =
             let q : s ≡ text_of one.key = tells_yes b e t ∙ one.text_is in
             let v = next_word table text one.val_here refl in
@@ -223,7 +247,7 @@ module _ (table text : List ℕ) (q end : ℕ) (other words : List ℕ) (s : ℕ
       let i = inside other words stop e h.object in
       record { deep = h.level; trees = i.trees; stands = i.stands; some = omega arith; few = omega (arith, h.few_others) }
 
-  pub match_mark : (stop : ℕ) (e : stop ≡ get_or other (width * s + 6) 0) {t : List ℕ} {m : ℕ} → ((k : Seek other words (s + 1) stop) → Mark other words (pairs_of k.trees) t m)
+  pub match_mark : (stop : ℕ) (e : stop ≡ get_or other (width * s + 6) 0) {t : List ℕ} {m : Option ℕ} → ((k : Seek other words (s + 1) stop) → Mark other words (pairs_of k.trees) t m)
       → Mark other words (pairs h.object.tree) t m
   unfolding match_seek
   match_mark stop e {t} {m} f =
@@ -257,8 +281,8 @@ module _ (table text : List ℕ) (q end : ℕ) (other words : List ℕ) (s : ℕ
       pub fill_ahead : {i : ℕ} → i ≡ get_or table (width * (r + 1) + 6) 0 → (r < i) × (i ≤ end)
       fill_ahead e = (omega (arith, first.onward), omega (arith, first.within))
 
-      pub fill_on : {i m : ℕ} → i ≡ get_or table (width * (r + 1) + 6) 0 → n < length marks → Mark other words (pairs h.object.tree) (text_at table text r) m → Filling (set marks n m) (n + 1) i
-      fill_on {i} {m} e g y =
+      pub fill_on : {i : ℕ} (m : ℕ) → i ≡ get_or table (width * (r + 1) + 6) 0 → n < length marks → Mark other words (pairs h.object.tree) (text_at table text r) (row_of m) → Filling (set marks n m) (n + 1) i
+      fill_on {i} m e g y =
           record {
             left = first.rest;
             stands = subst (λ (j : ℕ). Stand table text h.deep j end first.rest) (sym e) first.behind;
@@ -268,7 +292,7 @@ module _ (table text : List ℕ) (q end : ℕ) (other words : List ℕ) (s : ℕ
                 (subst
                 (Marks other words (pairs h.object.tree) marks' o n)
                 (sym first.is)
-                (marks_more (omega arith) (subst₂ (Mark other words (pairs h.object.tree)) first.text_is (sym (f n (omega arith) ∙ get_or-set_same marks n m 0 g)) y) z));
+                (marks_more (omega arith) (subst₂ (Mark other words (pairs h.object.tree)) first.text_is (sym (ap row_of (f n (omega arith) ∙ get_or-set_same marks n m 0 g))) y) z));
           }
 
 -- ---- marks read one after another, and new ones made where none are left
@@ -292,10 +316,10 @@ refill_new l x = record { some = x.some l; low = x.low; marked = λ h. x.marked 
 
 -- the first of the marks that are left
 pub marks_first : {table text : List ℕ} {gs : List Field} {marks : List ℕ} {n i : ℕ} {fs : List Field} {k v : Tree} {us : List Field} → fs ≡ field k v ∷ us → i < n
-    → Marks table text gs marks n i fs → Mark table text gs (text_of k) (get_or marks i 0) × Marks table text gs marks n (i + 1) us
+    → Marks table text gs marks n i fs → Mark table text gs (text_of k) (row_of (get_or marks i 0)) × Marks table text gs marks n (i + 1) us
 marks_first {table} {text} {gs} {marks} {n} {i} e l x = by (subst (Marks table text gs marks n i) e x) l
   where
-    by : {j : ℕ} {k v : Tree} {us : List Field} → Marks table text gs marks n j (field k v ∷ us) → j < n → Mark table text gs (text_of k) (get_or marks j 0) × Marks table text gs marks n (j + 1) us
+    by : {j : ℕ} {k v : Tree} {us : List Field} → Marks table text gs marks n j (field k v ∷ us) → j < n → Mark table text gs (text_of k) (row_of (get_or marks j 0)) × Marks table text gs marks n (j + 1) us
     by marks_end l = absurd (omega arith)
     by (marks_more g m y) l = (m, y)
 
@@ -303,7 +327,7 @@ marks_first {table} {text} {gs} {marks} {n} {i} e l x = by (subst (Marks table t
 pub marks_agree : {table text : List ℕ} {gs : List Field} {marks marks' : List ℕ} {n i : ℕ} {fs : List Field} → ((j : ℕ) → j < n → get_or marks' j 0 ≡ get_or marks j 0)
     → Marks table text gs marks n i fs → Marks table text gs marks' n i fs
 marks_agree f marks_end = marks_end
-marks_agree {table} {text} {gs} f (marks_more {i = i} {k = k} l m x) = marks_more l (subst (Mark table text gs (text_of k)) (sym (f i l)) m) (marks_agree f x)
+marks_agree {table} {text} {gs} f (marks_more {i = i} {k = k} l m x) = marks_more l (subst (Mark table text gs (text_of k)) (sym (ap row_of (f i l))) m) (marks_agree f x)
 
 -- a part of the marks is lent from the n-th on
 front : (xs ys : List ℕ) (n j : ℕ) → n ≤ length xs → j < n → get_or (take n xs ++ ys) j 0 ≡ get_or xs j 0

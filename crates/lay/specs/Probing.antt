@@ -8,7 +8,7 @@ use Rattle.distinct.specs.Names.{spelt, Sits, sits_at, Twice}
 use Rattle.overlay.specs.Overlay.{value, absent, value_of}
 use Rattle.overlay.specs.Lists.{no_value, value_here, value_there}
 use Rattle.lay.specs.Targets.{ceiling}
-use Rattle.lay.specs.Matching.{Mark, mark_none, mark_some}
+use Rattle.lay.specs.Matching.{Mark, mark_none, mark_some, row_of, row_none, row_some}
 
 module _ (other words : List ℕ) (gs : List Field) where
   -- the match of the text s, where the pairs us are still to be sought: none so far, or this one and none of those
@@ -16,10 +16,10 @@ module _ (other words : List ℕ) (gs : List Field) where
     half_none : value_of s gs ≡ value_of s us → Half us s 0
     half_some : {m : ℕ} (w : Tree) → 0 < m → m + 1 + size w < ceiling → value_of s gs ≡ value w → At other words (m + 1) w → value_of s us ≡ absent → Half us s m
 
-  pub half_end : {s : List ℕ} {m : ℕ} → Half [] s m → Mark other words gs s m
+  pub half_end : {s : List ℕ} {m : ℕ} → Half [] s m → Mark other words gs s (row_of m)
   unfolding value_of
-  half_end (half_none e) = mark_none e
-  half_end (half_some w o f e h a) = mark_some w o f e h
+  half_end {s} (half_none e) = subst (Mark other words gs s) (sym (row_none refl)) (mark_none e)
+  half_end {s} (half_some w o f e h a) = subst (Mark other words gs s) (sym (row_some (λ z. omega arith))) (mark_some w o f e h)
 
   module _ (key val : Tree) (us : List Field) (s : List ℕ) where
     -- a key with another text
@@ -40,7 +40,7 @@ module _ (other words : List ℕ) (gs : List Field) where
     pub halves_start : (marks : List ℕ) → ((k : ℕ) → k < n → get_or marks k 0 ≡ 0) → Halves marks gs
     halves_start marks z k l = subst (Half gs (spelt text froms tos k)) (sym (z k l)) (half_none refl)
 
-    pub halves_end : (marks : List ℕ) → Halves marks [] → (k : ℕ) → k < n → Mark other words gs (spelt text froms tos k) (get_or marks k 0)
+    pub halves_end : (marks : List ℕ) → Halves marks [] → (k : ℕ) → k < n → Mark other words gs (spelt text froms tos k) (row_of (get_or marks k 0))
     halves_end marks h k l = half_end (h k l)
 
     module _ (marks : List ℕ) (key val : Tree) (us : List Field) (h : Halves marks (field key val ∷ us)) where

@@ -24,8 +24,8 @@ use Rattle.overlay.specs.Profiles.{profile_sane}
 use Rattle.overlay.proofs.ResultLaws.{overlay_laid, overlay_clash}
 use Rattle.overlay.proofs.BoundsLaws.{over_rows, over_text}
 use Rattle.lay.specs.declared.Spot.{Spot}
-use Rattle.lay.specs.declared.Lay.{Lay}
-use Rattle.lay.specs.declared.Lay.TheVariants.{Done, Clash}
+use Rattle.std.specs.Prelude.{Result, Ok, Err}
+use Rattle.lay.specs.declared.Clash.{Clash}
 use Rattle.lay.specs.Targets.{Stored, alone, alone_size, alone_text}
 use Rattle.lay.specs.Keeping.{bare_size, bare_text}
 use Rattle.lay.specs.Laying.{Lays, lays_over, lays_clash, Objects, object_kind}
@@ -134,29 +134,29 @@ module _ (lower lt upper ut : List ℕ) (h : Roots lower lt upper ut) where
         above_object = unspan_object h.above ∙ h.above_held.object;
       }
 
-  pub roots_told : {p : ℕ} {l m x y : List ℕ} {v : Lay} → ((o : Objects lower lt 0 upper ut 0 deepest origin) → Lays o.two.under o.two.above p origin l m x y v) → Lays t u p origin l m x y v
+  pub roots_told : {p : ℕ} {l m x y : List ℕ} {v : Result Spot Clash} → ((o : Objects lower lt 0 upper ut 0 deepest origin) → Lays o.two.under o.two.above p origin l m x y v) → Lays t u p origin l m x y v
   unfolding roots_objects
   roots_told f = f roots_objects
 
 -- ---- WHAT IS COUNTED
-pub data Counts (t u : Tree) : Lay → Type 0 where
-  counts : {b : Spot} → clashes t u ≡ false → b.row ≡ size (over t u) → b.text ≡ length (text_of (over t u)) → Counts t u (Done b)
-  counts_clash : clashes t u ≡ true → Counts t u Clash
+pub data Counts (t u : Tree) : Result Spot Clash → Type 0 where
+  counts : {b : Spot} → clashes t u ≡ false → b.row ≡ size (over t u) → b.text ≡ length (text_of (over t u)) → Counts t u (Ok b)
+  counts_clash : {e : Clash} → clashes t u ≡ true → Counts t u (Err e)
 
-pub lays_counts : {t u : Tree} {p : ℕ} {l m x y : List ℕ} {v : Lay} → Lays t u p origin l m x y v → Counts t u v
+pub lays_counts : {t u : Tree} {p : ℕ} {l m x y : List ℕ} {v : Result Spot Clash} → Lays t u p origin l m x y v → Counts t u v
 lays_counts {t} {u} (lays_over {b = b} c s) =
     counts {b = b} c (omega (arith, s.row_is, alone_size (unspan (over t u)), bare_size (over t u))) (omega (arith, s.text_is, ap length (alone_text (unspan (over t u))), ap length (bare_text (over t u))))
 lays_counts (lays_clash c) = counts_clash c
 
-spot_of : Spot → Lay → Spot
-spot_of d (Done b) = b
-spot_of d Clash = d
+spot_of : Spot → Result Spot Clash → Spot
+spot_of d (Ok b) = b
+spot_of d (Err e) = d
 
-same_spot : {b c : Spot} → Done b ≡ Done c → b ≡ c
+same_spot : {b c : Spot} → ◌≡◌ {A = Result Spot Clash} (Ok b) (Ok c) → b ≡ c
 unfolding spot_of
 same_spot {b} e = ap (spot_of b) e
 
-not_both : {b : Spot} → Done b ≡ Clash → ⊥
+not_both : {b : Spot} {d : Clash} → Ok b ≡ Err d → ⊥
 not_both e = let z : ◌≡◌ {A = ℕ} 0 1 = cc in omega arith
 
 record Counted (t u : Tree) (b : Spot) : Type 0 where
@@ -164,12 +164,12 @@ record Counted (t u : Tree) (b : Spot) : Type 0 where
   rows_are : b.row ≡ size (over t u)
   text_is : b.text ≡ length (text_of (over t u))
 
-counted : {t u : Tree} {v : Lay} {b : Spot} → v ≡ Done b → Counts t u v → Counted t u b
+counted : {t u : Tree} {v : Result Spot Clash} {b : Spot} → v ≡ Ok b → Counts t u v → Counted t u b
 counted {t} {u} e (counts {b = b} c i j) = subst (Counted t u) (same_spot e) (record { calm = c; rows_are = i; text_is = j })
 counted e (counts_clash c) = absurd (not_both (sym e))
 
-counted_clash : {t u : Tree} {v : Lay} → v ≡ Clash → Counts t u v → clashes t u ≡ true
-counted_clash e (counts c i j) = absurd (not_both e)
+counted_clash : {t u : Tree} {v : Result Spot Clash} → ((b : Spot) → v ≡ Ok b → ⊥) → Counts t u v → clashes t u ≡ true
+counted_clash e (counts {b = b} c i j) = absurd (e b refl)
 counted_clash e (counts_clash c) = c
 
 -- ---- WHAT IS ANSWERED
@@ -185,7 +185,7 @@ filled table text table' text' r h k s =
       s.texts ∙ (ap (sets text 0) (append-nil (text_of r)) ∙ (sets-eq (text_of r) text 0 (omega arith) ∙ ap (λ (i : ℕ). text_of r ++ drop i text) y)),
     )
 
-module _ (lower lt upper ut : List ℕ) (h : Roots lower lt upper ut) (table text : List ℕ) {v : Lay} (g : (o : Roots lower lt upper ut) → Counts (unspan o.under) (unspan o.above) v) where
+module _ (lower lt upper ut : List ℕ) (h : Roots lower lt upper ut) (table text : List ℕ) {v : Result Spot Clash} (g : (o : Roots lower lt upper ut) → Counts (unspan o.under) (unspan o.above) v) where
   abbrev a₁ : Tree
   a₁ = unspan h.under
 
@@ -196,10 +196,10 @@ module _ (lower lt upper ut : List ℕ) (h : Roots lower lt upper ut) (table tex
   bare_result : unspan (over a₁ b₁) ≡ over a₁ b₁
   bare_result = ap unspan (over_unspan h.under h.above) ∙ (unspan_twice (over h.under h.above) ∙ sym (over_unspan h.under h.above))
 
-  pub answer_clash : v ≡ Clash → Given table text (overlay h.under h.above) CLASH 0 0 table text
+  pub answer_clash : ((b : Spot) → v ≡ Ok b → ⊥) → Given table text (overlay h.under h.above) CLASH 0 0 table text
   answer_clash e = subst (λ (o : Laid). Given table text o CLASH 0 0 table text) (sym (overlay_clash h.under h.above (counted_clash e (g h)))) clashed
 
-  module _ (b : Spot) (e : v ≡ Done b) where
+  module _ (b : Spot) (e : v ≡ Ok b) where
     it₁ : Counted a₁ b₁ b
     it₁ = counted e (g h)
 
@@ -219,11 +219,11 @@ module _ (lower lt upper ut : List ℕ) (h : Roots lower lt upper ut) (table tex
             (subst (λ (o : Laid). Given table text o TEXT (length (text_of (over a₁ b₁))) 0 table text) (sym gives_laid)
             (bytes (over a₁ b₁) (omega (arith, it₁.rows_are)) (omega (arith, it₁.text_is))))
 
-        pub answer_done : b.text ≤ d → {w : Lay} {table' text' : List ℕ} → ((o : Roots lower lt upper ut) → Lays (unspan o.under) (unspan o.above) 0 origin table table' text text' w)
+        pub answer_done : b.text ≤ d → {w : Result Spot Clash} {table' text' : List ℕ} → ((o : Roots lower lt upper ut) → Lays (unspan o.under) (unspan o.above) 0 origin table table' text text' w)
             → Given table text (overlay h.under h.above) 0 b.row b.text table' text'
         answer_done l {w} {table'} {text'} o = by (o h)
           where
-            by : {w : Lay} → Lays a₁ b₁ 0 origin table table' text text' w → Given table text (overlay h.under h.above) 0 b.row b.text table' text'
+            by : {w : Result Spot Clash} → Lays a₁ b₁ 0 origin table table' text text' w → Given table text (overlay h.under h.above) 0 b.row b.text table' text'
             by (lays_clash c) = absurd (clash c it₁.calm)
             by (lays_over {b = d} c x) =
                 let r = over a₁ b₁ in

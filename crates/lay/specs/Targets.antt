@@ -1,11 +1,13 @@
 -- TREES STORED IN THE TARGETS (`Stored`), one behind another. A store past a target's end changes nothing. Assumes nothing.
-use Rattle.std.specs.Prelude.{◌≡◌, List, [], ◌∷◌, ◌++◌, ℕ, zero, suc, ◌+◌, ◌-◌, ◌*◌, ◌≤◌, ◌<◌, length, set, take, drop}
+use Rattle.std.specs.Prelude.{◌≡◌, List, [], ◌∷◌, ◌++◌, ℕ, zero, suc, ◌+◌, ◌-◌, ◌*◌, ◌≤◌, ◌<◌, min, length, set, take, drop}
 use Rattle.std.proofs.Math.Path.{refl}
 use Rattle.std.proofs.Common.{sym, ap, subst, ◌∙◌, append_assoc, append-nil, arith, length-append, length-drop, drop-drop}
-use Rattle.std.proofs.lemmas.List.Edits.{sets}
-use Rattle.std.proofs.Math.Seq.{drop-length, take-length}
+use Rattle.std.proofs.lemmas.List.Edits.{sets, sets-eq}
+use Rattle.std.proofs.lemmas.Slice.{between_is}
+use Rattle.std.proofs.Math.Decide.{dec_le}
+use Rattle.std.proofs.Math.Seq.{drop-length, take-length, slice, length-slice}
 use Rattle.language.specs.Tree.{Tree, leaf, node, Forest, none, more, width, unlined, size, sizes, text_of, texts_of, row_list, leaf_row, rows_of, rowss}
-use Rattle.rooms.specs.Stores.{sets_append, row_behind}
+use Rattle.rooms.specs.Stores.{sets_append, row_behind, sets_part as stores_part}
 use Rattle.rooms.specs.Forest.{length_rowss}
 use Rattle.shaped.specs.Beside.{beside, beside_size, beside_text}
 use Rattle.lay.specs.declared.Spot.{Spot}
@@ -29,6 +31,27 @@ part_stored l w m i h e =
     let z : drop (length l - i) (drop i l) ≡ [] = drop-drop (length l - i) i l ∙ (ap (λ (n : ℕ). drop n l) (let y : i + (length l - i) ≡ length l = omega arith in y) ∙ drop-length l) in
     let y : take (length l - i) (drop i l) ≡ drop i l = ap (λ (n : ℕ). take n (drop i l)) (sym (length-drop i l)) ∙ take-length (drop i l) in
     ap (λ (n : List ℕ). take i l ++ (m ++ n)) z ∙ (ap (λ (n : List ℕ). take i l ++ n) (append-nil m ∙ (e ∙ ap (λ (n : List ℕ). sets n 0 w) y)) ∙ sets_part l w i (omega arith))
+
+-- a run copied into a list from x on, as much of it as has room
+pub copied : (l s ys : List ℕ) (x a e n i j : ℕ) → x < length l → a ≤ e → e ≤ length s → n ≡ min (e - a) (length l - x) → i ≡ n → j ≡ n → ys ≡ take j (drop a s)
+    → take x l ++ (ys ++ drop i (drop x l)) ≡ sets l x (slice a e s)
+copied l s ys x a e n i j h k m f p q g = whole ∙ by (dec_le (e - a) (length l - x))
+  where
+    here : ys ≡ slice a (a + n) s
+    here = g ∙ (ap (λ (y : ℕ). take y (drop a s)) (let z : j ≡ a + n - a = omega arith in z) ∙ between_is s a (a + n))
+
+    long : length (slice a (a + n) s) ≡ n
+    long = length-slice a (a + n) s (omega arith) ∙ (let z : a + n - a ≡ n = omega arith in z)
+
+    whole : take x l ++ (ys ++ drop i (drop x l)) ≡ sets l x (slice a (a + n) s)
+    whole =
+        ap (λ (y : List ℕ). take x l ++ (y ++ drop i (drop x l))) here
+        ∙ (ap (λ (y : List ℕ). take x l ++ (slice a (a + n) s ++ y)) (drop-drop i x l ∙ ap (λ (y : ℕ). drop y l) (let z : x + i ≡ x + length (slice a (a + n) s) = omega (arith, long) in z))
+        ∙ (sym (append_assoc (take x l) (slice a (a + n) s) (drop (x + length (slice a (a + n) s)) l)) ∙ sym (sets-eq (slice a (a + n) s) l x (omega (arith, long)))))
+
+    by : Dec (e - a ≤ length l - x) → sets l x (slice a (a + n) s) ≡ sets l x (slice a e s)
+    by (yes y) = ap (λ (z : ℕ). sets l x (slice a z s)) (omega arith)
+    by (no y) = stores_part s l a e x (a + n) (omega arith) (omega arith) m (omega arith)
 
 -- the rows and the texts of these trees, with the parent p, from one spot of the targets up to another
 pub record Stored (p : ℕ) (ts : Forest) (a b : Spot) (rows rows' room room' : List ℕ) : Type 0 where

@@ -3,14 +3,11 @@ use Rattle.std.proofs.Math.Path.{◌≡◌}
 use Rattle.std.specs.Prelude.{refl, List, Bool, true, false, ℕ, ◌+◌, ◌-◌, ◌*◌, ◌≤◌, ◌<◌, min, length, get_or, set}
 use Rattle.std.proofs.Common.{sym, ap, subst, ◌∙◌, length-set, rules}
 use native.Mathlib.Omega.{arith}
+use Rattle.std.specs.Prelude.{Option, Some, None, Result, Ok, Err}
+use Rattle.std.specs.Result.{result_ok}
 use Rattle.exact.specs.Class.{clash}
+use Rattle.repeats.specs.declared.TooLong.{TooLong}
 use Rattle.language.specs.Tree.{Forest, width}
-use Rattle.repeats.specs.declared.Walk.{Walk}
-use Rattle.repeats.specs.declared.Walk.TheVariants.{Past}
-use Rattle.distinct.specs.declared.Sought.{Sought}
-use Rattle.distinct.specs.declared.Sought.TheVariants.{At, Nowhere, Long}
-use Rattle.distinct.specs.declared.Standing.{Standing}
-use Rattle.distinct.specs.declared.Standing.TheVariants.{Gap, At as StandsAt}
 use Rattle.distinct.specs.Names.{spelt, Held, Sits, Twice}
 use Rattle.distinct.specs.Chains.{Told, told_low, told_at, told_none, SitsTold, InChains, Starting, Linked, linked_in}
 use Rattle.distinct.specs.Ranks.{Finds, InOrder, Ranged, ranged_twice, ranged_in, stands_low, stands_same, gap_none}
@@ -20,7 +17,7 @@ use Rattle.sound.specs.Pairwise.{Named}
 use Rattle.sound.specs.Standing.{size_some, next_word}
 use Rattle.overlay.specs.Overlay.{pairs_of, pairs}
 use Rattle.lay.specs.Targets.{ceiling}
-use Rattle.lay.specs.Matching.{Stand, Pair, stand_first, stand_none, Mark, Seek, Match, match_word, match_seek, match_mark, Matched}
+use Rattle.lay.specs.Matching.{Stand, Pair, stand_first, stand_none, Mark, Seek, Match, match_word, match_seek, match_mark, Matched, row_of}
 use Rattle.lay.specs.Gathering.{Pairing, match_pairing, Space, Zeros, Gathered}
 use Rattle.lay.specs.Probing.{Halves, halves_start, halves_end, halves_past, halves_met}
 
@@ -32,9 +29,9 @@ pub record Ready (text froms tos heads links : List ℕ) (n : ℕ) (ranked : Boo
   pub chains : ranked ≡ false → InChains text froms tos heads links n
 
 -- which one has the text s; in order no look is too long
-pub record Sighted (text froms tos : List ℕ) (n : ℕ) (s : List ℕ) (ranked : Bool) (r : Sought) : Type 0 where
+pub record Sighted (text froms tos : List ℕ) (n : ℕ) (s : List ℕ) (ranked : Bool) (r : Result (Option ℕ) TooLong) : Type 0 where
   pub told : SitsTold text froms tos n s r
-  pub short : ranked ≡ true → r ≡ Long → ⊥
+  pub short : ranked ≡ true → (e : TooLong) → r ≡ Err e → ⊥
 
 module _ (text froms tos heads links : List ℕ) (n : ℕ) (ranked : Bool) (w : Ready text froms tos heads links n ranked) where
   pub ready_order : ranked ≡ true → InOrder text froms tos links n
@@ -44,29 +41,25 @@ module _ (text froms tos heads links : List ℕ) (n : ℕ) (ranked : Bool) (w : 
   ready_chains e = w.chains e
 
   module _ (s : List ℕ) where
-    pub sight_chains : ranked ≡ false → (r : Sought) → SitsTold text froms tos n s r → Sighted text froms tos n s ranked r
-    sight_chains e r t = record { told = t; short = λ f g. clash f e }
+    pub sight_chains : ranked ≡ false → (r : Result (Option ℕ) TooLong) → SitsTold text froms tos n s r → Sighted text froms tos n s ranked r
+    sight_chains e r t = record { told = t; short = λ f x g. clash f e }
 
-    module _ (e : ranked ≡ true) (d : Standing) (t : Finds text froms tos links n s d) where
-      pub sight_at : (k : ℕ) → d ≡ StandsAt k → Sighted text froms tos n s ranked (At k)
+    module _ (e : ranked ≡ true) (d : Result ℕ ℕ) (t : Finds text froms tos links n s d) where
+      pub sight_order : (o : Option ℕ) → o ≡ result_ok d → Sighted text froms tos n s ranked (Ok o)
       unfolding Told
-      sight_at k f =
-          record {
-            told = (stands_low text froms tos links n s d t k f, stands_same text froms tos links n s d t k f);
-            short = λ g h. let z : ◌≡◌ {A = ℕ} 0 1 = cc in omega arith;
-          }
+      sight_order o f = rw f (by d t)
+        where
+          by : (d : Result ℕ ℕ) → Finds text froms tos links n s d → Sighted text froms tos n s ranked (Ok (result_ok d))
+          by (Ok k) t = record { told = (stands_low text froms tos links n s (Ok k) t k refl, stands_same text froms tos links n s (Ok k) t k refl); short = λ g x h. let z : ◌≡◌ {A = ℕ} 0 1 = cc in omega arith }
+          by (Err p) t = record { told = gap_none text froms tos links n s (Err p) t (w.order e).ranked p refl; short = λ g x h. let z : ◌≡◌ {A = ℕ} 0 1 = cc in omega arith }
 
-      pub sight_gap : (p : ℕ) → d ≡ Gap p → Sighted text froms tos n s ranked Nowhere
-      unfolding Told
-      sight_gap p f = record { told = gap_none text froms tos links n s d t (w.order e).ranked p f; short = λ g h. let z : ◌≡◌ {A = ℕ} 0 1 = cc in omega arith }
-
-pub ruleset sighting = (ready_order, ready_chains, sight_chains, sight_at, sight_gap, rules)
+pub ruleset sighting = (ready_order, ready_chains, sight_chains, sight_order, rules)
 
 -- ---- each key of the other object sought
 
 -- each of the n keys has its match in the marks
 pub record Marked (text froms tos : List ℕ) (n : ℕ) (other words : List ℕ) (from stop : ℕ) (marks : List ℕ) : Type 0 where
-  pub each : (h : Seek other words from stop) (k : ℕ) → k < n → Mark other words (pairs_of h.trees) (spelt text froms tos k) (get_or marks k 0)
+  pub each : (h : Seek other words from stop) (k : ℕ) → k < n → Mark other words (pairs_of h.trees) (spelt text froms tos k) (row_of (get_or marks k 0))
 
 pub record Probe (text froms tos heads links : List ℕ) (n : ℕ) (other words : List ℕ) (from stop : ℕ) (marks : List ℕ) (ranked : Bool) : Type 0 where
   pub ready : Ready text froms tos heads links n ranked
@@ -107,7 +100,7 @@ module _ (text froms tos heads links : List ℕ) (n : ℕ) (other words : List �
     pub probe_over : stop ≤ r → Probed text froms tos n other words from stop marks ranked true
     probe_over l = record { marked = λ e. record { each = λ h. done h (x.way h) }; short = λ e. refl }
       where
-        done : (h : Seek other words from stop) → Way text froms tos n other words from stop h marks r → (k : ℕ) → k < n → Mark other words (pairs_of h.trees) (spelt text froms tos k) (get_or marks k 0)
+        done : (h : Seek other words from stop) → Way text froms tos n other words from stop h marks r → (k : ℕ) → k < n → Mark other words (pairs_of h.trees) (spelt text froms tos k) (row_of (get_or marks k 0))
         done h y = halves_end other words (pairs_of h.trees) text froms tos n marks (subst (Halves other words (pairs_of h.trees) text froms tos n marks) (stand_none other words y.stands l) y.halves)
 
     module _ (l : r < stop) where
@@ -130,20 +123,20 @@ module _ (text froms tos heads links : List ℕ) (n : ℕ) (other words : List �
         beyond : from ≤ q
         beyond = let p = one w.seek in omega (arith, x.ahead, p.onward)
 
-      module _ (s : Sought) (t : Sighted text froms tos n (text_at other words r) ranked s) where
+      module _ (s : Result (Option ℕ) TooLong) (t : Sighted text froms tos n (text_at other words r) ranked s) where
         abbrev P : ℕ → Type 0
         P k = text_at other words r ≡ spelt text froms tos k
 
         abbrev Q : Type 0
         Q = Sits text froms tos (text_at other words r) n
 
-        pub probe_long : s ≡ Long → Probed text froms tos n other words from stop marks ranked false
-        probe_long e = record { marked = λ f. absurd (clash f refl); short = λ f. absurd (t.short f e) }
+        pub probe_long : (x : TooLong) → s ≡ Err x → Probed text froms tos n other words from stop marks ranked false
+        probe_long x e = record { marked = λ f. absurd (clash f refl); short = λ f. absurd (t.short f x e) }
 
-        pub probe_mark : (k : ℕ) → s ≡ At k → k < length marks
+        pub probe_mark : (k : ℕ) → s ≡ Ok (Some k) → k < length marks
         probe_mark k e = let z = told_low P n Q s t.told k e in omega (arith, x.room)
 
-        pub probe_met : (k : ℕ) → s ≡ At k → (q : ℕ) → q ≡ get_or other (width * (r + 1) + 6) 0 → Probing text froms tos n other words from stop (set marks k r) q
+        pub probe_met : (k : ℕ) → s ≡ Ok (Some k) → (q : ℕ) → q ≡ get_or other (width * (r + 1) + 6) 0 → Probing text froms tos n other words from stop (set marks k r) q
         probe_met k e q f = record { way = λ h. on h (one h); room = omega (arith, x.room, length-set marks k r); ahead = beyond q f }
           where
             on : (h : Seek other words from stop) → Pair other words h.deep r stop (x.way h).left → Way text froms tos n other words from stop h (set marks k r) q
@@ -158,7 +151,7 @@ module _ (text froms tos heads links : List ℕ) (n : ℕ) (other words : List �
                       (sym p.text_is ∙ told_at P n Q s t.told k e) w.once (omega (arith, x.ahead, h.some)) (omega (arith, p.within, h.few)) p.val_here p.apart;
                 }
 
-        pub probe_past : s ≡ Nowhere → (q : ℕ) → q ≡ get_or other (width * (r + 1) + 6) 0 → Probing text froms tos n other words from stop marks q
+        pub probe_past : s ≡ Ok None → (q : ℕ) → q ≡ get_or other (width * (r + 1) + 6) 0 → Probing text froms tos n other words from stop marks q
         probe_past e q f = record { way = λ h. on h (one h); room = x.room; ahead = beyond q f }
           where
             on : (h : Seek other words from stop) → Pair other words h.deep r stop (x.way h).left → Way text froms tos n other words from stop h marks q
@@ -191,7 +184,7 @@ module _ (text froms tos heads links : List ℕ) (n : ℕ) (other words : List �
   pub chain_start : Starting text froms tos heads links n
   chain_start = w.starting
 
-  pub chain_probe : (heads' links' : List ℕ) (v : Walk) → Linked text froms tos heads' links' n v → v ≡ Past → length links' ≡ length links
+  pub chain_probe : (heads' links' : List ℕ) (v : Result Bool TooLong) → Linked text froms tos heads' links' n v → v ≡ Ok false → length links' ≡ length links
       → Probe text froms tos heads' links' n other words from stop marks false
   chain_probe heads' links' v t e f =
       record {

@@ -17,60 +17,56 @@ mod windows;
 
 use language::{DEEPEST, bytes_lent, rows_lent};
 use objects::object;
-use overlay::Gave;
+use overlay::{Filled, Gave, OverlayRefusal};
 use sound::{sound, word};
 
-// The row and the text byte of the targets that come next.
+// A table and the texts of its rows.
+// Stays (point 5): the targets and a spot in them go as three parameters. A struct that holds the two `&mut` slices would need a clause in every contract that it still holds the same ones.
 #[derive(Clone, Copy)]
+pub struct Table<'a> {
+    pub rows: &'a [u32],
+    pub text: &'a [u8],
+}
+
+// The row and the text byte of the targets that come next.
+#[derive(Clone, Copy, PartialEq, Eq, Debug)]
 pub struct Spot {
     pub row: usize,
     pub text: usize,
 }
 
 // What comes next behind the upper's new pairs, and how many they are.
-#[derive(Clone, Copy)]
+#[derive(Clone, Copy, PartialEq, Eq, Debug)]
 pub struct Grown {
-    pub row: usize,
-    pub text: usize,
+    pub at: Spot,
     pub count: usize,
 }
 
-// What laying gives: what comes next, or a clash.
-#[derive(Clone, Copy)]
-pub enum Lay {
-    Done(Spot),
-    Clash,
-}
+// An object and another value for one key.
+#[derive(Clone, Copy, PartialEq, Eq, Debug)]
+pub struct Clash;
+
+// What comes next, or a clash.
+pub type Lay = Result<Spot, Clash>;
 
 // Whether a table is sound and its root an object.
-fn is_object(table: &[u32], rows: usize, text: &[u8]) -> bool
-    ensures { Tells (ObjectIn table.now rows text.now) result }
+fn is_object(table: &Table, rows: usize) -> bool
+    ensures { Tells (ObjectIn table.now.rows.now rows table.now.text.now) result }
 {
-    if sound(&*table, rows, &*text) {
-        return word(&*table, 0, 0) == 9;
-    }
-    false
+    sound(table.rows, rows, table.text) && word(table.rows, 0, 0) == 9
 }
 
 // The whole walk, into these targets.
-fn walk(
-    lower: &[u32],
-    lower_text: &[u8],
-    upper: &[u32],
-    upper_text: &[u8],
-    rows: &mut [u32],
-    room: &mut [u8],
-) -> Lay
-    requires { Roots lower.now lower_text.now upper.now upper_text.now }
-    ensures { (h : Roots lower.now lower_text.now upper.now upper_text.now) → Lays (unspan h.under) (unspan h.above) 0 origin rows.old rows.new room.old room.new result }
+// Stays (point 5), as `count` and `answer` do: `Roots` is of both tables. A type with it as its fact would be made once, in `overlay`, and taken apart here, since the walk below moves on to other rows.
+fn walk(lower: &Table, upper: &Table, rows: &mut [u32], room: &mut [u8]) -> Lay
+    requires { Roots lower.now.rows.now lower.now.text.now upper.now.rows.now upper.now.text.now }
+    ensures { (h : Roots lower.now.rows.now lower.now.text.now upper.now.rows.now upper.now.text.now) → Lays (unspan h.under) (unspan h.above) 0 origin rows.old rows.new room.old room.new result }
 {
     let mut marks = [0u32; 6656];
     object(
-        &*lower,
-        &*lower_text,
+        lower,
         0,
-        &*upper,
-        &*upper_text,
+        upper,
         0,
         0,
         rows,
@@ -82,47 +78,32 @@ fn walk(
 }
 
 // The same into targets of next to nothing: what is needed, or a clash.
-fn count(lower: &[u32], lower_text: &[u8], upper: &[u32], upper_text: &[u8]) -> Lay
-    requires { Roots lower.now lower_text.now upper.now upper_text.now }
-    ensures { (h : Roots lower.now lower_text.now upper.now upper_text.now) → Counts (unspan h.under) (unspan h.above) result }
+fn count(lower: &Table, upper: &Table) -> Lay
+    requires { Roots lower.now.rows.now lower.now.text.now upper.now.rows.now upper.now.text.now }
+    ensures { (h : Roots lower.now.rows.now lower.now.text.now upper.now.rows.now upper.now.text.now) → Counts (unspan h.under) (unspan h.above) result }
 {
-    let mut rows = [0u32; 1];
-    let mut room = [0u8; 1];
-    walk(
-        &*lower,
-        &*lower_text,
-        &*upper,
-        &*upper_text,
-        &mut rows,
-        &mut room,
-    )
+    walk(lower, upper, &mut [0; 1], &mut [0; 1])
 }
 
 // The answer for two sound tables whose roots are objects.
-fn answer(
-    lower: &[u32],
-    lower_text: &[u8],
-    upper: &[u32],
-    upper_text: &[u8],
-    table: &mut [u32],
-    text: &mut [u8],
-) -> Gave
-    requires { Roots lower.now lower_text.now upper.now upper_text.now }
-    ensures { (h : Roots lower.now lower_text.now upper.now upper_text.now) → Given table.old text.old (over.overlay h.under h.above) (gave_number result) (gave_first result) (gave_second result) table.new text.new }
+fn answer(lower: &Table, upper: &Table, table: &mut [u32], text: &mut [u8]) -> Gave
+    requires { Roots lower.now.rows.now lower.now.text.now upper.now.rows.now upper.now.text.now }
+    ensures { (h : Roots lower.now.rows.now lower.now.text.now upper.now.rows.now upper.now.text.now) → Given table.old text.old (over.overlay h.under h.above) (gave_number result) (gave_first result) (gave_second result) table.new text.new }
 {
-    match count(&*lower, &*lower_text, &*upper, &*upper_text) {
-        Lay::Clash => Gave::Clash,
-        Lay::Done(need) => {
-            if rows_lent(&*table) < need.row {
-                return Gave::TooFew(need.row);
-            }
-            if bytes_lent(&*text) < need.text {
-                return Gave::TooShort(need.text);
-            }
-            walk(&*lower, &*lower_text, &*upper, &*upper_text, table, text);
-            Gave::Done(need.row, need.text)
-        }
+    let Ok(need) = count(lower, upper) else {
+        return Err(OverlayRefusal::Clash);
+    };
+    if rows_lent(table) < need.row {
+        return Err(OverlayRefusal::TooFew(need.row));
     }
+    if bytes_lent(text) < need.text {
+        return Err(OverlayRefusal::TooShort(need.text));
+    }
+    let _ = walk(lower, upper, table, text);
+    Ok(Filled {
+        rows: need.row,
+        bytes: need.text,
+    })
 }
 
 // Lays the upper over the lower into the rooms lent; a refusal leaves them as they came.
@@ -138,11 +119,16 @@ pub fn overlay(
 ) -> Gave
     ensures { Overlaid lower.now lower_rows lower_text.now upper.now upper_rows upper_text.now table.old text.old (gave_number result) (gave_first result) (gave_second result) table.new text.new }
 {
-    if is_object(&*lower, lower_rows, &*lower_text) {
-        if is_object(&*upper, upper_rows, &*upper_text) {
-            return answer(&*lower, &*lower_text, &*upper, &*upper_text, table, text);
-        }
-        return Gave::BadRow;
+    let under = Table {
+        rows: lower,
+        text: lower_text,
+    };
+    let above = Table {
+        rows: upper,
+        text: upper_text,
+    };
+    if is_object(&under, lower_rows) && is_object(&above, upper_rows) {
+        return answer(&under, &above, table, text);
     }
-    Gave::BadRow
+    Err(OverlayRefusal::BadRow)
 }

@@ -1,5 +1,5 @@
 -- LINE AND COLUMN LEAD BACK: two places of equal line and column, at each of which a character begins, are one place. Assumes nothing.
-use Rattle.std.specs.Prelude.{◌≡◌, List, [], ◌∷◌, ℕ, zero, suc, ◌+◌, ◌-◌, ◌≤◌, ◌<◌, length, get_or}
+use Rattle.std.specs.Prelude.{◌≡◌, List, [], ◌∷◌, ℕ, zero, suc, ◌+◌, ◌≤◌, ◌<◌, length, get_or}
 use Rattle.std.proofs.Common.{sym, arith}
 use Rattle.std.proofs.Math.Decide.{dec_le}
 use Rattle.notation.specs.Class.{only}

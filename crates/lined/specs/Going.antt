@@ -1,6 +1,6 @@
 -- THE WALK BESIDE THE ROWS: some are filled, and it stands at the last of them. Assumes nothing.
 use Rattle.std.specs.Prelude.{◌≡◌, refl, List, length}
-use Rattle.std.proofs.Common.{sym, subst, ◌∙◌, add-one, add-zero, rules}
+use Rattle.std.proofs.Common.{sym, subst, ◌∙◌, add-zero}
 use Rattle.std.proofs.Math.Path.{ap}
 use Prim.Native.Nat.{ℕ, zero, suc, ◌+◌, ◌-◌, ◌*◌, ◌≤◌, ◌<◌}
 use native.Mathlib.Omega.{arith}
@@ -92,7 +92,12 @@ module _ (doc T : List ℕ) (n : ℕ) (k : Ranked doc T n) where
             ahead = λ h. omega (arith, first_kept, k.rising g.r (omega arith));
           }
 
+  pub going_next : (table : List ℕ) (r : ℕ) (w : Walk) → Going doc T n table (width * r) w → r < n → (v : Walk) → At doc (first_byte T (n - 1)) (get_or table (width * r + 1) 0) v
+      → Going doc T n (set (set table (width * r + 7) v.line) (width * r + 8) (get_or table (width * r + 1) 0 + 1 - v.start)) (width * (r + 1)) v
+  going_next table r w g l v a =
+      let p = get_or table (width * r + 1) 0 in
+      let z : width * r + width ≡ width * (r + 1) = omega arith in
+      subst (λ (i : ℕ). Going doc T n (set (set table (width * r + 7) v.line) (width * r + 8) (p + 1 - v.start)) i v) z (going_more table (width * r) w g (omega arith) v a)
+
   pub going_done : (table : List ℕ) (i : ℕ) (w : Walk) → Going doc T n table i w → width * n ≤ i → table ≡ lined (lines_of doc) n T
   going_done table i w g l = g.filled ∙ ap (λ (j : ℕ). lined (lines_of doc) j T) (let z : g.r ≡ n = omega (arith, g.few, g.at) in z)
-
-pub ruleset going = (last_room, last_inside, last_small, going_first, going_long, going_room, going_small, going_stands, going_more, going_done, rules)

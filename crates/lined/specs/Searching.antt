@@ -1,6 +1,6 @@
 -- COUNTING AND SEARCHING bytes of a class, by blocks and one by one. Assumes nothing.
 use Rattle.std.specs.Prelude.{◌≡◌, List, ℕ, ◌+◌, ◌-◌, ◌≤◌, ◌<◌, min, max, length, get_or}
-use Rattle.std.proofs.Common.{sym, ap, subst, ◌∙◌, add-zero, arith, rules}
+use Rattle.std.proofs.Common.{refl, sym, ap, subst, ◌∙◌, add-zero, arith, rules}
 use Rattle.std.proofs.Math.Decide.{dec_le}
 use Rattle.notation.specs.Class.{Class, only}
 use Rattle.lined.specs.Counted.{range, hit, hit_one, hit_below, hit_above, hit_within}
@@ -133,6 +133,9 @@ module _ (c : Class) (doc : List ℕ) where
 
   pub next_end : (e a i : ℕ) → Clear c doc a i → e ≤ i → Next c doc e a i
   next_end e a i x z = record { none = x; found = λ h. absurd (omega arith) }
+
+  pub next_all : (e a i : ℕ) → Clear c doc a i → i ≤ e → e ≤ i → Next c doc e a e
+  next_all e a i x h k = subst (Next c doc e a) (let z : i ≡ e = omega arith in z) (next_end e a i x k)
 
   -- a byte more, and the whole block
   pub first_none : (a : ℕ) → First c doc a 0 64
@@ -279,6 +282,38 @@ module _ (doc : List ℕ) where
   back_more e i h k l m z y g =
       let u : i - 1 + 1 ≡ i = omega arith in
       omega (arith, between_less (only 10) doc (i - 1) e (omega arith) m, ap (λ (j : ℕ). between (only 10) doc j e) u)
+
+  -- by a test for LF alone
+  pub back_at : (a e i : ℕ) → a < i → i ≤ e → between (only 10) doc i e ≡ 0 → get_or doc (i - 1) 0 ≡ 10 → Behind doc a e (i - 1 + 1)
+  back_at a e i h l z y =
+      let u : i ≡ i - 1 + 1 = omega arith in
+      let b = get_or doc (i - 1) 0 in
+      subst (Behind doc a e) u (back_here a e i (hit (only 10) b) h l z refl (omega (arith, hit_within 10 10 b (omega arith) (omega arith))))
+
+  pub back_not : (e i : ℕ) → 1 ≤ i → i ≤ e → e ≤ length doc → between (only 10) doc i e ≡ 0 → (get_or doc (i - 1) 0 ≡ 10 → ⊥) → between (only 10) doc (i - 1) e ≡ 0
+  back_not e i h k l m y = by (dec_le 10 b) (dec_le b 10)
+    where
+      b : ℕ
+      b = get_or doc (i - 1) 0
+
+      past : 0 ≡ hit (only 10) b → between (only 10) doc (i - 1) e ≡ 0
+      past z = back_more e i (hit (only 10) b) h k l m refl (omega arith)
+
+      by : Dec (10 ≤ b) → Dec (b ≤ 10) → between (only 10) doc (i - 1) e ≡ 0
+      by (yes u) (yes v) = absurd (y (omega arith))
+      by (no u) v = past (hit_below 10 10 b (omega arith))
+      by (yes u) (no v) = past (hit_above 10 10 b (omega arith))
+
+  pub back_first : (a e i : ℕ) → a < i → i ≤ a + 1 → a < e → between (only 10) doc i e ≡ 0 → hit (only 10) (get_or doc a 0) ≡ 1 → Behind doc a e (a + 1)
+  back_first a e i h k l z y =
+      let u : i ≡ a + 1 = omega arith in
+      let v : a + 1 - 1 ≡ a = omega arith in
+      record {
+        later = omega arith;
+        before = omega arith;
+        feed = ap (λ (j : ℕ). hit (only 10) (get_or doc j 0)) v ∙ y;
+        clear = subst (λ (j : ℕ). between (only 10) doc j e ≡ 0) u z;
+      }
 
   -- by blocks: found in one, or none there, or further back
   pub block_here : (a e i k : ℕ) → a < i → i ≤ e → e ≤ length doc → 64 ≤ i → hit (only 10) (get_or doc a 0) ≡ 1 → between (only 10) doc i e ≡ 0 → Last (only 10) doc (i - 64) 64 k → 0 < k

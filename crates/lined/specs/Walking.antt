@@ -1,6 +1,7 @@
 -- WHERE THE WALK STANDS between two rows, and how it goes on. Assumes nothing.
-use Rattle.std.specs.Prelude.{◌≡◌, List, ℕ, ◌+◌, ◌-◌, ◌≤◌, ◌<◌, length, get_or}
-use Rattle.std.proofs.Common.{arith}
+use Rattle.std.specs.Prelude.{◌≡◌, List, ℕ, ◌+◌, ◌-◌, ◌≤◌, ◌<◌, max, length, get_or}
+use Rattle.std.proofs.Common.{subst, arith}
+use Rattle.std.proofs.Math.Decide.{dec_le}
 use Rattle.notation.specs.Class.{only}
 use Rattle.language.specs.Answered.{limit}
 use Rattle.language.specs.Lines.{tail, line_of, column_of}
@@ -8,7 +9,7 @@ use Rattle.lined.specs.declared.Walk.{Walk}
 use Rattle.lined.specs.Counted.{hit}
 use Rattle.lined.specs.Between.{between, between_none, between_cut, between_most}
 use Rattle.lined.specs.Places.{Begins, begins_first, begins_behind, line_at, column_at}
-use Rattle.lined.specs.Searching.{Clear, Next, Behind, clear_later}
+use Rattle.lined.specs.Searching.{Clear, Next, Behind, clear_first, clear_later}
 
 -- the walk, on its way to p, with e the place of the last row: the line begins at `begin`, and the tails in it are counted up to `from`
 pub record Stands (doc : List ℕ) (e p : ℕ) (w : Walk) : Type 0 where
@@ -129,6 +130,18 @@ module _ (doc : List ℕ) (e : ℕ) where
           → Stands doc e p (record { line = w.line + n; start = b; feed = f; tail = w.tail }) × (p ≤ f)
       stands_under n b f q h x g =
           stands_down n b f w.tail q h x (clear_later tail doc s.from b w.tail s.tails (omega (arith, s.in_line, h.later)) g)
+
+      -- with the later of that tail and the line's begin
+      pub stands_below : (n b f t : ℕ) → n ≡ between (only 10) doc w.feed p → Behind doc w.feed p b → Next (only 10) doc e p f → t ≡ max w.tail b
+          → Stands doc e p (record { line = w.line + n; start = b; feed = f; tail = t }) × (p ≤ f)
+      stands_below n b f t q h x y = by (dec_le b w.tail)
+        where
+          Goes : ℕ → Type 0
+          Goes k = Stands doc e p (record { line = w.line + n; start = b; feed = f; tail = k }) × (p ≤ f)
+
+          by : Dec (b ≤ w.tail) → Goes t
+          by (yes g) = let z : w.tail ≡ t = omega arith in subst Goes z (stands_under n b f q h x g)
+          by (no g) = let z : b ≡ t = omega arith in subst Goes z (stands_down n b f b q h x (clear_first tail doc b (omega (arith, h.before, s.inside))))
 
     -- in the same line
     module _ (l : p ≤ w.feed) where

@@ -1,7 +1,7 @@
 // Lines and columns, told in one walk over the document beside its rows. Where neither an LF nor a tail byte of a character lies before the next row, that row costs two tests.
 #![tactic(auto)]
 
-ghost use Rattle.std.specs.Prelude.{◌≡◌, ◌+◌, ◌≤◌, ◌<◌, min, max, length, get_or};
+ghost use Rattle.std.specs.Prelude.{◌≡◌, ◌+◌, ◌≤◌, ◌<◌, length, get_or};
 ghost use Rattle.language.specs.Answered.{limit};
 ghost use Rattle.language.specs.Lines.{lines_of};
 ghost use Rattle.lined.specs.Counted.{range, hit};
@@ -21,125 +21,99 @@ struct Walk {
     tail: usize,
 }
 
-// 1 for a byte from lo to hi, and 0 for any other.
-fn hit(b: u8, lo: u8, hi: u8) -> u8
-    ensures { result ≡ hit (range lo hi) b }
+// 1 for a byte from LO to HI, and 0 for any other.
+// Stays (point 1): a count, which is summed, and 0 is one like another.
+fn hit<const LO: u8, const HI: u8>(b: u8) -> u8
+    ensures { result ≡ hit (range LO HI) b }
 {
-    if b < lo {
-        return 0;
-    }
-    if hi < b {
-        return 0;
-    }
-    1
+    if LO <= b && b <= HI { 1 } else { 0 }
 }
 
-// The less of two.
-fn less(a: u8, b: u8) -> u8
-    ensures { result ≡ min a b }
-{
-    if a < b { a } else { b }
-}
-
-// The more of two.
-fn more(a: u8, b: u8) -> u8
-    ensures { result ≡ max a b }
-{
-    if a < b { b } else { a }
-}
-
-// How many of at most 64 bytes are from lo to hi. The loop has no exit, so that it becomes vector code.
-fn few(doc: &[u8], a: usize, n: usize, lo: u8, hi: u8) -> u8
+// How many of at most 64 bytes are from LO to HI. The loop has no exit, so that it becomes vector code.
+// Stays (point 6): no plainer. The contract counts in the document, from one place up to another (`between`), and so does the caller.
+fn few<const LO: u8, const HI: u8>(doc: &[u8], a: usize, n: usize) -> u8
     requires { (a + n ≤ length doc.now) × (n ≤ 64) }
-    ensures { result ≡ between (range lo hi) doc.now a (a + n) }
+    ensures { result ≡ between (range LO HI) doc.now a (a + n) }
 {
     let mut m = 0;
-    let mut i = 0;
-    while i < n {
-        m += hit(doc[a + i], lo, hi);
-        i += 1;
+    for i in 0..n {
+        m += hit::<LO, HI>(doc[a + i]);
     }
     m
 }
 
-// How many of the first n of 32 bytes are from lo to hi. All 32 are looked at, so that nothing depends on n but a mask.
-fn some(doc: &[u8], a: usize, n: u8, lo: u8, hi: u8) -> u8
+// How many of the first n of 32 bytes are from LO to HI. All 32 are looked at, so that nothing depends on n but a mask.
+fn some<const LO: u8, const HI: u8>(doc: &[u8], a: usize, n: u8) -> u8
     requires { (a + 32 ≤ length doc.now) × (n ≤ 32) }
-    ensures { result ≡ between (range lo hi) doc.now a (a + n) }
+    ensures { result ≡ between (range LO HI) doc.now a (a + n) }
 {
     let mut m = 0;
-    let mut i = 0;
-    while i < 32 {
-        m += less(hit(doc[a + i], lo, hi), more(n, i as u8) - i as u8);
-        i += 1;
+    for i in 0..32 {
+        m += hit::<LO, HI>(doc[a + i]).min(n.max(i as u8) - i as u8);
     }
     m
 }
 
-// How many of the bytes from a up to e are from lo to hi.
-fn count(doc: &[u8], a: usize, e: usize, lo: u8, hi: u8) -> u32
+// How many of the bytes from a up to e are from LO to HI. It is put into no caller: those stay small.
+#[inline(never)]
+fn count<const LO: u8, const HI: u8>(doc: &[u8], a: usize, e: usize) -> u32
     requires { (a ≤ e) × (e ≤ length doc.now) × (length doc.now ≤ limit) }
-    ensures { result ≡ between (range lo hi) doc.now a e }
+    ensures { result ≡ between (range LO HI) doc.now a e }
 {
     let mut n = 0;
     let mut i = a;
+    // Stays (point 3): no plainer. A step is a block of 64 bytes, a number that `few` has to see so that it becomes vector code, and the rest comes after the loop.
     while 64 < e - i {
-        n += few(&*doc, i, 64, lo, hi) as u32;
+        n += few::<LO, HI>(doc, i, 64) as u32;
         i += 64;
     }
-    n + few(&*doc, i, e - i, lo, hi) as u32
+    n + few::<LO, HI>(doc, i, e - i) as u32
 }
 
-// i for a byte from lo to hi, and `other` for any other.
-fn spot(b: u8, i: u8, other: u8, lo: u8, hi: u8) -> u8
-    ensures { Spot (range lo hi) b i other result }
+// i for a byte from LO to HI, and `other` for any other.
+fn spot<const LO: u8, const HI: u8>(b: u8, i: u8, other: u8) -> u8
+    ensures { Spot (range LO HI) b i other result }
 {
-    if hit(b, lo, hi) == 0 {
-        return other;
-    }
-    i
+    if hit::<LO, HI>(b) == 0 { other } else { i }
 }
 
-// Which of 64 bytes is the first from lo to hi, or 64. The loop has no exit, so that it becomes vector code.
-fn first(doc: &[u8], a: usize, lo: u8, hi: u8) -> u8
+// Which of 64 bytes is the first from LO to HI, or 64. The loop has no exit, so that it becomes vector code.
+fn first<const LO: u8, const HI: u8>(doc: &[u8], a: usize) -> u8
     requires { a + 64 ≤ length doc.now }
-    ensures { First (range lo hi) doc.now a 64 result }
+    ensures { First (range LO HI) doc.now a 64 result }
 {
-    let mut m = 64;
-    let mut i = 0;
-    while i < 64 {
-        m = less(spot(doc[a + i], i as u8, 64, lo, hi), m);
-        i += 1;
+    let mut m = 64u8;
+    for i in 0..64 {
+        m = spot::<LO, HI>(doc[a + i], i as u8, 64).min(m);
     }
     m
 }
 
-// Where the next byte from lo to hi stands, or `end`, byte by byte.
-fn rest(doc: &[u8], at: usize, end: usize, lo: u8, hi: u8) -> usize
-    requires { (at ≤ length doc.now) × (end ≤ length doc.now) }
-    ensures { Next (range lo hi) doc.now end at result }
+// Where the next byte from LO to HI stands, or `end`, byte by byte.
+fn rest<const LO: u8, const HI: u8>(doc: &[u8], at: usize, end: usize) -> usize
+    requires { (at ≤ end) × (end ≤ length doc.now) }
+    ensures { Next (range LO HI) doc.now end at result }
 {
-    let mut a = at;
-    while a < end {
-        if 0 < hit(doc[a], lo, hi) {
+    for a in at..end {
+        if hit::<LO, HI>(doc[a]) == 1 {
             return a;
         }
-        a += 1;
     }
-    a
+    end
 }
 
 // The same by blocks of 64 bytes, or a place behind `end`.
-fn next(doc: &[u8], at: usize, end: usize, lo: u8, hi: u8) -> usize
+fn next<const LO: u8, const HI: u8>(doc: &[u8], at: usize, end: usize) -> usize
     requires { (at ≤ length doc.now) × (end ≤ length doc.now) }
-    ensures { Next (range lo hi) doc.now end at result }
+    ensures { Next (range LO HI) doc.now end at result }
 {
     let mut a = at;
+    // Stays (point 3): no plainer. A step is a block of 64 bytes, and the last block may go beyond `end`.
     while a < end {
         if doc.len() - a < 64 {
-            return rest(&*doc, a, end, lo, hi);
+            return rest::<LO, HI>(doc, a, end);
         }
-        let k = first(&*doc, a, lo, hi);
+        let k = first::<LO, HI>(doc, a);
         if k < 64 {
             return a + k as usize;
         }
@@ -153,7 +127,7 @@ fn key(b: u8, i: u8) -> u8
     requires { i ≤ 63 }
     ensures { b ≡ 10 → result ≡ i }
 {
-    less(b - less(b, 10), 96) * 2 + i
+    (b - b.min(10)).min(96) * 2 + i
 }
 
 // No LF stands before the least key of 32 bytes.
@@ -161,11 +135,9 @@ fn near(doc: &[u8], a: usize) -> u8
     requires { a + 32 ≤ length doc.now }
     ensures { Near doc.now a 32 result }
 {
-    let mut m = 255;
-    let mut i = 0;
-    while i < 32 {
-        m = less(key(doc[a + i], i as u8), m);
-        i += 1;
+    let mut m = 255u8;
+    for i in 0..32 {
+        m = key(doc[a + i], i as u8).min(m);
     }
     m
 }
@@ -178,14 +150,12 @@ fn soon(doc: &[u8], at: usize) -> usize
     if doc.len() - at < 32 {
         return 32;
     }
-    let k = near(&*doc, at) as usize;
-    if 31 < k {
-        return 32;
+    let k = near(doc, at) as usize;
+    if k < 32 && doc[at + k] == b'\n' {
+        k
+    } else {
+        32
     }
-    if hit(doc[at + k], 10, 10) == 0 {
-        return 32;
-    }
-    k
 }
 
 // Where the next LF stands, or a place behind `end`. Mostly it is near.
@@ -193,11 +163,11 @@ fn feed(doc: &[u8], at: usize, end: usize) -> usize
     requires { (at ≤ length doc.now) × (end ≤ length doc.now) }
     ensures { Next (range 10 10) doc.now end at result }
 {
-    let k = soon(&*doc, at);
+    let k = soon(doc, at);
     if k < 32 {
         return at + k;
     }
-    next(&*doc, at, end, 10, 10)
+    next::<b'\n', b'\n'>(doc, at, end)
 }
 
 // The most of the bytes up to `end`.
@@ -205,11 +175,9 @@ fn highest(doc: &[u8], end: usize) -> u8
     requires { end ≤ length doc.now }
     ensures { result < 128 → Clear (range 128 191) doc.now 0 end }
 {
-    let mut m = 0;
-    let mut i = 0;
-    while i < end {
-        m = more(doc[i], m);
-        i += 1;
+    let mut m = 0u8;
+    for i in 0..end {
+        m = doc[i].max(m);
     }
     m
 }
@@ -219,36 +187,32 @@ fn early(doc: &[u8], end: usize) -> usize
     requires { end ≤ length doc.now }
     ensures { Clear (range 128 191) doc.now 0 result }
 {
-    if highest(&*doc, end) < 128 {
-        return end;
-    }
-    0
+    if highest(doc, end) < 128 { end } else { 0 }
 }
 
-// How many of 64 bytes it is to behind the last from lo to hi, or 0. The loop has no exit, so that it becomes vector code.
-fn last(doc: &[u8], a: usize, lo: u8, hi: u8) -> u8
+// How many of 64 bytes it is to behind the last LF, or 0. The loop has no exit, so that it becomes vector code.
+fn last(doc: &[u8], a: usize) -> u8
     requires { a + 64 ≤ length doc.now }
-    ensures { Last (range lo hi) doc.now a 64 result }
+    ensures { Last (range 10 10) doc.now a 64 result }
 {
-    let mut m = 0;
-    let mut i = 0;
-    while i < 64 {
-        m = more(spot(doc[a + i], i as u8 + 1, 0, lo, hi), m);
-        i += 1;
+    let mut m = 0u8;
+    for i in 0..64 {
+        m = spot::<b'\n', b'\n'>(doc[a + i], i as u8 + 1, 0).max(m);
     }
     m
 }
 
-// The place behind the last LF before e; one stands at a. Byte by byte: the loop ends there at the latest.
+// The place behind the last LF before e, byte by byte; one stands at a.
 fn back(doc: &[u8], a: usize, e: usize) -> usize
     requires { (a < e) × (e ≤ length doc.now) × (hit (range 10 10) (get_or doc.now a 0) ≡ 1) }
     ensures { Behind doc.now a e result }
 {
-    let mut i = e;
-    while hit(doc[i - 1], 10, 10) == 0 {
-        i -= 1;
+    for i in (a + 1..e).rev() {
+        if doc[i] == b'\n' {
+            return i + 1;
+        }
     }
-    i
+    a + 1
 }
 
 // The same by blocks of 64 bytes, where the LF that is known is not near.
@@ -256,49 +220,19 @@ fn behind(doc: &[u8], a: usize, e: usize) -> usize
     requires { (a < e) × (e ≤ length doc.now) × (hit (range 10 10) (get_or doc.now a 0) ≡ 1) }
     ensures { Behind doc.now a e result }
 {
-    if e - a == 1 {
-        return e;
-    }
     if e - a <= 17 {
-        return back(&*doc, a, e);
+        return back(doc, a, e);
     }
     let mut i = e;
+    // Stays (point 3): no plainer. A step is a block of 64 bytes, which may begin before a.
     while 64 <= i {
-        let k = last(&*doc, i - 64, 10, 10);
+        let k = last(doc, i - 64);
         if 0 < k {
             return i - 64 + k as usize;
         }
         i -= 64;
     }
-    back(&*doc, a, i)
-}
-
-// How many LFs stand from a up to e. It calls itself for a long way, so that it is put into no caller: those stay small.
-fn many(doc: &[u8], a: usize, e: usize) -> u32
-    requires { (a ≤ e) × (e ≤ length doc.now) × (length doc.now ≤ limit) }
-    ensures { result ≡ between (range 10 10) doc.now a e }
-{
-    let n = e - a;
-    if n <= 4096 {
-        return count(&*doc, a, e, 10, 10);
-    }
-    let m = a + n / 2;
-    let early = many(&*doc, a, m);
-    early + many(&*doc, m, e)
-}
-
-// The same of tail bytes.
-fn many_tails(doc: &[u8], a: usize, e: usize) -> u32
-    requires { (a ≤ e) × (e ≤ length doc.now) × (length doc.now ≤ limit) }
-    ensures { result ≡ between (range 128 191) doc.now a e }
-{
-    let n = e - a;
-    if n <= 4096 {
-        return count(&*doc, a, e, 128, 191);
-    }
-    let m = a + n / 2;
-    let early = many_tails(&*doc, a, m);
-    early + many_tails(&*doc, m, e)
+    back(doc, a, i)
 }
 
 // How many tail bytes stand from a up to e. Where rows follow close on one another they are counted at one go.
@@ -306,13 +240,10 @@ fn tails(doc: &[u8], a: usize, e: usize) -> u32
     requires { (a ≤ e) × (e ≤ length doc.now) × (length doc.now ≤ limit) }
     ensures { result ≡ between (range 128 191) doc.now a e }
 {
-    if 32 < e - a {
-        return many_tails(&*doc, a, e);
+    if 32 < e - a || doc.len() - a < 32 {
+        return count::<128, 191>(doc, a, e);
     }
-    if doc.len() - a < 32 {
-        return many_tails(&*doc, a, e);
-    }
-    some(&*doc, a, (e - a) as u8, 128, 191) as u32
+    some::<128, 191>(doc, a, (e - a) as u8) as u32
 }
 
 // How many LFs stand from a up to e; one stands at a, and the last of them before `start`. Mostly it is the same one.
@@ -321,11 +252,13 @@ fn lines(doc: &[u8], a: usize, start: usize, e: usize) -> u32
     ensures { result ≡ between (range 10 10) doc.now a e }
 {
     if start == a + 1 {
-        return 1;
+        1
+    } else {
+        count::<b'\n', b'\n'>(doc, a, e)
     }
-    many(&*doc, a, e)
 }
 
+// Stays (point 5): Stands is a fact of the walk and of the place that it has reached, which is no field of it, so a ghost field could not say it.
 impl Walk {
     // On to p, which is in a later line.
     fn down(self, doc: &[u8], p: usize, end: usize) -> Walk
@@ -333,18 +266,10 @@ impl Walk {
         ensures { Stands doc.now end p result × (p ≤ result.feed) }
     {
         let from = self.feed;
-        let start = behind(&*doc, from, p);
-        let line = self.line + lines(&*doc, from, start, p);
-        let feed = feed(&*doc, p, end);
-        let tail = self.tail;
-        if tail < start {
-            return Walk {
-                line,
-                start,
-                feed,
-                tail: start,
-            };
-        }
+        let start = behind(doc, from, p);
+        let line = self.line + lines(doc, from, start, p);
+        let feed = feed(doc, p, end);
+        let tail = self.tail.max(start);
         Walk {
             line,
             start,
@@ -354,20 +279,20 @@ impl Walk {
     }
 
     // On to p, which is in the same line. Where tails were passed the next one is near, and is not looked for. The walk is made anew, so that it stays in registers.
+    // All fields are written, since with `self` and `..self` the reader of nested values takes 1.6 instead of 0.8 percent more instructions.
     fn along(self, doc: &[u8], p: usize, end: usize) -> Walk
         requires { Stands doc.now end p self × (p ≤ self.feed) }
         ensures { At doc.now end p result }
     {
-        let from = self.tail;
-        if p <= from {
+        if p <= self.tail {
             return Walk {
                 line: self.line,
                 start: self.start,
                 feed: self.feed,
-                tail: from,
+                tail: self.tail,
             };
         }
-        let more = tails(&*doc, from, p);
+        let more = tails(doc, self.tail, p);
         let start = self.start + more as usize;
         if 0 < more {
             return Walk {
@@ -377,7 +302,7 @@ impl Walk {
                 tail: p,
             };
         }
-        let tail = next(&*doc, p, end, 128, 191);
+        let tail = next::<128, 191>(doc, p, end);
         Walk {
             line: self.line,
             start,
@@ -392,14 +317,15 @@ impl Walk {
         ensures { At doc.now end p result }
     {
         if self.feed < p {
-            let w = self.down(&*doc, p, end);
-            return w.along(&*doc, p, end);
+            let w = self.down(doc, p, end);
+            return w.along(doc, p, end);
         }
-        self.along(&*doc, p, end)
+        self.along(doc, p, end)
     }
 }
 
 // The line and the column of each of the first n rows, stored in its last two words. Nothing is looked for behind the last one's first byte.
+// Stays (point 6): a table is lent through the C interface with its count of rows beside it, and may be longer.
 pub fn line_up(doc: &[u8], table: &mut [u32], n: usize)
     requires { Ranked doc.now table.old n }
     ensures { table.new ≡ lined (lines_of doc.now) n table.old }
@@ -411,15 +337,14 @@ pub fn line_up(doc: &[u8], table: &mut [u32], n: usize)
     let mut w = Walk {
         line: 1,
         start: 0,
-        feed: feed(&*doc, 0, end),
-        tail: early(&*doc, end),
+        feed: feed(doc, 0, end),
+        tail: early(doc, end),
     };
-    let mut i = 0;
-    while i < WIDTH * n {
+    for r in 0..n {
+        let i = WIDTH * r;
         let p = table[i + 1] as usize;
-        w = w.reach(&*doc, p, end);
+        w = w.reach(doc, p, end);
         table[i + 7] = w.line;
         table[i + 8] = (p + 1 - w.start) as u32;
-        i += WIDTH;
     }
 }

@@ -1,5 +1,5 @@
 -- WHAT `load` PROMISES, from what testing tells of the stored bytes (`Told`) and what filling leaves in the rooms (`Filled`). Assumes nothing.
-use Rattle.std.specs.Prelude.{◌≡◌, List, ◌++◌, ℕ, ◌+◌, ◌*◌, ◌/◌, ◌≤◌, ◌<◌}
+use Rattle.std.specs.Prelude.{◌≡◌, List, ◌++◌, ℕ, ◌+◌, ◌*◌, ◌/◌, ◌≤◌, ◌<◌, Option, Some, None}
 use Rattle.std.proofs.Common.{sym, subst, ◌∙◌, append-nil, rules}
 use Rattle.std.proofs.Math.Path.{ap, subst₂}
 use native.Mathlib.Omega.{arith}
@@ -12,6 +12,7 @@ use Rattle.rooms.specs.Forest.{length_rows}
 use Rattle.shaped.specs.Bare.{alike_size}
 use Rattle.stored.specs.Form.{loaded}
 use Rattle.stored.specs.Unspanned.{placed_like}
+use Rattle.stored.specs.declared.Loaded.{Loaded}
 use Rattle.stored.specs.Loaded.{BADFORM, Kept, Loads, bad_form}
 use Rattle.stored.specs.Answering.{Found}
 use Rattle.stored.proofs.AnsweringLaws.{load_rows, load_text, load_done}
@@ -24,10 +25,10 @@ pub record Held (stored : List ℕ) (n b : ℕ) : Type 0 where
   pub bytes : length (text_of tree) ≡ b
   pub few : length stored ≤ lent
 
--- WHAT TESTING THE WHOLE TELLS: no rows if the bytes are no stored form, else the rows and the text bytes of the tree that they hold
-pub record Told (stored : List ℕ) (n b : ℕ) : Type 0 where
-  pub bad : n ≡ 0 → (t : Tree) → Kept stored t → ⊥
-  pub good : (n ≡ 0 → ⊥) → Held stored n b
+-- WHAT TESTING THE WHOLE TELLS: nothing if the bytes are no stored form, else the rows and the text bytes of the tree that they hold
+pub data Told (stored : List ℕ) : Option Loaded → Type 0 where
+  untold : ((t : Tree) → Kept stored t → ⊥) → Told stored None
+  told : {d : Loaded} → Held stored d.rows.0 d.bytes → Told stored (Some d)
 
 -- ASKED of filling: the bytes hold a tree, whose text has room in w bytes
 pub record Asked (stored : List ℕ) (w : ℕ) : Type 0 where
@@ -44,13 +45,25 @@ pub record Filled (t : Tree) (table table' text text' : List ℕ) : Type 0 where
 loaded_size : (t : Tree) → size (loaded t) ≡ size t
 loaded_size t = alike_size (loaded t) t (placed_like (λ i. i) t)
 
-module _ (stored : List ℕ) (n b : ℕ) (w : Told stored n b) where
-  pub told_bad : (table text : List ℕ) → n ≡ 0 → Loads stored table text BADFORM 0 0 table text
-  told_bad table text e = bad_form (w.bad e)
+module _ (stored : List ℕ) where
+  bad_told : Told stored None → (t : Tree) → Kept stored t → ⊥
+  bad_told (untold f) = f
 
-  module _ (h : n ≡ 0 → ⊥) where
+  good_told : {d : Loaded} → Told stored (Some d) → Held stored d.rows.0 d.bytes
+  good_told (told h) = h
+
+  pub told_bad : (table text : List ℕ) → Told stored None → Loads stored table text BADFORM 0 0 table text
+  told_bad table text w = bad_form (bad_told w)
+
+  module _ (d : Loaded) (w : Told stored (Some d)) where
+    abbrev n : ℕ
+    n = d.rows.0
+
+    abbrev b : ℕ
+    b = d.bytes
+
     held : Held stored n b
-    held = w.good h
+    held = good_told w
 
     -- the text is asked for where the rooms lent are counted
     asked : (text : List ℕ) → length (text_of held.tree) ≤ length text → Asked stored (length text)

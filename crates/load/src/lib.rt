@@ -8,20 +8,12 @@ ghost use Rattle.load.specs.Loading.{Told, Asked, Filled};
 ghost use Rattle.stored.specs.Loaded.{loading_number, loading_value, loading_second, Loads};
 
 use language::{DEEPEST, LENT, Row, bytes_lent, rows_lent};
-use stored::{Loading, WIDEST};
-use uncut::{Tested, fill, value};
-use views::LEVELS;
-use wide::Walked;
+use stored::{LoadRefusal, Loaded, Loading, WIDEST};
+use uncut::{fill, value};
+use views::{LEVELS, View};
 
 // A field with the widest content: no longer file has one part only.
 const LONGEST: usize = WIDEST + 3;
-
-// The rows and the text bytes that the stored bytes hold, no rows if they are no stored form.
-#[derive(Clone, Copy)]
-pub struct Held {
-    rows: usize,
-    bytes: usize,
-}
 
 // The text bytes of fields without parts: each row has a head of three bytes, all others are text.
 fn texts(end: usize, rows: usize) -> usize
@@ -31,53 +23,56 @@ fn texts(end: usize, rows: usize) -> usize
     end - 3 * rows
 }
 
-// Of stored bytes that one field holds.
-fn held_short(stored: &[u8]) -> Held
+// The rows and the text bytes of stored bytes that one field holds, or nothing if they are no stored form.
+#[tactic(auto, using(crate::specs::Testing::telling))]
+fn held_short(stored: &[u8]) -> Option<Loaded>
     requires { length stored.now ≤ longest }
-    ensures { Told stored.now result.rows result.bytes }
+    ensures { Told stored.now result }
 {
-    match value(&*stored, 0, stored.len(), DEEPEST) {
-        Tested::Bad => Held { rows: 0, bytes: 0 },
-        Tested::Good(end, rows) => {
-            if end < stored.len() {
-                return Held { rows: 0, bytes: 0 };
-            }
-            Held {
-                rows,
-                bytes: texts(end, rows),
-            }
-        }
+    let t = value(stored, 0, stored.len(), DEEPEST)?;
+    if t.to < stored.len() {
+        return None;
     }
+    Some(Loaded {
+        rows: Row(t.rows),
+        bytes: texts(t.to, t.rows),
+    })
 }
 
 // Of more.
-fn held_long(stored: &[u8]) -> Held
+#[tactic(auto, using(crate::specs::Testing::telling))]
+fn held_long(stored: &[u8]) -> Option<Loaded>
     requires { length stored.now ≤ lent }
-    ensures { Told stored.now result.rows result.bytes }
+    ensures { Told stored.now result }
 {
     let starts = [0u32; LEVELS];
-    match cutvalues::value(&*stored, &starts, 0, 0, stored.len(), DEEPEST) {
-        Walked::Bad => Held { rows: 0, bytes: 0 },
-        Walked::Good(after, rows, bytes) => {
-            if after < stored.len() {
-                return Held { rows: 0, bytes: 0 };
-            }
-            Held { rows, bytes }
-        }
+    let v = View {
+        stored,
+        starts: &starts,
+        d: 0,
+        n: stored.len(),
+    };
+    let w = cutvalues::value(v, 0, DEEPEST)?;
+    if w.to < stored.len() {
+        return None;
     }
+    Some(Loaded {
+        rows: Row(w.rows),
+        bytes: w.bytes,
+    })
 }
 
-// The rows and the text bytes, whatever the bytes are.
-fn counted(stored: &[u8]) -> Held
-    ensures { Told stored.now result.rows result.bytes }
+// Of any bytes.
+fn counted(stored: &[u8]) -> Option<Loaded>
+    ensures { Told stored.now result }
 {
     if stored.len() <= LONGEST {
-        return held_short(&*stored);
+        return held_short(stored);
     }
     if LENT < stored.len() {
-        return Held { rows: 0, bytes: 0 };
+        return None;
     }
-    held_long(&*stored)
+    held_long(stored)
 }
 
 // The rooms are filled from the tree that the stored bytes hold.
@@ -86,9 +81,9 @@ fn filled(stored: &[u8], table: &mut [u32], text: &mut [u8])
     ensures { (k : Asked stored.now (length text.old)) → Filled k.tree table.old table.new text.old text.new }
 {
     if stored.len() <= LONGEST {
-        fill(&*stored, table, text);
+        fill(stored, table, text);
     } else {
-        cutfill::fill(&*stored, table, text);
+        cutfill::fill(stored, table, text);
     }
 }
 
@@ -96,16 +91,15 @@ fn filled(stored: &[u8], table: &mut [u32], text: &mut [u8])
 pub fn load(stored: &[u8], table: &mut [u32], text: &mut [u8]) -> Loading
     ensures { Loads stored.now table.old text.old (loading_number result) (loading_value result) (loading_second result) table.new text.new }
 {
-    let h = counted(&*stored);
-    if h.rows == 0 {
-        return Loading::BadForm;
+    let Some(held) = counted(stored) else {
+        return Err(LoadRefusal::BadForm);
+    };
+    if rows_lent(table) < held.rows.0 {
+        return Err(LoadRefusal::Rows(held.rows));
     }
-    if rows_lent(&*table) < h.rows {
-        return Loading::Rows(Row(h.rows));
+    if bytes_lent(text) < held.bytes {
+        return Err(LoadRefusal::Text(held.bytes));
     }
-    if bytes_lent(&*text) < h.bytes {
-        return Loading::Text(h.bytes);
-    }
-    filled(&*stored, table, text);
-    Loading::Done(Row(h.rows), h.bytes)
+    filled(stored, table, text);
+    Ok(held)
 }

@@ -1,11 +1,9 @@
 -- READERS THAT GIVE NO KEY, and the reader of one: what their answers note. Assumes nothing.
-use Rattle.std.specs.Prelude.{◌≡◌, refl, List, [], ◌∷◌, Bool, true, false, ℕ, ◌≤◌, ◌<◌, drop}
-use Rattle.std.proofs.Common.{sym, ap, subst, ◌∙◌, arith}
+use Rattle.std.specs.Prelude.{◌≡◌, refl, List, [], ◌∷◌, ℕ, ◌≤◌, ◌<◌, drop}
+use Rattle.std.proofs.Common.{ap, subst, ◌∙◌, arith}
 use Rattle.language.specs.Kind.{KEY}
 use Rattle.language.specs.Tree.{Decoded, Tree, leaf, forest}
-use Rattle.exact.specs.Class.{pick}
 use Rattle.exact.specs.Out.{Out, Reader, bind, ok, soft, bad, Tamed, t_ok, Moves, forward, rest_of, Firm}
-use Rattle.exact.specs.Comb.{alt_r}
 use Rattle.exact.specs.Lines.{reached}
 use Rattle.strings.specs.Spans.{spanned_r}
 use Rattle.strings.specs.Keys.{name_r, key_r}
@@ -13,7 +11,7 @@ use Rattle.strings.proofs.KeysLaws.{key_ll}
 use Rattle.notes.specs.Flat.{flat, flats, flats_one}
 use Rattle.notes.specs.Handed.{Handed, took_none, took_more}
 use Rattle.notes.specs.Lie.{KeyAt, keys_none, keys_more}
-use Rattle.notes.specs.Notes.{Gives, gives_ok, gives_none, gives_reached, gives_bind, Kept, kept_none, Notes, one, notes_known}
+use Rattle.notes.specs.Notes.{Gives, gives_none, Kept, kept_none, Notes, one, notes_known}
 pub use Rattle.named.specs.Every.{Every, Always, every_ok, every_alt, every_bind, every_with, every_reached}
 
 -- ---- a tree with no key in it

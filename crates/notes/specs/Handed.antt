@@ -1,18 +1,18 @@
 -- WHAT A ROOM HOLDS once a key was handed to it: a small room has noted it; a large one has sieved it, or noted it in its log, if it passes the filter. Assumes nothing.
-use Rattle.std.specs.Prelude.{◌≡◌, List, [], ◌∷◌, ◌++◌, Bool, ℕ, ◌+◌, ◌-◌, ◌*◌, ◌/◌, ◌%◌, ◌^◌, ◌≤◌, ◌<◌, length, get_or, set, take, drop}
+use Rattle.std.specs.Prelude.{◌≡◌, List, [], ◌∷◌, ◌++◌, Bool, ℕ, ◌+◌, ◌-◌, ◌*◌, ◌/◌, ◌%◌, ◌≤◌, ◌<◌, length, get_or, take, drop}
 use Rattle.std.proofs.Math.Path.{refl, sym}
 use Rattle.std.proofs.Common.{ap, subst, ◌∙◌, mod-lt, arith, rules, eq-eqb, ne_eqb, length-take-le, take_at, get_or-append-add, get_or-drop}
 use Rattle.std.proofs.Math.Bool.{true, false}
 use Rattle.std.proofs.Math.Dec.{eqb}
 use Rattle.notation.specs.Class.{pick}
 use Rattle.language.specs.Answered.{limit}
-use Rattle.exact.specs.Tells.{Tells, tells_yes, tells_no}
+use Rattle.exact.specs.Tells.{Tells}
 use Rattle.named.specs.Flat.{Named, named}
 use Rattle.spelt.specs.Texts.{spelled}
 use Rattle.spelt.specs.Reading.{Keyed, keyed_low}
 use Rattle.spelt.specs.Hash.{hash_of, HashOf}
 use Rattle.sieve.specs.Bits.{digit, On}
-use Rattle.sieve.specs.Sieve.{hits, filter, large, class_of, class_low, Mark, mark, Sieved, Framed, Steps}
+use Rattle.sieve.specs.Sieve.{hits, filter, large, class_of, class_low, Mark, mark, Sieved, Steps}
 use Rattle.std.proofs.Math.Seq.{length_front}
 use Rattle.exact.specs.Class.{clash}
 use Rattle.notes.specs.Noted.{noted, length_noted}

@@ -1,8 +1,8 @@
 -- WHAT READERS NOTE: where a reader answers with a value, the keys of its trees are noted, each as it stands in the document. Assumes nothing.
-use Rattle.std.specs.Prelude.{◌≡◌, refl, List, [], ◌∷◌, ◌++◌, ℕ, zero, suc, ◌+◌, ◌≤◌}
-use Rattle.std.proofs.Common.{sym, ap, subst, ◌∙◌, arith}
+use Rattle.std.specs.Prelude.{◌≡◌, List, [], ◌∷◌, ◌++◌, ℕ, ◌+◌, ◌≤◌}
+use Rattle.std.proofs.Common.{sym, subst, arith}
 use Rattle.language.specs.Tree.{Tree, node, Forest, forest, sizes}
-use Rattle.exact.specs.Out.{Out, Reader, raise, bind, fmap, ok, soft, bad, Tamed, t_ok, t_soft, forward}
+use Rattle.exact.specs.Out.{Out, bad}
 use Rattle.exact.specs.Lines.{reached}
 use Rattle.notes.specs.Flat.{Named, flats, flats_append, flats_one, flat_node}
 use Rattle.notes.specs.Handed.{Took, took_none, took_append}

@@ -12,10 +12,10 @@ use Rattle.exact.specs.Class.{pick, and_of, clash, is, only, none, only_no, only
 use Rattle.exact.specs.Place.{peek, run, run_end, run_none, run_more, There, there, byte_there, none_there}
 use Rattle.language.specs.Scalars.{digit}
 use Rattle.characters.specs.declared.Reading.{Reading}
-use Rattle.characters.specs.declared.Skip.{Skip}
-use Rattle.characters.specs.declared.Skip.TheVariants.{End, Bad}
-use Rattle.characters.specs.declared.Took.{Took}
-use Rattle.characters.specs.declared.Took.TheVariants.{Byte, Over}
+use Rattle.characters.specs.Reads.{Skip}
+use Rattle.std.specs.declared.option.Option.TheVariants.{None, Some}
+use Rattle.std.specs.declared.result.Result.TheVariants.{Err, Ok}
+use Rattle.characters.specs.Reads.{Took}
 use Rattle.characters.specs.Reads.{ByteRead, byte_inside, byte_there as byte-taken, byte_next, byte_over}
 use Rattle.characters.specs.Plains.{RunTo}
 use Rattle.numbers.specs.declared.digits.Stretch.{Stretch}
@@ -144,11 +144,11 @@ pub record Going (doc : List ℕ) (at e : ℕ) (dense : Bool) : Type 0 where
 module _ (doc : List ℕ) (at : ℕ) where
   -- A GAP: a byte was taken, and behind a space n is the place behind the digits that follow it
   module _ (t : Took) (h : ByteRead doc at t) where
-    pub gap_over : t ≡ Over → PastGap doc at (Bad at)
+    pub gap_over : t ≡ None → PastGap doc at (Err at)
     gap_over e = no_gap (rw (byte_over doc at t h e) refl)
 
-    module _ (b : ℕ) (d : Reading) (e : t ≡ Byte b d) where
-      pub gap_other : (b ≡ 32 → ⊥) → PastGap doc at (Bad at)
+    module _ (b : ℕ) (d : Reading) (e : t ≡ Some (b, d)) where
+      pub gap_other : (b ≡ 32 → ⊥) → PastGap doc at (Err at)
       gap_other k = no_gap (rw (only_no 32 (peek doc at) (λ z. k (byte-taken doc at t h b d e ∙ z))) refl)
 
       pub gap_inside : d.at ≤ length doc
@@ -157,10 +157,10 @@ module _ (doc : List ℕ) (at : ℕ) where
       gap_is : (y : Bool) → b ≡ 32 → is digit (peek doc d.at) ≡ y → gap_at doc at ≡ y
       gap_is y z k = rw (only_yes 32 (peek doc at) (sym (byte-taken doc at t h b d e) ∙ z), ← byte_next doc at t h b d e) k
 
-      pub gap_ends : (n : ℕ) → b ≡ 32 → RunTo digit doc d.at n → n ≡ d.at → PastGap doc at (Bad at)
+      pub gap_ends : (n : ℕ) → b ≡ 32 → RunTo digit doc d.at n → n ≡ d.at → PastGap doc at (Err at)
       gap_ends n z r k = no_gap (gap_is false z (rw (← k) (ran_stops doc d.at n r.is)))
 
-      pub gap_goes : (n : ℕ) → b ≡ 32 → RunTo digit doc d.at n → (n ≡ d.at → ⊥) → PastGap doc at (End n)
+      pub gap_goes : (n : ℕ) → b ≡ 32 → RunTo digit doc d.at n → (n ≡ d.at → ⊥) → PastGap doc at (Ok n)
       gap_goes n z r k = some_gap n (gap_is true z (ran_digit doc d.at n r.is k)) (rw (byte_next doc at t h b d e) at r)
 
   module _ (e : ℕ) where
@@ -176,10 +176,10 @@ module _ (doc : List ℕ) (at : ℕ) where
           solid = ran_solid doc at e r.is (omega (arith, r.from));
         }
 
-    pub going_more : (d : Bool) (s : Skip) (n : ℕ) → Going doc at e d → PastGap doc e s → s ≡ End n → Going doc at n false
+    pub going_more : (d : Bool) (s : Skip) (n : ℕ) → Going doc at e d → PastGap doc e s → s ≡ Ok n → Going doc at n false
     going_more d s n g x q = go (rw q at x)
       where
-        go : PastGap doc e (End n) → Going doc at n false
+        go : PastGap doc e (Ok n) → Going doc at n false
         go (some_gap _ z r) =
             let k : is digit (peek doc (e + 1)) ≡ true = (and_of (is (only 32) (peek doc e)) (is digit (peek doc (e + 1))) z).1 in
             record {
@@ -192,17 +192,17 @@ module _ (doc : List ℕ) (at : ℕ) where
               solid = ran_solid doc (e + 1) n r.is (ran_some doc (e + 1) n r.is k);
             }
 
-    pub going_less : (s : Skip) (n : ℕ) → PastGap doc e s → s ≡ End n → length doc - n < length doc - e
+    pub going_less : (s : Skip) (n : ℕ) → PastGap doc e s → s ≡ Ok n → length doc - n < length doc - e
     going_less s n x q = go (rw q at x)
       where
-        go : PastGap doc e (End n) → length doc - n < length doc - e
+        go : PastGap doc e (Ok n) → length doc - n < length doc - e
         go (some_gap _ z r) = omega (arith, r.from, r.inside)
 
   module _ (e : Reading) where
-    pub going_done : (d : Bool) (s : Skip) (p : ℕ) → Going doc at e.at d → PastGap doc e.at s → s ≡ Bad p → Grouped true doc at (record { end = e; dense = d })
+    pub going_done : (d : Bool) (s : Skip) (p : ℕ) → Going doc at e.at d → PastGap doc e.at s → s ≡ Err p → Grouped true doc at (record { end = e; dense = d })
     going_done d s p g x q = go p (rw q at x)
       where
-        go : (p : ℕ) → PastGap doc e.at (Bad p) → Grouped true doc at (record { end = e; dense = d })
+        go : (p : ℕ) → PastGap doc e.at (Err p) → Grouped true doc at (record { end = e; dense = d })
         go _ (no_gap z) =
             record { end = sym (rw g.begun (g.from ∙ tail_stop doc e.at g.over z)); ahead = g.ahead; inside = g.inside; dense = g.one_run; solid = λ _. g.solid }
 

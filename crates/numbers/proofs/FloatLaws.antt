@@ -15,8 +15,8 @@ use Rattle.exact.specs.Place.{peek, peek_in, alt_peek, alt_is, alt_not}
 use Rattle.language.specs.Kind.{INTEGER, FLOAT}
 use Rattle.language.specs.Scalars.{digit, signed}
 use Rattle.numbers.specs.declared.digits.Stretch.{Stretch}
-use Rattle.numbers.specs.declared.scanning.Scanned.{Scanned}
-use Rattle.numbers.specs.declared.scanning.Scanned.TheVariants.{Refused}
+use Rattle.numbers.specs.Contract.{Scanned}
+use Rattle.std.specs.declared.result.Result.TheVariants.{Err}
 use Rattle.numbers.specs.Same.{Found, found}
 use Rattle.numbers.specs.Digits.{digits_r}
 use Rattle.numbers.specs.Plain.{exponent_r, fraction_r, dotted_r, after_r, unsigned_r}
@@ -178,7 +178,7 @@ module _ (spaced : Bool) (doc : List ℕ) (at : ℕ) (h : 46 ≡ peek doc at) wh
       (one_at doc at 46 (omega arith) h)
 
   module _ (g : Stretch) (x : Grouped spaced doc (at + 1) g) where
-    pub point_alone : g.end.at ≡ at + 1 → Scans spaced doc at (Refused (at + 1))
+    pub point_alone : g.end.at ≡ at + 1 → Scans spaced doc at (Err (at + 1))
     point_alone n =
         refused (at + 1) point_inside
         (λ m. led_by m ∙ ap (λ o. bind o (λ fs. seq_r (option_r (only 101) (exponent_r spaced)) (float m (46 ∷ fs)))) (group_bad spaced doc (at + 1) g x n))
@@ -203,7 +203,7 @@ module _ (spaced : Bool) (doc : List ℕ) (at : ℕ) (o : Other doc at 46) (g : 
   unfolding unsigned_r
   digits_by m = alt_not doc at 46 (peek doc at) (omega arith) refl (fraction_r spaced m) (seq_r (digits_r spaced) (after_r spaced m)) o.not
 
-  pub digits_none : at ≤ length doc → g.end.at ≡ at → Scans spaced doc at (Refused at)
+  pub digits_none : at ≤ length doc → g.end.at ≡ at → Scans spaced doc at (Err at)
   digits_none i n = refused at i (λ m. digits_by m ∙ ap (λ o. bind o (after_r spaced m)) (group_bad spaced doc at g x n))
 
   module _ (n : g.end.at ≡ at → ⊥) where

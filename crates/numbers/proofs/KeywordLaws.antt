@@ -16,7 +16,7 @@ use Rattle.exact.specs.Place.{common, common_in, word_all, word_part, slice_at}
 use Rattle.rooms.specs.Told.{spot}
 use Rattle.rooms.specs.declared.Cursor.{Cursor}
 use Rattle.rooms.specs.declared.Words.{Words}
-use Rattle.rooms.specs.declared.Far.TheVariants.{Upto, Not}
+use Rattle.std.specs.declared.result.Result.TheVariants.{Err, Ok}
 use Rattle.rooms.specs.Contract.{Ready, Reaches, Small}
 use Rattle.rooms.specs.Laws.{reaching, not_reached, leaf_bare}
 use Rattle.language.specs.Kind.{TRUE, FLOAT}
@@ -61,7 +61,7 @@ module _ (doc : List ℕ) (c : Cursor) (p : ℕ) (word : List ℕ) (n : ℕ) (re
     pub keyword_read : (kind : ℕ) → kind ≤ TRUE → n ≡ length word
         → w ≡ record { kind = kind; first = c.at; after = c.at + n; from = 0; to = 0; parent = p; next = c.row + 1 }
         → R' ≡ sets R (width * c.row) (row_list unlined w.kind w.first w.after w.from w.to w.parent w.next)
-        → Reaches doc c p (keyword_r kind word [] c.at (drop c.at doc)) (Upto (record { at = c.at + n; row = c.row + 1; text = c.text }) 0) R R' T T
+        → Reaches doc c p (keyword_r kind word [] c.at (drop c.at doc)) (Ok (record { at = c.at + n; row = c.row + 1; text = c.text }, 0)) R R' T T
     keyword_read kind l k e r =
         reaching doc c p (keyword_r kind word [] c.at (drop c.at doc)) R R' T T (record { at = c.at + n; row = c.row + 1; text = c.text }) 0
         (leaf_bare doc c p (keyword_r kind word [] c.at (drop c.at doc)) kind (c.at + n) 0 (omega arith) keyword_in R R' T T
@@ -69,13 +69,13 @@ module _ (doc : List ℕ) (c : Cursor) (p : ℕ) (word : List ℕ) (n : ℕ) (re
 
   -- a float's word is its text, which begins at x
   pub float_read : (x : ℕ) → x ≡ spot c.text → (R R' T T' : List ℕ) (m : Cursor) → n ≡ length word → T' ≡ sets T x (slice c.at (c.at + n) doc)
-      → Put R R' c p FLOAT (c.at + n) (x + n) m → Reaches doc c p (keyword_r FLOAT word word c.at (drop c.at doc)) (Upto m 0) R R' T T'
+      → Put R R' c p FLOAT (c.at + n) (x + n) m → Reaches doc c p (keyword_r FLOAT word word c.at (drop c.at doc)) (Ok (m, 0)) R R' T T'
   float_read x e R R' T T' m k t q =
       let z : slice c.at (c.at + n) doc ≡ word = sym (slice_at c.at n doc) ∙ (rw k (common_take word (drop c.at doc) (sym h ∙ k))) in
       text_read doc c ready word (c.at + n) (x + n) (omega arith) keyword_in (omega arith) p FLOAT 0 (keyword_r FLOAT word word c.at (drop c.at doc)) R R' T T' m
       (omega arith) (omega arith) (keyword_ok doc c.at FLOAT word word n h k) q (rw (e, z) at t)
 
-  pub keyword_not : (R T : List ℕ) (kind : ℕ) (text : List ℕ) → (n ≡ length word → ⊥) → Reaches doc c p (keyword_r kind word text c.at (drop c.at doc)) (Not (c.at + n)) R R T T
+  pub keyword_not : (R T : List ℕ) (kind : ℕ) (text : List ℕ) → (n ≡ length word → ⊥) → Reaches doc c p (keyword_r kind word text c.at (drop c.at doc)) (Err (c.at + n)) R R T T
   keyword_not R T kind text k =
       not_reached doc c p (keyword_r kind word text c.at (drop c.at doc)) R R T T (c.at + n) (keyword_bad doc c.at kind word text n h k)
 

@@ -17,17 +17,15 @@ use Rattle.exact.specs.Lines.{reached, bind_reached, raised_ok}
 use Rattle.exact.specs.Place.{peek, alt_not, There, there, none_there}
 use Rattle.exact.specs.Place
 use Rattle.characters.specs.declared.Reading.{Reading}
-use Rattle.characters.specs.declared.Took.{Took}
-use Rattle.characters.specs.declared.Took.TheVariants.{Byte, Over}
-use Rattle.characters.specs.declared.Skip.{Skip}
-use Rattle.characters.specs.declared.Skip.TheVariants.{End, Bad}
+use Rattle.characters.specs.Reads.{Took}
+use Rattle.std.specs.declared.option.Option.TheVariants.{None, Some}
+use Rattle.std.specs.declared.result.Result.TheVariants.{Err, Ok}
+use Rattle.characters.specs.Reads.{Skip}
 use Rattle.characters.specs.Reads.{ByteRead, byte_inside, byte_there, byte_next, Skips}
 use Rattle.characters.specs.Takes.{take_byte, take_next, take_other, take_place}
 use Rattle.rooms.specs.Told.{spot}
 use Rattle.rooms.specs.declared.Cursor.{Cursor}
-use Rattle.rooms.specs.declared.Ans.TheVariants.{Ok, No}
-use Rattle.rooms.specs.declared.Far.{Far}
-use Rattle.rooms.specs.declared.Far.TheVariants.{Upto, Not}
+use Rattle.rooms.specs.Contract.{Far}
 use Rattle.rooms.specs.Contract.{Ready, Answers, Reaches, Small}
 use Rattle.rooms.specs.Laws.{not_reached, reached_taken, reached_refusal}
 use Rattle.rooms.specs.Laws
@@ -35,8 +33,7 @@ use Rattle.language.specs.Kind.{TRUE, INTEGER, FLOAT}
 use Rattle.language.specs.Tree.{unescaped, leaf}
 use Rattle.language.specs.Scalars.{plain, minus}
 use Rattle.numbers.specs.declared.scanning.Numeral.{Numeral}
-use Rattle.numbers.specs.declared.scanning.Scanned.{Scanned}
-use Rattle.numbers.specs.declared.scanning.Scanned.TheVariants.{Number, Refused}
+use Rattle.numbers.specs.Contract.{Scanned}
 use Rattle.numbers.specs.Same.{found}
 use Rattle.numbers.specs.Places.{squeezed, far_at}
 use Rattle.numbers.specs.Texts.{minus_of, number_text}
@@ -48,7 +45,7 @@ use Rattle.numbers.proofs.PutLaws.{text_read}
 use Rattle.numbers.proofs.PlainLaws.{close, plain_by, body_number, body_minus, number_two, via_true, via_false, via_infinity, via_nan, via_null, via_minus}
 
 -- THE FIRST BYTE, taken
-module _ (doc : List ℕ) (at : ℕ) (t : Took) (h : ByteRead doc at t) (b : ℕ) (n : Reading) (e : t ≡ Byte b n) where
+module _ (doc : List ℕ) (at : ℕ) (t : Took) (h : ByteRead doc at t) (b : ℕ) (n : Reading) (e : t ≡ Some (b, n)) where
   pub first_passed : Passed doc at b n.at
   first_passed = record { stands = record { byte = byte_there doc at t h b n e; inside = byte_inside doc at t h b n e }; next = byte_next doc at t h b n e }
 
@@ -69,7 +66,7 @@ module _ (doc : List ℕ) (at b n : ℕ) (q : Passed doc at b n) where
   pub leads_other : 102 ≤ b → (b ≡ 110 → ⊥) → (b ≡ 116 → ⊥) → (b ≡ 102 → ⊥) → (b ≡ 105 → ⊥) → Leads doc at at false
   leads_other l k t f i = let h = q.stands.byte in digits_lead (λ e. k (h ∙ e)) (λ e. t (h ∙ e)) (λ e. f (h ∙ e)) (λ e. i (h ∙ e)) (λ e. omega arith)
 
-pub leads_minus : (doc : List ℕ) (at n : ℕ) (t : Skip) (p : ℕ) → Passed doc at 45 n → Skips doc n (byte_r (is (only 105)) n (drop n doc)) t → t ≡ Bad p → Leads doc at n true
+pub leads_minus : (doc : List ℕ) (at n : ℕ) (t : Skip) (p : ℕ) → Passed doc at 45 n → Skips doc n (byte_r (is (only 105)) n (drop n doc)) t → t ≡ Err p → Leads doc at n true
 leads_minus doc at n t p q h e =
     subst (λ k. Leads doc at k true) (sym q.next) (minus_leads q.stands (subst (λ k. peek doc k ≡ 105 → ⊥) q.next (take_other doc n 105 (omega arith) t h p e)))
 
@@ -91,7 +88,7 @@ leads_read spaced doc at _ _ (digits_lead n t f i m) =
     (body_number spaced doc at (peek doc at) refl n t f i ∙ alt_not doc at 45 (peek doc at) (omega arith) refl (signed_r spaced) (unsigned_r spaced []) m)
 
 -- WHAT WAS SCANNED, with its sign
-scanned_bad : {spaced : Bool} {doc : List ℕ} {d : ℕ} {r : Scanned} (p : ℕ) → Scans spaced doc d r → r ≡ Refused p → (m : List ℕ) → unsigned_r spaced m d (drop d doc) ≡ bad p
+scanned_bad : {spaced : Bool} {doc : List ℕ} {d : ℕ} {r : Scanned} (p : ℕ) → Scans spaced doc d r → r ≡ Err p → (m : List ℕ) → unsigned_r spaced m d (drop d doc) ≡ bad p
 scanned_bad p (refused q i a) k m = let z : q ≡ p = cc in a m ∙ ap bad z
 scanned_bad p (integer e b l i a t o) k m = absurd (let z : ◌≡◌ {A = ℕ} 0 1 = cc in omega arith)
 scanned_bad p (floated e q b l i a t) k m = absurd (let z : ◌≡◌ {A = ℕ} 0 1 = cc in omega arith)
@@ -106,7 +103,7 @@ pub record Known (spaced : Bool) (doc : List ℕ) (d : ℕ) (s : Numeral) : Type
   pub tight : s.dense ≡ true → squeezed (slice d s.end doc) ≡ slice d s.end doc
   pub solid : s.kind.0 ≡ INTEGER → peek doc (s.end - 1) ≡ 32 → ⊥
 
-known : {spaced : Bool} {doc : List ℕ} {d : ℕ} {r : Scanned} (s : Numeral) → Scans spaced doc d r → r ≡ Number s → Known spaced doc d s
+known : {spaced : Bool} {doc : List ℕ} {d : ℕ} {r : Scanned} (s : Numeral) → Scans spaced doc d r → r ≡ Ok s → Known spaced doc d s
 known s (refused p i a) k = absurd (let z : ◌≡◌ {A = ℕ} 0 1 = cc in omega arith)
 known {spaced} {doc} {d} s (integer e b l i a t o) k =
     let z : record { kind = record { 0 = INTEGER }; end = e; last = e; dense = b } ≡ s = cc in
@@ -165,18 +162,18 @@ leads_before : {doc : List ℕ} {at d : ℕ} {neg : Bool} → Leads doc at d neg
 leads_before (minus_leads s n) = omega arith
 leads_before (digits_lead n t f i m) = omega arith
 
-pub number_not : (doc : List ℕ) (c : Cursor) (d : ℕ) (neg spaced : Bool) (r : Scanned) (q p : ℕ) (R T : List ℕ) → Leads doc c.at d neg → Scans spaced doc d r → r ≡ Refused q
-    → Reaches doc c p (plain_r spaced c.at (drop c.at doc)) (Not q) R R T T
+pub number_not : (doc : List ℕ) (c : Cursor) (d : ℕ) (neg spaced : Bool) (r : Scanned) (q p : ℕ) (R T : List ℕ) → Leads doc c.at d neg → Scans spaced doc d r → r ≡ Err q
+    → Reaches doc c p (plain_r spaced c.at (drop c.at doc)) (Err q) R R T T
 number_not doc c d neg spaced r q p R T leads x k =
     not_reached doc c p (plain_r spaced c.at (drop c.at doc)) R R T T q
     (leads_read spaced doc c.at d neg leads ∙ ap (λ o. bind o (close c.at)) (scanned_bad q x k (minus_of neg)))
 
-pub number_found : (doc : List ℕ) (at d : ℕ) (neg spaced : Bool) (r : Scanned) (s : Numeral) → Leads doc at d neg → Scans spaced doc d r → r ≡ Number s → NumberAt doc at d neg spaced s
+pub number_found : (doc : List ℕ) (at d : ℕ) (neg spaced : Bool) (r : Scanned) (s : Numeral) → Leads doc at d neg → Scans spaced doc d r → r ≡ Ok s → NumberAt doc at d neg spaced s
 number_found doc at d neg spaced r s leads x k = record { leads = leads; scanned = rw k at x }
 
 -- at the document's end there is none
-pub plain_over : (doc : List ℕ) (c : Cursor) (spaced : Bool) (t : Took) (p : ℕ) (R T : List ℕ) → ByteRead doc c.at t → t ≡ Over
-    → Reaches doc c p (plain_r spaced c.at (drop c.at doc)) (Not c.at) R R T T
+pub plain_over : (doc : List ℕ) (c : Cursor) (spaced : Bool) (t : Took) (p : ℕ) (R T : List ℕ) → ByteRead doc c.at t → t ≡ None
+    → Reaches doc c p (plain_r spaced c.at (drop c.at doc)) (Err c.at) R R T T
 unfolding ByteRead
 plain_over doc c spaced t p R T h e =
     let l : length doc ≤ c.at = (rw e at h).0 in
@@ -220,7 +217,7 @@ module _ (doc : List ℕ) (c : Cursor) (d : ℕ) (neg spaced : Bool) (s : Numera
           record { first_fits = omega arith; after_fits = omega arith; from_fits = omega arith; to_fits = omega arith; next_fits = omega arith }
 
       pub number_read : (p far : ℕ) (R R' : List ℕ) (n : Cursor) → Put R R' c p s.kind.0 s.end to n → far ≡ far_at spaced doc s.last
-          → Reaches doc c p (plain_r spaced c.at (drop c.at doc)) (Upto n far) R R' T T'
+          → Reaches doc c p (plain_r spaced c.at (drop c.at doc)) (Ok (n, far)) R R' T T'
       number_read p far R R' n w z =
           let y = number_known in
           let at = c.at in
@@ -241,7 +238,7 @@ module _ (doc : List ℕ) (last : ℕ) where
   far_none spaced h = rw h refl
 
   module _ (spaced : Bool) (e : spaced ≡ true) (t : Skip) (h : Skips doc last (byte_r (is (only 32)) last (drop last doc)) t) where
-    pub far_space : (n : ℕ) → t ≡ End n → n ≡ far_at spaced doc last
+    pub far_space : (n : ℕ) → t ≡ Ok n → n ≡ far_at spaced doc last
     unfolding far_at
     far_space n k = rw (e, take_next doc last 32 (omega arith) t h n k) (go (there doc last))
       where
@@ -252,7 +249,7 @@ module _ (doc : List ℕ) (last : ℕ) where
         go (Place.byte_there q) = rw (q, ← space) refl
         go (none_there q z) = absurd (omega (arith, space))
 
-    pub far_here : (p : ℕ) → t ≡ Bad p → p ≡ far_at spaced doc last
+    pub far_here : (p : ℕ) → t ≡ Err p → p ≡ far_at spaced doc last
     unfolding far_at
     far_here p k = rw (e, take_place doc last 32 (omega arith) t h p k) (go (there doc last))
       where
@@ -269,14 +266,14 @@ firm_zero (suc p) v a t f h = absurd (never (subst Firm h f))
     never x = elim x [ ]
 
 module _ (doc : List ℕ) (c : Cursor) (p : ℕ) (R R' T T' : List ℕ) (f : Far) (x : Reaches doc c p (plain_r false c.at (drop c.at doc)) f R R' T T') where
-  pub inside_took : (n : Cursor) (far : ℕ) → f ≡ Upto n far → Answers doc c p (plain_r false c.at (drop c.at doc)) (Ok n) R R' T T'
+  pub inside_took : (n : Cursor) (far : ℕ) → f ≡ Ok (n, far) → Answers doc c p (plain_r false c.at (drop c.at doc)) (Ok n) R R' T T'
   inside_took n far e =
       let o = plain_r false c.at (drop c.at doc) in
       let t = reached_taken doc c p o R R' T T' f n far e x in
       let z : far ≡ 0 = firm_zero far t.tree n.at (drop n.at doc) (plain_ll.firm c.at (drop c.at doc)) t.is in
       Laws.took doc c p o R R' T T' n (rw z at t)
 
-  pub inside_not : (q : ℕ) → f ≡ Not q → Answers doc c p (plain_r false c.at (drop c.at doc)) (No q) R R' T T'
+  pub inside_not : (q : ℕ) → f ≡ Err q → Answers doc c p (plain_r false c.at (drop c.at doc)) (Err q) R R' T T'
   inside_not q e =
       let o = plain_r false c.at (drop c.at doc) in
       Laws.refused doc c p o R R' T T' q (reached_refusal doc c p o R R' T T' f q e x)

@@ -11,12 +11,12 @@ use Rattle.exact.specs.Lang.{ret_r, byte_r}
 use Rattle.exact.specs.Comb.{seq_r, alt_r}
 use Rattle.exact.specs.Ll.{here_r, word_r}
 use Rattle.exact.specs.Place.{peek, byte_is, alt_is, alt_not}
-use Rattle.characters.specs.declared.Skip.{Skip}
-use Rattle.characters.specs.declared.Skip.TheVariants.{End, Bad}
+use Rattle.characters.specs.Reads.{Skip}
+use Rattle.std.specs.declared.result.Result.TheVariants.{Err, Ok}
 use Rattle.characters.specs.Reads.{Skips}
 use Rattle.characters.specs.Takes.{take_byte, take_other}
 use Rattle.rooms.specs.declared.Cursor.{Cursor}
-use Rattle.rooms.specs.declared.Far.{Far}
+use Rattle.rooms.specs.Contract.{Far}
 use Rattle.rooms.specs.Contract.{Reaches}
 use Rattle.language.specs.Kind.{NULL, FALSE, TRUE, FLOAT}
 use Rattle.language.specs.Tree.{unescaped, Tree, leaf}
@@ -155,21 +155,21 @@ module _ (doc : List ℕ) (c : Cursor) (p : ℕ) (a : Far) (R R' T T' : List ℕ
 
   -- by the second byte, which stands at n
   module _ (n : ℕ) (q : Passed doc c.at 110 n) (t : Skip) (h : Skips doc n (byte_r (is (only 97)) n (drop n doc)) t) where
-    pub via_nan : (e : ℕ) → t ≡ End e → Via (keyword_r FLOAT nan_word nan_word) → Via (plain_r spaced)
+    pub via_nan : (e : ℕ) → t ≡ Ok e → Via (keyword_r FLOAT nan_word nan_word) → Via (plain_r spaced)
     via_nan e k =
         via (keyword_r FLOAT nan_word nan_word) (plain_r spaced)
         (plain_said spaced doc c.at FLOAT nan_word nan_word
         (body_nan spaced doc c.at 110 q.stands.byte refl
         ∙ nan_two spaced doc c.at 97 (take_byte doc n 97 (omega arith) t h e k ∙ ap (peek doc) q.next) q.stands.byte refl))
 
-    pub via_null : (p : ℕ) → t ≡ Bad p → Via (keyword_r NULL null_word []) → Via (plain_r spaced)
+    pub via_null : (p : ℕ) → t ≡ Err p → Via (keyword_r NULL null_word []) → Via (plain_r spaced)
     via_null p k =
         via (keyword_r NULL null_word []) (plain_r spaced)
         (plain_said spaced doc c.at NULL null_word []
         (body_nan spaced doc c.at 110 q.stands.byte refl
         ∙ null_two spaced doc c.at (peek doc n) (ap (peek doc) q.next) q.stands.byte (take_other doc n 97 (omega arith) t h p k)))
 
-  pub via_minus : (n : ℕ) (t : Skip) (e : ℕ) → Passed doc c.at 45 n → Skips doc n (byte_r (is (only 105)) n (drop n doc)) t → t ≡ End e
+  pub via_minus : (n : ℕ) (t : Skip) (e : ℕ) → Passed doc c.at 45 n → Skips doc n (byte_r (is (only 105)) n (drop n doc)) t → t ≡ Ok e
       → Via (keyword_r FLOAT (45 ∷ infinity_word) (45 ∷ infinity_word)) → Via (plain_r spaced)
   via_minus n t e q h k =
       via (keyword_r FLOAT (45 ∷ infinity_word) (45 ∷ infinity_word)) (plain_r spaced)

@@ -13,7 +13,7 @@ use Rattle.language.specs.Tree.{unlined, unescaped, Tree, leaf, width, row_list}
 use Rattle.rooms.specs.Told.{ESCAPE, spot, told, word_is}
 use Rattle.rooms.specs.declared.Cursor.{Cursor}
 use Rattle.rooms.specs.declared.Words.{Words}
-use Rattle.rooms.specs.declared.Far.TheVariants.{Upto}
+use Rattle.std.specs.declared.result.Result.TheVariants.{Ok}
 use Rattle.rooms.specs.Contract.{ample, Ready, Reaches, Small}
 use Rattle.rooms.specs.Laws.{reaching, leaf_text}
 use Rattle.numbers.specs.Contract.{Longer, Put}
@@ -35,7 +35,7 @@ small_row a e x to n s = let h = s.next_fits in omega arith
 -- .. and its text s, which goes up to `to`, is what the reader's answer o says
 module _ (doc : List ℕ) (c : Cursor) (ready : Ready doc c) (s : List ℕ) (e to : ℕ) (ahead : c.at < e) (inside : e ≤ length doc) (fits : c.at + length s ≤ e) where
   pub text_read : (p kind far : ℕ) (o : Out Tree) (R R' T T' : List ℕ) (n : Cursor) → to ≡ spot c.text + length s → TRUE < kind
-      → o ≡ reached far (leaf kind c.at e (unescaped s)) e (drop e doc) → Put R R' c p kind e to n → T' ≡ sets T (spot c.text) s → Reaches doc c p o (Upto n far) R R' T T'
+      → o ≡ reached far (leaf kind c.at e (unescaped s)) e (drop e doc) → Put R R' c p kind e to n → T' ≡ sets T (spot c.text) s → Reaches doc c p o (Ok (n, far)) R R' T T'
   text_read p kind far o R R' T T' n q k a w t =
       let z : c.text + (to - spot c.text) ≡ c.text + told (unescaped s) = omega arith in
       rw (w.next, z)

@@ -17,8 +17,8 @@ use Rattle.exact.specs.Place.{peek, byte_peek, byte_is, alt_peek, There, there, 
 use Rattle.language.specs.Kind.{FLOAT}
 use Rattle.language.specs.Scalars.{digit}
 use Rattle.numbers.specs.declared.digits.Stretch.{Stretch}
-use Rattle.numbers.specs.declared.scanning.Scanned.{Scanned}
-use Rattle.numbers.specs.declared.scanning.Scanned.TheVariants.{Refused}
+use Rattle.numbers.specs.Contract.{Scanned}
+use Rattle.std.specs.declared.result.Result.TheVariants.{Err}
 use Rattle.numbers.specs.Same.{found}
 use Rattle.numbers.specs.Digits.{digits_r}
 use Rattle.numbers.specs.Plain.{sign, one_r, exponent_r}
@@ -185,7 +185,7 @@ module _ (spaced : Bool) (doc : List ℕ) (at n d : ℕ) (dense : Bool) (l : Pas
       (tight_join doc (at + 1) d e a.0 j (rw past_sign (sign_tight doc (at + 1))) t)
 
   module _ (g : Stretch) (x : Grouped spaced doc d g) where
-    pub power_not : g.end.at ≡ d → Powered spaced doc at dense (Refused d)
+    pub power_not : g.end.at ≡ d → Powered spaced doc at dense (Err d)
     unfolding exponent_at
     power_not z =
         let a = sign_after in

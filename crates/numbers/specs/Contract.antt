@@ -10,24 +10,27 @@ use Rattle.language.specs.Tree.{unlined, width, row_list}
 use Rattle.rooms.specs.Told.{spot, tally}
 use Rattle.rooms.specs.declared.Cursor.{Cursor}
 use Rattle.rooms.specs.Contract.{ample}
-use Rattle.characters.specs.declared.Skip.{Skip}
-use Rattle.characters.specs.declared.Skip.TheVariants.{End, Bad}
+use Rattle.characters.specs.Reads.{Skip}
+use Rattle.std.specs.declared.result.Result.{Result}
+use Rattle.std.specs.declared.result.Result.TheVariants.{Err, Ok}
 use Rattle.characters.specs.Plains.{RunTo}
 use Rattle.language.specs.Scalars.{digit, plain, signed}
 use Rattle.language.specs.Answered.{limit}
 use Rattle.numbers.specs.declared.digits.Stretch.{Stretch}
 use Rattle.numbers.specs.declared.scanning.Numeral.{Numeral}
-use Rattle.numbers.specs.declared.scanning.Scanned.{Scanned}
-use Rattle.numbers.specs.declared.scanning.Scanned.TheVariants.{Number, Refused}
 use Rattle.numbers.specs.Same.{Found, found}
 use Rattle.numbers.specs.Plain.{unsigned_r}
 use Rattle.numbers.specs.Places.{group_end, gap_at, squeezed, far_at}
 use Rattle.numbers.specs.Numbers.{after_sign, exponent_at}
 
+-- WHAT IS FOUND where a number may stand, as the crate's type of this name says it: the number, or the place of the refusal
+abbrev pub Scanned : Type 0
+Scanned = Result Numeral ℕ
+
 -- the place behind a space and digits at a place; refused, where no such stand
 pub data PastGap (doc : List ℕ) (at : ℕ) : Skip → Type 0 where
-  no_gap : gap_at doc at ≡ false → PastGap doc at (Bad at)
-  some_gap : (n : ℕ) → gap_at doc at ≡ true → RunTo digit doc (at + 1) n → PastGap doc at (End n)
+  no_gap : gap_at doc at ≡ false → PastGap doc at (Err at)
+  some_gap : (n : ℕ) → gap_at doc at ≡ true → RunTo digit doc (at + 1) n → PastGap doc at (Ok n)
 
 -- digits, spaced or not
 pub record Grouped (spaced : Bool) (doc : List ℕ) (at : ℕ) (g : Stretch) : Type 0 where
@@ -63,29 +66,29 @@ Tight doc a e = squeezed (slice a e doc) ≡ slice a e doc
 
 -- WHAT IS FOUND: an integer whose digits end at e, a float that ends there, and its last digits at l
 abbrev pub an_integer : ℕ → Bool → Scanned
-an_integer e b = Number (record { kind = record { 0 = INTEGER }; end = e; last = e; dense = b })
+an_integer e b = Ok (record { kind = record { 0 = INTEGER }; end = e; last = e; dense = b })
 
 abbrev pub a_float : ℕ → ℕ → Bool → Scanned
-a_float e l b = Number (record { kind = record { 0 = FLOAT }; end = e; last = l; dense = b })
+a_float e l b = Ok (record { kind = record { 0 = FLOAT }; end = e; last = l; dense = b })
 
 -- AN EXPONENT from `at` on: refused behind that place, or a float whose text goes on with the bytes up to e
 pub data Powered (spaced : Bool) (doc : List ℕ) (at : ℕ) (dense : Bool) : Scanned → Type 0 where
   no_power : (p : ℕ) → at < p → p ≤ length doc → ((m w : List ℕ) → exponent_at spaced doc at m w ≡ bad p)
-      → Powered spaced doc at dense (Refused p)
+      → Powered spaced doc at dense (Err p)
   power : (e : ℕ) (b : Bool) → at < e → e ≤ length doc
       → ((m w : List ℕ) → exponent_at spaced doc at m w ≡ reached (far_at spaced doc e) (found FLOAT (m ++ (w ++ squeezed (slice at e doc)))) e (drop e doc))
       → (b ≡ true → (dense ≡ true) × Tight doc at e) → Powered spaced doc at dense (a_float e e b)
 
 -- THE REST OF A FLOAT from `at` on, as r reads it
 pub data Ends (spaced : Bool) (doc : List ℕ) (at : ℕ) (dense : Bool) (r : List ℕ → List ℕ → Out Found) : Scanned → Type 0 where
-  stops : (p : ℕ) → at ≤ p → p ≤ length doc → ((m w : List ℕ) → r m w ≡ bad p) → Ends spaced doc at dense r (Refused p)
+  stops : (p : ℕ) → at ≤ p → p ≤ length doc → ((m w : List ℕ) → r m w ≡ bad p) → Ends spaced doc at dense r (Err p)
   goes : (e l : ℕ) (b : Bool) → at ≤ e → e ≤ length doc
       → ((m w : List ℕ) → r m w ≡ reached (far_at spaced doc l) (found FLOAT (m ++ (w ++ squeezed (slice at e doc)))) e (drop e doc))
       → (b ≡ true → (dense ≡ true) × Tight doc at e) → Ends spaced doc at dense r (a_float e l b)
 
 -- A NUMBER without its sign, from d on
 pub data Scans (spaced : Bool) (doc : List ℕ) (d : ℕ) : Scanned → Type 0 where
-  refused : (p : ℕ) → p ≤ length doc → ((m : List ℕ) → unsigned_r spaced m d (drop d doc) ≡ bad p) → Scans spaced doc d (Refused p)
+  refused : (p : ℕ) → p ≤ length doc → ((m : List ℕ) → unsigned_r spaced m d (drop d doc) ≡ bad p) → Scans spaced doc d (Err p)
   integer : (e : ℕ) (b : Bool) → d < e → e ≤ length doc
       → ((m : List ℕ) → unsigned_r spaced m d (drop d doc) ≡ reached (far_at spaced doc e) (found INTEGER (signed m (squeezed (slice d e doc)))) e (drop e doc))
       → (b ≡ true → Tight doc d e) → (peek doc (e - 1) ≡ 32 → ⊥) → Scans spaced doc d (an_integer e b)
@@ -143,7 +146,7 @@ pub data Leads (doc : List ℕ) (at : ℕ) : ℕ → Bool → Type 0 where
 -- .. and the number s was found there
 pub record NumberAt (doc : List ℕ) (at d : ℕ) (neg spaced : Bool) (s : Numeral) : Type 0 where
   pub leads : Leads doc at d neg
-  pub scanned : Scans spaced doc d (Number s)
+  pub scanned : Scans spaced doc d (Ok s)
 
 -- the text may get longer, up to `to`: what comes next begins no later, and the escapes so far are few
 pub record Longer (c : Cursor) (to : ℕ) : Type 0 where

@@ -1,5 +1,5 @@
 -- The combinators of Ll where besides a class of bytes some longer texts may not follow: a space and a digit, after digits with spaces between. Assumes nothing.
-use Rattle.std.specs.Prelude.{◌≡◌, refl, List, [], ◌∷◌, ◌++◌, ◌⊎◌, Bool, true, false, ℕ, ◌+◌}
+use Rattle.std.specs.Prelude.{◌≡◌, refl, List, [], ◌∷◌, ◌++◌, ◌⊎◌, Bool, true, false, ℕ}
 use Rattle.std.proofs.Common.{subst, inl, inr, arith}
 use Rattle.exact.specs.Class.{Starts, clash, Class, is, and, apart, when, sub, starts_left, starts_right, starts_none, starts_inside}
 use Rattle.exact.specs.Out.{Reader, Firm, firm_bind, firm_pick}

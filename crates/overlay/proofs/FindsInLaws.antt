@@ -1,13 +1,12 @@
 -- FINDING A KEY IN THE RESULT'S TABLE (`overlay_found`): `find` in its row 0 answers the row of the upper's value, or of the lower's where the upper has none, or of the two laid over each other. Assumes nothing.
-use Rattle.std.specs.Prelude.{◌≡◌, refl, List, [], ◌∷◌, ◌++◌, true, false, ℕ, ◌+◌, ◌*◌, ◌≤◌, length, drop}
+use Rattle.std.specs.Prelude.{◌≡◌, refl, List, [], ◌∷◌, ◌++◌, true, false, ℕ, ◌+◌, ◌*◌, ◌≤◌, length, drop, Some, None, Ok, Err}
 use Rattle.std.proofs.Common.{subst, arith, length-append}
 use Rattle.language.specs.Kind.{OBJECT}
 use Rattle.language.specs.Tree.{Tree, node, Forest, width, unlined, size, text_of, rows_of}
 use Rattle.language.specs.Alike.{unspan}
 use Rattle.language.specs.Lent.{words_in, bytes_in}
-use Rattle.questions.specs.declared.Found.{Found}
-use Rattle.questions.specs.declared.Found.TheVariants.{At, Missing, BadRow}
 use Rattle.questions.specs.Walk as questions
+use Rattle.questions.specs.Walk.{Found}
 use Rattle.rooms.specs.Forest.{length_rows}
 use Rattle.found.specs.Objects.{RowOf, own, Pair, pair, Pairs, no_pair, one_pair, ObjectAt, object_at, Holds, held, held_later, NoKey}
 use Rattle.found.specs.Stands.{stands_first}
@@ -39,26 +38,26 @@ rooted (shaped_object {a = a} {e = e} {n = n} {ts = ts} x) o =
     back (finds p) = property_holds l.pairs p
 
 module _ (t u r : Tree) (s : List ℕ) (over : KeyOver t u r s) {k : ℕ} (sane : Sane k r) (root : Rooted r) where
-  at_row : (i : ℕ) (v : Tree) → Holds s i v root.list → FoundOver t u r s (At (record { 0 = i }))
+  at_row : (i : ℕ) (v : Tree) → Holds s i v root.list → FoundOver t u r s (Ok (Some (record { 0 = i })))
   at_row i v h = by over
     where
       row : {w : Tree} → Finds s w r → RowOf i w 0 r
       row g = subst (λ (z : Tree). RowOf i z 0 r) (finds_one r sane s (root.to h) g) (value_row root.at h)
 
-      by : KeyOver t u r s → FoundOver t u r s (At (record { 0 = i }))
+      by : KeyOver t u r s → FoundOver t u r s (Ok (Some (record { 0 = i })))
       by (lower_only w p n g) = found_lower w p n (row g)
       by (upper_only w n q g) = found_upper w n q (row g)
       by (both_others a b p q i j g) = found_others a b p q i j (row g)
       by (both_objects a b x p q i j e g) = found_objects a b x p q i j e (row g)
       by (neither p q n) = absurd (n v (root.to h))
 
-  at_none : NoKey root.list s → FoundOver t u r s Missing
+  at_none : NoKey root.list s → FoundOver t u r s (Ok None)
   at_none z = by over
     where
       missing : {w : Tree} → Finds s w r → ⊥
       missing {w} g = let h = root.of g in z h.0 (record { value = w; holds = h.1 })
 
-      by : KeyOver t u r s → FoundOver t u r s Missing
+      by : KeyOver t u r s → FoundOver t u r s (Ok None)
       by (lower_only w p n g) = absurd (missing g)
       by (upper_only w n q g) = absurd (missing g)
       by (both_others a b p q i j g) = absurd (missing g)
@@ -66,9 +65,9 @@ module _ (t u r : Tree) (s : List ℕ) (over : KeyOver t u r s) {k : ℕ} (sane 
       by (neither p q n) = found_none p q
 
   answered : (f : Found) → Answers f root.list s → FoundOver t u r s f
-  answered (At row) a = let z = (a.at {i = row.0}).0 refl in at_row row.0 z.value z.holds
-  answered Missing a = at_none (a.missing.0 refl)
-  answered BadRow a = absurd (a.sure refl)
+  answered (Ok (Some row)) a = let z = (a.at {i = row.0}).0 refl in at_row row.0 z.value z.holds
+  answered (Ok None) a = at_none (a.missing.0 refl)
+  answered (Err _) a = absurd (a.sure refl)
 
 module _ {lower : List ℕ} {m : ℕ} {lowerText upper : List ℕ} {n : ℕ} {upperText table text : List ℕ} where
   found_given : {l : Laid} {c v s : ℕ} {table' text' : List ℕ} (t u : Tree) → HoldsObject lower m lowerText t → HoldsObject upper n upperText u → overlay t u ≡ l

@@ -8,8 +8,6 @@ use Rattle.language.specs.Sound.{Holds, Sound}
 use Rattle.rooms.specs.Forest.{length_rows}
 use Rattle.shaped.specs.Bare.{alike_size, alike_at}
 use Rattle.shaped.specs.Holds.{at_holds, sound_tree, stored_at}
-use Rattle.overlay.specs.declared.Gave.{Gave}
-use Rattle.overlay.specs.declared.Gave.TheVariants.{Done, BadRow, Clash, TooFew, TooShort}
 use Rattle.overlay.specs.Overlay.{is_object, Laid, laid, overlay}
 use Rattle.overlay.specs.Overlaid.{gave_number, gave_first, gave_second, HoldsObject, Given, fits, clashed, rows, bytes, Overlaid, gives, bad_lower, bad_upper}
 use Rattle.overlay.specs.Unspanned.{unspan_object}

@@ -1,13 +1,12 @@
 -- FINDING A KEY IN THE RESULT'S TABLE (`overlay_found`): `find` in its row 0 answers the row of the upper's value, or of the lower's where the upper has none, or of the two laid over each other. Assumes nothing.
-use Rattle.std.specs.Prelude.{◌≡◌, refl, List, [], ◌∷◌, ◌++◌, true, false, ℕ, ◌+◌, ◌*◌, ◌≤◌, length, drop}
+use Rattle.std.specs.Prelude.{◌≡◌, refl, List, [], ◌∷◌, ◌++◌, true, false, ℕ, ◌+◌, ◌*◌, ◌≤◌, length, drop, Some, None, Ok, Err}
 use Rattle.std.proofs.Common.{subst, arith, length-append}
 use Rattle.language.specs.Kind.{OBJECT}
 use Rattle.language.specs.Tree.{Tree, node, Forest, width, unlined, size, text_of, rows_of}
 use Rattle.language.specs.Alike.{unspan}
 use Rattle.language.specs.Lent.{words_in, bytes_in}
-use Rattle.questions.specs.declared.Found.{Found}
-use Rattle.questions.specs.declared.Found.TheVariants.{At, Missing, BadRow}
 use Rattle.questions.specs.Walk as questions
+use Rattle.questions.specs.Walk.{Found}
 use Rattle.rooms.specs.Forest.{length_rows}
 use Rattle.found.specs.Objects.{RowOf, own, Pair, pair, Pairs, no_pair, one_pair, ObjectAt, object_at, Holds, held, held_later, NoKey}
 use Rattle.found.specs.Stands.{stands_first}
@@ -25,12 +24,12 @@ use Rattle.overlay.specs.Finds.{Property, here, later, Finds, finds, Lacks, KeyO
 
 -- WHAT `find` ANSWERS for the key s in row 0 of the table of r, the overlay of t and u: the row of its value, or that there is none
 pub data FoundOver (t u r : Tree) (s : List ℕ) : Found → Type 0 where
-  found_lower : {i : ℕ} (v : Tree) → Finds s v t → Lacks s u → RowOf i (unspan v) 0 r → FoundOver t u r s (At (record { 0 = i }))
-  found_upper : {i : ℕ} (w : Tree) → Lacks s t → Finds s w u → RowOf i (unspan w) 0 r → FoundOver t u r s (At (record { 0 = i }))
-  found_others : {i : ℕ} (v w : Tree) → Finds s v t → Finds s w u → is_object v ≡ false → is_object w ≡ false → RowOf i (unspan w) 0 r → FoundOver t u r s (At (record { 0 = i }))
+  found_lower : {i : ℕ} (v : Tree) → Finds s v t → Lacks s u → RowOf i (unspan v) 0 r → FoundOver t u r s (Ok (Some (record { 0 = i })))
+  found_upper : {i : ℕ} (w : Tree) → Lacks s t → Finds s w u → RowOf i (unspan w) 0 r → FoundOver t u r s (Ok (Some (record { 0 = i })))
+  found_others : {i : ℕ} (v w : Tree) → Finds s v t → Finds s w u → is_object v ≡ false → is_object w ≡ false → RowOf i (unspan w) 0 r → FoundOver t u r s (Ok (Some (record { 0 = i })))
   found_objects : {i : ℕ} (v w x : Tree) → Finds s v t → Finds s w u → is_object v ≡ true → is_object w ≡ true → overlay v w ≡ laid x → RowOf i x 0 r
-      → FoundOver t u r s (At (record { 0 = i }))
-  found_none : Lacks s t → Lacks s u → FoundOver t u r s Missing
+      → FoundOver t u r s (Ok (Some (record { 0 = i })))
+  found_none : Lacks s t → Lacks s u → FoundOver t u r s (Ok None)
 
 -- THE PAIRS of an object, with the rows of their values
 pub record Listed (b : ℕ) (ts : Forest) : Type 0 where

@@ -1,11 +1,12 @@
 -- WHAT THE OVERLAY OF TWO TABLES PROMISES (02, Ticket 7). Assumes nothing.
-use Rattle.std.specs.Prelude.{◌≡◌, true, List, ◌++◌, ℕ, ◌*◌, ◌≤◌, ◌<◌, length, drop}
+use Rattle.std.specs.Prelude.{◌≡◌, true, List, ◌++◌, ℕ, ◌*◌, ◌≤◌, ◌<◌, length, drop, Result, Ok, Err}
 use Rattle.language.specs.Tree.{Tree, width, unlined, size, text_of, rows_of}
 use Rattle.language.specs.Answered.{ROWS, TEXT, BADROW}
 use Rattle.language.specs.Lent.{words_in, bytes_in}
 use Rattle.language.specs.Sound.{Holds}
-use Rattle.overlay.specs.declared.Gave.{Gave}
-use Rattle.overlay.specs.declared.Gave.TheVariants.{Done, BadRow, Clash, TooFew, TooShort}
+use Rattle.overlay.specs.declared.Filled.{Filled}
+use Rattle.overlay.specs.declared.OverlayRefusal.{OverlayRefusal}
+use Rattle.overlay.specs.declared.OverlayRefusal.TheVariants.{BadRow, Clash, TooFew, TooShort}
 use Rattle.overlay.specs.Overlay.{is_object, Laid, laid, clash, overlay}
 
 -- "number 16, CLASH"
@@ -13,26 +14,23 @@ abbrev pub CLASH : ℕ
 CLASH = 16
 
 -- the number and the two values of each answer of `overlay`
-abbrev pub gave_number : Gave → ℕ
-gave_number (Done rows bytes) = 0
-gave_number BadRow = BADROW
-gave_number Clash = CLASH
-gave_number (TooFew rows) = ROWS
-gave_number (TooShort bytes) = TEXT
+abbrev pub gave_number : Result Filled OverlayRefusal → ℕ
+gave_number (Ok d) = 0
+gave_number (Err BadRow) = BADROW
+gave_number (Err Clash) = CLASH
+gave_number (Err (TooFew rows)) = ROWS
+gave_number (Err (TooShort bytes)) = TEXT
 
-abbrev pub gave_first : Gave → ℕ
-gave_first (Done rows bytes) = rows
-gave_first BadRow = 0
-gave_first Clash = 0
-gave_first (TooFew rows) = rows
-gave_first (TooShort bytes) = bytes
+abbrev pub gave_first : Result Filled OverlayRefusal → ℕ
+gave_first (Ok d) = d.rows
+gave_first (Err BadRow) = 0
+gave_first (Err Clash) = 0
+gave_first (Err (TooFew rows)) = rows
+gave_first (Err (TooShort bytes)) = bytes
 
-abbrev pub gave_second : Gave → ℕ
-gave_second (Done rows bytes) = bytes
-gave_second BadRow = 0
-gave_second Clash = 0
-gave_second (TooFew rows) = 0
-gave_second (TooShort bytes) = 0
+abbrev pub gave_second : Result Filled OverlayRefusal → ℕ
+gave_second (Ok d) = d.bytes
+gave_second (Err r) = 0
 
 -- a sound table whose root is an object, and its tree
 pub record HoldsObject (table : List ℕ) (rows : ℕ) (text : List ℕ) (t : Tree) : Type 0 where

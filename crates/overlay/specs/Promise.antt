@@ -1,5 +1,5 @@
 -- WHAT THE PROMISE OF THE OVERLAY GIVES: one answer only (`one_overlay`), and where it is 0 a sound table of the two trees laid over each other (`overlay_holds`, `overlay_sound`). Assumes nothing.
-use Rattle.std.specs.Prelude.{◌≡◌, refl, List, ◌++◌, ℕ, ◌*◌, ◌≤◌, length, drop}
+use Rattle.std.specs.Prelude.{◌≡◌, refl, List, ◌++◌, ℕ, ◌*◌, ◌≤◌, length, drop, Result, Ok, Err}
 use Rattle.std.proofs.Common.{sym, ap, ap₂, subst, ◌∙◌, arith, length-append}
 use Rattle.language.specs.Tree.{Tree, width, unlined, size, text_of, rows_of}
 use Rattle.language.specs.Alike.{unspan}
@@ -8,8 +8,9 @@ use Rattle.language.specs.Sound.{Holds, Sound}
 use Rattle.rooms.specs.Forest.{length_rows}
 use Rattle.shaped.specs.Bare.{alike_size, alike_at}
 use Rattle.shaped.specs.Holds.{at_holds, sound_tree, stored_at}
-use Rattle.overlay.specs.declared.Gave.{Gave}
-use Rattle.overlay.specs.declared.Gave.TheVariants.{Done, BadRow, Clash, TooFew, TooShort}
+use Rattle.overlay.specs.declared.Filled.{Filled}
+use Rattle.overlay.specs.declared.OverlayRefusal.{OverlayRefusal}
+use Rattle.overlay.specs.declared.OverlayRefusal.TheVariants.{BadRow, Clash, TooFew, TooShort}
 use Rattle.overlay.specs.Overlay.{is_object, Laid, laid, overlay}
 use Rattle.overlay.specs.Overlaid.{gave_number, gave_first, gave_second, HoldsObject, Given, fits, clashed, rows, bytes, Overlaid, gives, bad_lower, bad_upper}
 use Rattle.overlay.specs.Unspanned.{unspan_object}
@@ -29,33 +30,33 @@ one_given (bytes t h k) (fits _ i j) = absurd (omega arith)
 one_given (bytes t h k) (rows _ i) = absurd (omega arith)
 one_given (bytes t h k) (bytes _ i j) = (refl, refl, refl, refl, refl)
 
--- .. and so the case of the enum
-pub one_case : (a b : Gave) → gave_number a ≡ gave_number b → gave_first a ≡ gave_first b → gave_second a ≡ gave_second b → a ≡ b
-one_case (Done p q) (Done i j) e f g = ap₂ Done f g
-one_case (Done p q) BadRow e f g = absurd (omega arith)
-one_case (Done p q) Clash e f g = absurd (omega arith)
-one_case (Done p q) (TooFew i) e f g = absurd (omega arith)
-one_case (Done p q) (TooShort i) e f g = absurd (omega arith)
-one_case BadRow (Done i j) e f g = absurd (omega arith)
-one_case BadRow BadRow e f g = refl
-one_case BadRow Clash e f g = absurd (omega arith)
-one_case BadRow (TooFew i) e f g = absurd (omega arith)
-one_case BadRow (TooShort i) e f g = absurd (omega arith)
-one_case Clash (Done i j) e f g = absurd (omega arith)
-one_case Clash BadRow e f g = absurd (omega arith)
-one_case Clash Clash e f g = refl
-one_case Clash (TooFew i) e f g = absurd (omega arith)
-one_case Clash (TooShort i) e f g = absurd (omega arith)
-one_case (TooFew p) (Done i j) e f g = absurd (omega arith)
-one_case (TooFew p) BadRow e f g = absurd (omega arith)
-one_case (TooFew p) Clash e f g = absurd (omega arith)
-one_case (TooFew p) (TooFew i) e f g = ap TooFew f
-one_case (TooFew p) (TooShort i) e f g = absurd (omega arith)
-one_case (TooShort p) (Done i j) e f g = absurd (omega arith)
-one_case (TooShort p) BadRow e f g = absurd (omega arith)
-one_case (TooShort p) Clash e f g = absurd (omega arith)
-one_case (TooShort p) (TooFew i) e f g = absurd (omega arith)
-one_case (TooShort p) (TooShort i) e f g = ap TooShort f
+-- .. and so the case of the answer
+pub one_case : (a b : Result Filled OverlayRefusal) → gave_number a ≡ gave_number b → gave_first a ≡ gave_first b → gave_second a ≡ gave_second b → a ≡ b
+one_case (Ok d) (Ok o) e f g = ap₂ (λ (i j : ℕ). Ok (record { rows = i; bytes = j })) f g
+one_case (Ok d) (Err BadRow) e f g = absurd (omega arith)
+one_case (Ok d) (Err Clash) e f g = absurd (omega arith)
+one_case (Ok d) (Err (TooFew i)) e f g = absurd (omega arith)
+one_case (Ok d) (Err (TooShort i)) e f g = absurd (omega arith)
+one_case (Err BadRow) (Ok o) e f g = absurd (omega arith)
+one_case (Err BadRow) (Err BadRow) e f g = refl
+one_case (Err BadRow) (Err Clash) e f g = absurd (omega arith)
+one_case (Err BadRow) (Err (TooFew i)) e f g = absurd (omega arith)
+one_case (Err BadRow) (Err (TooShort i)) e f g = absurd (omega arith)
+one_case (Err Clash) (Ok o) e f g = absurd (omega arith)
+one_case (Err Clash) (Err BadRow) e f g = absurd (omega arith)
+one_case (Err Clash) (Err Clash) e f g = refl
+one_case (Err Clash) (Err (TooFew i)) e f g = absurd (omega arith)
+one_case (Err Clash) (Err (TooShort i)) e f g = absurd (omega arith)
+one_case (Err (TooFew p)) (Ok o) e f g = absurd (omega arith)
+one_case (Err (TooFew p)) (Err BadRow) e f g = absurd (omega arith)
+one_case (Err (TooFew p)) (Err Clash) e f g = absurd (omega arith)
+one_case (Err (TooFew p)) (Err (TooFew i)) e f g = ap (λ (i : ℕ). Err (TooFew i)) f
+one_case (Err (TooFew p)) (Err (TooShort i)) e f g = absurd (omega arith)
+one_case (Err (TooShort p)) (Ok o) e f g = absurd (omega arith)
+one_case (Err (TooShort p)) (Err BadRow) e f g = absurd (omega arith)
+one_case (Err (TooShort p)) (Err Clash) e f g = absurd (omega arith)
+one_case (Err (TooShort p)) (Err (TooFew i)) e f g = absurd (omega arith)
+one_case (Err (TooShort p)) (Err (TooShort i)) e f g = ap (λ (i : ℕ). Err (TooShort i)) f
 
 -- rows and text of a tree that a document has, spans aside, at the start of rooms
 module _ (r : Tree) (p : ProfileTree r) (table text : List ℕ) where

@@ -1,8 +1,7 @@
 -- KEYS NOTED, PUT IN THE ORDER OF THEIR NAMES one after another. Assumes nothing.
-use Rattle.std.specs.Prelude.{◌≡◌, ℕ, ◌+◌, ◌*◌, ◌/◌, ◌<◌, ◌≤◌, Bool, true, false, List, length, slice_index, slice_set}
+use Rattle.std.specs.Prelude.{◌≡◌, ℕ, ◌+◌, ◌*◌, ◌/◌, ◌<◌, ◌≤◌, Bool, true, false, List, length, slice_index, slice_set, Option, Some, None}
 use Rattle.std.proofs.Math.Path.{refl}
 use Rattle.std.proofs.Common.{arith, rules}
-use Rattle.repeats.specs.declared.Repeat.TheVariants.{At, Nowhere}
 use Rattle.exact.specs.Class.{clash}
 use Rattle.exact.specs.Tells.{Tells, tells_yes, tells_no}
 use Rattle.repeats.specs.Numbering.{Numbering, mark_of}
@@ -11,10 +10,8 @@ use Rattle.repeats.specs.Links.{Earlier}
 use Rattle.repeats.specs.Later.{Names, Later, names_few}
 use Rattle.repeats.specs.Sorted.{Ranked, ranked_none, Sought, seek_first, seek_key, seek_less, seek_more, seek_none, Inserted, ranked_more}
 use Rattle.places.specs.declared.names.Marks.{Marks}
-use Rattle.repeats.specs.declared.Order.{Order}
-use Rattle.repeats.specs.declared.Order.TheVariants.{Less, Same as Equal, More}
-use Rattle.repeats.specs.declared.Found.{Found}
-use Rattle.repeats.specs.declared.Found.TheVariants.{Gap, There}
+use Rattle.std.specs.declared.cmp.Ordering.{Ordering}
+use Rattle.std.specs.declared.cmp.Ordering.TheVariants.{Less, Equal, Greater}
 use Rattle.places.specs.Places.{place_at, place_keys, Placed}
 use Rattle.places.specs.Names.{Keyed, MarksOf, Compared, Stand}
 use Rattle.places.specs.Walks.{Held, held_none, held_key, held_more, held_compared, pass_none, pass_again, pass_done}
@@ -29,11 +26,11 @@ pub record Seeking (doc keys marks order : List ℕ) (i : ℕ) : Type 0 where
   pub room : n ≤ length order
 
 -- between the first p and the others; or it is the same as one of them
-unfoldable pub Finds : List ℕ → List ℕ → List ℕ → ℕ → Found → Type 0
-Finds doc keys order i (Gap p) = Sought (name_of (place_keys doc keys)) (name_of (place_keys doc keys) i) order i p p
-Finds doc keys order i There = Earlier (place_keys doc keys) i
+unfoldable pub Finds : List ℕ → List ℕ → List ℕ → ℕ → Option ℕ → Type 0
+Finds doc keys order i (Some p) = Sought (name_of (place_keys doc keys)) (name_of (place_keys doc keys) i) order i p p
+Finds doc keys order i None = Earlier (place_keys doc keys) i
 
-pub gap_within : (doc keys order : List ℕ) (i : ℕ) (r : Found) → Finds doc keys order i r → (p : ℕ) → r ≡ Gap p → p ≤ i
+pub gap_within : (doc keys order : List ℕ) (i : ℕ) (r : Option ℕ) → Finds doc keys order i r → (p : ℕ) → r ≡ Some p → p ≤ i
 unfolding Finds
 gap_within doc keys order i r y p e = let x : Sought (name_of (place_keys doc keys)) (name_of (place_keys doc keys) i) order i p p = rw e at y in x.inside
 
@@ -48,7 +45,7 @@ module _ (doc keys marks order : List ℕ) (i : ℕ) (w : Seeking doc keys marks
   find_few = omega (arith, w.held.placed.few, w.low)
 
   module _ (lo hi : ℕ) (x : Sought (name_of N) (name_of N i) order i lo hi) where
-    pub find_gap : hi ≤ lo → Finds doc keys order i (Gap lo)
+    pub find_gap : hi ≤ lo → Finds doc keys order i (Some lo)
     unfolding Finds
     find_gap l = let e : hi ≡ lo = omega (arith, x.ordered) in rw e at x
 
@@ -69,8 +66,8 @@ module _ (doc keys marks order : List ℕ) (i : ℕ) (w : Seeking doc keys marks
         pub find_compared : Compared doc keys marks i k
         find_compared = held_compared doc keys marks w.n i w.low w.held k key
 
-        module _ (r : Order) (t : Stand doc keys i k r) where
-          pub find_there : r ≡ Equal → Finds doc keys order i There
+        module _ (r : Ordering) (t : Stand doc keys i k r) where
+          pub find_there : r ≡ Equal → Finds doc keys order i None
           unfolding Finds Ordered
           find_there h = record { other = k; key = record { before = key; key = tt }; same = name_same N i k (rw h at t) }
 
@@ -78,7 +75,7 @@ module _ (doc keys marks order : List ℕ) (i : ℕ) (w : Seeking doc keys marks
           unfolding Ordered
           find_below h = seek_less (name_of N) (name_of N i) order i w.ranked lo hi mid x (omega arith) (omega arith) (rw f at (rw h at t))
 
-          pub find_above : (lo' : ℕ) → r ≡ More → lo' ≡ mid + 1 → Sought (name_of N) (name_of N i) order i lo' hi
+          pub find_above : (lo' : ℕ) → r ≡ Greater → lo' ≡ mid + 1 → Sought (name_of N) (name_of N i) order i lo' hi
           unfolding Ordered
           find_above lo' h z = rw z (seek_more (name_of N) (name_of N i) order i w.ranked lo hi mid x (omega arith) (omega arith) (rw f at (rw h at t)))
 
@@ -121,12 +118,12 @@ module _ (doc keys order marks : List ℕ) (i : ℕ) (w : Joining doc keys order
     pub join_seeking : Seeking doc keys (slice_set marks i m.mark) order i
     join_seeking = record { n = w.n; low = w.low; held = held; ranked = w.ranked; room = w.room }
 
-    module _ (r : Found) (y : Finds doc keys order i r) where
-      pub join_there : r ≡ There → Joined doc keys order (slice_set marks i m.mark) i true
+    module _ (r : Option ℕ) (y : Finds doc keys order i r) where
+      pub join_there : r ≡ None → Joined doc keys order (slice_set marks i m.mark) i true
       unfolding Finds
       join_there f = record { tells = rw f at y; stored = held.stored; ranked = λ g. absurd (clash refl g) }
 
-      module _ (p : ℕ) (f : r ≡ Gap p) where
+      module _ (p : ℕ) (f : r ≡ Some p) where
         sought : Sought (name_of (place_keys doc keys)) (name_of (place_keys doc keys) i) order i p p
         unfolding Finds
         sought = rw f at y
@@ -148,7 +145,7 @@ pub record Sorting (doc keys order marks : List ℕ) (n i : ℕ) : Type 0 where
   pub held : Held doc keys marks n i
   pub room : n ≤ length order
   pub ranked : Ranked (name_of (place_keys doc keys)) order i
-  pub names : Names (Later (place_keys doc keys) i) Nowhere
+  pub names : Names (Later (place_keys doc keys) i) None
 
 module _ (doc keys : List ℕ) (n : ℕ) where
   pub sorting_first : (order marks : List ℕ) → Placed doc keys n → n ≤ length order → n ≤ length marks → Sorting doc keys order marks n 0
@@ -165,11 +162,11 @@ module _ (doc keys : List ℕ) (n : ℕ) where
     pub sorting_few : i < n → i < 8192
     sorting_few l = omega (arith, x.held.placed.few)
 
-    pub sorting_done : n ≤ i → Names (Later (place_keys doc keys) n) Nowhere
+    pub sorting_done : n ≤ i → Names (Later (place_keys doc keys) n) None
     sorting_done l = pass_done doc keys n i x.held.placed x.names x.within l
 
     module _ (order' marks' : List ℕ) (r : Bool) (y : Joined doc keys order' marks' i r) (l : i < n) where
-      pub sorting_again : (q : ℕ) → r ≡ true → q ≡ place_at keys i → Names (Later (place_keys doc keys) n) (At q)
+      pub sorting_again : (q : ℕ) → r ≡ true → q ≡ place_at keys i → Names (Later (place_keys doc keys) n) (Some q)
       sorting_again q e h = pass_again doc keys n i x.held.placed x.names q l h (tells_yes r e y.tells)
 
       pub sorting_more : r ≡ false → length order' ≡ length order → length marks' ≡ length marks → Sorting doc keys order' marks' n (i + 1)

@@ -1,5 +1,5 @@
 -- THE LOG (`Holds`) of keys of a document, and what is told of it (`Told`): its keys stand at their places, and the first that has an earlier one is the first that is named twice. Assumes nothing.
-use Rattle.std.specs.Prelude.{◌≡◌, ℕ, ◌+◌, ◌*◌, ◌<◌, ◌≤◌, List, ◌∷◌, length, drop, replicate, slice_index, slice_index_or}
+use Rattle.std.specs.Prelude.{◌≡◌, ℕ, ◌+◌, ◌*◌, ◌<◌, ◌≤◌, List, ◌∷◌, length, drop, replicate, slice_index, slice_index_or, Option, None}
 use Rattle.std.proofs.Common.{sym, subst, ◌∙◌, zero-add, arith, rules}
 use Rattle.std.proofs.lemmas.List.{length-replicate}
 use Rattle.language.specs.Tree.{Tree, count, Repeats}
@@ -8,8 +8,6 @@ use Rattle.language.specs.Answered.{limit, deepest}
 use Rattle.notes.specs.Flat.{Named, named, flat}
 use Rattle.notes.specs.Lie.{Keys, keys_none, keys_more}
 use Rattle.notes.specs.Notes.{Kept}
-use Rattle.repeats.specs.declared.Repeat.{Repeat}
-use Rattle.repeats.specs.declared.Repeat.TheVariants.{Nowhere}
 use Rattle.repeats.specs.Flat.{Twice}
 use Rattle.repeats.specs.Repeating.{repeats_twice, twice_repeats}
 use Rattle.repeats.specs.Later.{Names, names_map, Later, names_few, zeros}
@@ -31,14 +29,14 @@ pub record Holds (doc keys : List ℕ) (ns : List Named) : Type 0 where
   pub lie : Keys doc 0 ns (length doc)
 
 -- the least place of a key in the log that is the same as an earlier one there
-abbrev pub Told : List ℕ → List ℕ → Repeat → Type 0
+abbrev pub Told : List ℕ → List ℕ → Option ℕ → Type 0
 Told doc keys r = Names (Later (place_keys doc keys) (slice_index keys 0)) r
 
 module _ (doc keys : List ℕ) where
-  pub told_few : (n : ℕ) → n ≡ slice_index keys 0 → n < 2 → Told doc keys Nowhere
+  pub told_few : (n : ℕ) → n ≡ slice_index keys 0 → n < 2 → Told doc keys None
   told_few n e l = names_few (place_keys doc keys) (slice_index keys 0) (omega arith)
 
-  pub told_all : (n : ℕ) → n ≡ slice_index keys 0 → (r : Repeat) → Names (Later (place_keys doc keys) n) r → Told doc keys r
+  pub told_all : (n : ℕ) → n ≡ slice_index keys 0 → (r : Option ℕ) → Names (Later (place_keys doc keys) n) r → Told doc keys r
   told_all n e r x = rw e at x
 
   pub told_placed : (n : ℕ) → n ≡ slice_index keys 0 → Placed doc keys (slice_index keys 0) → Placed doc keys n
@@ -62,7 +60,7 @@ module _ (doc keys : List ℕ) (ns : List Named) (g : Holds doc keys ns) where
       })
 
   -- the first key that is named twice, if there is one
-  pub holds_told : (r : Repeat) → Told doc keys r → Names (λ p. Twice p ns) r
+  pub holds_told : (r : Option ℕ) → Told doc keys r → Names (λ p. Twice p ns) r
   holds_told r x =
       let l = lists_words doc keys (count ns) (length doc) 0 0 ns g.words g.lie in
       names_map
@@ -127,14 +125,14 @@ pub record Log (doc keys : List ℕ) : Type 0 where
   pub holds : Holds doc keys (flat 0 0 tree)
 
 -- "the smallest start of a later equal key" (01, Numbers of refusal), if the tree whose keys are noted has one
-pub names_tree : (t : Tree) (r : Repeat) → Names (λ p. Twice p (flat 0 0 t)) r → Names (λ p. Repeats p t) r
+pub names_tree : (t : Tree) (r : Option ℕ) → Names (λ p. Twice p (flat 0 0 t)) r → Names (λ p. Repeats p t) r
 names_tree t r x = names_map (λ p v. twice_repeats 0 0 t (omega arith) v) (λ p v. repeats_twice 0 0 t v) r x
 
 module _ (doc keys : List ℕ) (g : Log doc keys) where
   pub log_placed : Placed doc keys (slice_index keys 0)
   log_placed = holds_placed doc keys (flat 0 0 g.tree) g.holds
 
-  pub log_told : (r : Repeat) → Told doc keys r → Names (λ p. Repeats p g.tree) r
+  pub log_told : (r : Option ℕ) → Told doc keys r → Names (λ p. Repeats p g.tree) r
   log_told r x = names_tree g.tree r (holds_told doc keys (flat 0 0 g.tree) g.holds r x)
 
 -- where none is left out, the log has all keys

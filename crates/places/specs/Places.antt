@@ -1,10 +1,7 @@
 -- THE KEYS NOTED, BY NUMBER: for each the row of its object and its place, as its two words have them, and its text, as it is read there. Assumes nothing.
-use Rattle.std.specs.Prelude.{◌≡◌, ℕ, ◌+◌, ◌*◌, ◌<◌, ◌≤◌, List, [], length, slice_index}
-use Rattle.std.proofs.Common.{ap, arith}
-use Rattle.language.specs.Tree.{Tree, text_of}
+use Rattle.std.specs.Prelude.{◌≡◌, ℕ, ◌+◌, ◌*◌, ◌<◌, ◌≤◌, List, length, slice_index}
+use Rattle.std.proofs.Common.{arith}
 use Rattle.language.specs.Answered.{limit}
-use Rattle.exact.specs.Out.{Out, ok, soft, bad}
-use Rattle.strings.specs.Keys.{key_r}
 use Rattle.notes.specs.Lie.{KeyAt}
 pub use Rattle.spelt.specs.Texts.{text_in, end_in, spelled_is, ends_is, key_text, key_end, key_own}
 unfoldable pub use Rattle.spelt.specs.Texts.{spelled, ends}

@@ -1,15 +1,14 @@
 -- KEYS THAT PASS A FILTER: a large room notes them in its log, or sieves them; and whatever key comes twice among them is found again. Assumes nothing.
-use Rattle.std.specs.Prelude.{◌≡◌, ℕ, ◌+◌, ◌/◌, ◌%◌, ◌<◌, ◌≤◌, Bool, true, false, List, [], ◌∷◌, length, take, ◌≢◌, slice_index, refl}
-use Rattle.std.proofs.Common.{sym, ap, subst, ◌∙◌, arith}
+use Rattle.std.specs.Prelude.{◌≡◌, ℕ, ◌+◌, ◌/◌, ◌<◌, ◌≤◌, Bool, true, false, List, [], ◌∷◌, length, take, ◌≢◌, slice_index, refl}
+use Rattle.std.proofs.Common.{sym, ap, ◌∙◌, arith}
 use Rattle.notation.specs.Class.{pick}
-use Rattle.exact.specs.Class.{clash}
-use Rattle.spelt.specs.Texts.{spelled, key_text}
+use Rattle.spelt.specs.Texts.{key_text}
 use Rattle.spelt.specs.Hash.{hash_of}
 use Rattle.sieve.specs.Sieve.{hits, filter, large, Mark, mark, Has, has_here, has_later, Double, double_here, double_later, Sieved}
 use Rattle.notes.specs.Flat.{Named, named}
 use Rattle.notes.specs.Lie.{Keys, keys_more}
 use Rattle.notes.specs.Noted.{noted, noteds, length_noted}
-use Rattle.notes.specs.Handed.{log, mode, round, factor_of, key_class, passing, Sifts, Handed, Took, took_none, took_more}
+use Rattle.notes.specs.Handed.{log, mode, round, factor_of, key_class, passing, Sifts, Took, took_none, took_more}
 use Rattle.repeats.specs.Flat.{In, in_here, in_later, Twice, twice_here, twice_later}
 use Rattle.places.specs.Chosen.{Some, some_none, some_take, some_pass}
 

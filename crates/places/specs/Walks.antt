@@ -1,17 +1,14 @@
 -- KEYS NOTED, PASSED IN TURN: what is asked of the keys, their marks and the chains, and the answer for the keys passed. Assumes nothing.
-use Rattle.std.specs.Prelude.{◌≡◌, ℕ, ◌+◌, ◌-◌, ◌*◌, ◌<◌, ◌≤◌, Bool, true, false, List, length, replicate, slice_index, slice_set, refl}
+use Rattle.std.specs.Prelude.{◌≡◌, ℕ, ◌+◌, ◌-◌, ◌*◌, ◌<◌, ◌≤◌, Bool, true, false, List, length, replicate, slice_index, slice_set, refl, Some, None, Result, Ok, Err}
 use Rattle.std.proofs.Common.{sym, ap, subst, ◌∙◌, arith, get_or-set_same, get_or-set_other, rules}
 use Rattle.std.proofs.Math.Decide.{ℕ_discrete}
 use lib.ListN.{length-replicate}
-use Rattle.repeats.specs.declared.Repeat.TheVariants.{At, Nowhere}
-use Rattle.exact.specs.Tells.{Tells, tells_yes, tells_no}
-use Rattle.repeats.specs.Numbering.{Numbering, Same, mark_of, stir, spread, chain_of, chain_at}
+use Rattle.repeats.specs.Numbering.{Same, mark_of, spread, chain_of, chain_at}
 use Rattle.repeats.specs.Walk.{Walks, walks_long, Walking, chain_first, chain_none, chain_before, chain_met, chain_room, chain_less, chain_more}
 use Rattle.repeats.specs.Links.{Earlier, Chains, note_walkable, note_low, note_small, note_met, note_past, note_chains}
 use Rattle.repeats.specs.Links
 use Rattle.repeats.specs.Later.{Names, Later, names_few, names_same, names_first, chains_start}
-use Rattle.repeats.specs.declared.Walk.{Walk}
-use Rattle.repeats.specs.declared.Walk.TheVariants.{Met, Past, Long}
+use Rattle.repeats.specs.declared.TooLong.{TooLong}
 use Rattle.places.specs.declared.names.Marks.{Marks}
 use Rattle.places.specs.Places.{object_at, place_at, place_keys, Placed}
 use Rattle.places.specs.Names.{Keyed, MarksOf, Compared}
@@ -79,7 +76,7 @@ pub record Chaining (doc keys heads links marks : List ℕ) (i : ℕ) : Type 0 w
   pub noting : Links.Noting (place_keys doc keys) heads links i
 
 -- the keys up to it stand in the chains, and it is told whether an earlier one is the same
-pub record Chained (doc keys heads links marks : List ℕ) (i : ℕ) (r : Walk) : Type 0 where
+pub record Chained (doc keys heads links marks : List ℕ) (i : ℕ) (r : Result Bool TooLong) : Type 0 where
   pub chains : Chains (place_keys doc keys) heads links (i + 1)
   pub stored : (k : ℕ) → k < i + 1 → slice_index marks k ≡ mark_of (place_keys doc keys) k
   pub tells : Walks (Earlier (place_keys doc keys) i) r
@@ -121,7 +118,7 @@ module _ (doc keys heads links marks : List ℕ) (i : ℕ) (w : Chaining doc key
           walk = note_walkable (place_keys doc keys) heads links i w.noting c chain_is;
         })
 
-    pub chained_all : (head : ℕ) → head ≡ slice_index heads c → (r : Walk) → Walks (Links.Met (Same (place_keys doc keys) i) links head) r
+    pub chained_all : (head : ℕ) → head ≡ slice_index heads c → (r : Result Bool TooLong) → Walks (Links.Met (Same (place_keys doc keys) i) links head) r
         → Chained doc keys (slice_set heads c (i + 1)) (slice_set links i (slice_index heads c)) (slice_set marks i m.mark) i r
     unfolding Walks
     chained_all head z r t =
@@ -131,28 +128,28 @@ module _ (doc keys heads links marks : List ℕ) (i : ℕ) (w : Chaining doc key
           tells = go r (rw z at t);
         }
       where
-        go : (r : Walk) → Walks (Links.Met (Same (place_keys doc keys) i) links (slice_index heads c)) r → Walks (Earlier (place_keys doc keys) i) r
-        go Met t = note_met (place_keys doc keys) heads links i w.noting c chain_is t
-        go Past t = note_past (place_keys doc keys) heads links i w.noting c chain_is t
-        go Long t = tt
+        go : (r : Result Bool TooLong) → Walks (Links.Met (Same (place_keys doc keys) i) links (slice_index heads c)) r → Walks (Earlier (place_keys doc keys) i) r
+        go (Ok true) t = note_met (place_keys doc keys) heads links i w.noting c chain_is t
+        go (Ok false) t = note_past (place_keys doc keys) heads links i w.noting c chain_is t
+        go (Err e) t = tt
 
 pub ruleset chaining = (chained_room, chained_low, chained_few, chained_links, chained_key, chained_small, chained_head, chained_walk, chained_all, rules)
 
 -- ---- the keys one after another
 
 -- none of the first i has an earlier one
-module _ (doc keys : List ℕ) (n i : ℕ) (p : Placed doc keys n) (x : Names (Later (place_keys doc keys) i) Nowhere) where
-  pub pass_none : (Earlier (place_keys doc keys) i → ⊥) → Names (Later (place_keys doc keys) (i + 1)) Nowhere
-  pass_none f = names_same (place_keys doc keys) i Nowhere x (λ k z. f z)
+module _ (doc keys : List ℕ) (n i : ℕ) (p : Placed doc keys n) (x : Names (Later (place_keys doc keys) i) None) where
+  pub pass_none : (Earlier (place_keys doc keys) i → ⊥) → Names (Later (place_keys doc keys) (i + 1)) None
+  pass_none f = names_same (place_keys doc keys) i None x (λ k z. f z)
 
-  pub pass_again : (q : ℕ) → i < n → q ≡ place_at keys i → Earlier (place_keys doc keys) i → Names (Later (place_keys doc keys) n) (At q)
+  pub pass_again : (q : ℕ) → i < n → q ≡ place_at keys i → Earlier (place_keys doc keys) i → Names (Later (place_keys doc keys) n) (Some q)
   pass_again q l h e =
-      subst (λ (j : ℕ). Names (Later (place_keys doc keys) n) (At j)) (sym h) (names_first (place_keys doc keys) n i x (λ k a b. before k a b) l tt e)
+      subst (λ (j : ℕ). Names (Later (place_keys doc keys) n) (Some j)) (sym h) (names_first (place_keys doc keys) n i x (λ k a b. before k a b) l tt e)
     where
       before : (k : ℕ) → i < k → k < n → place_at keys i < place_at keys k
       before k a b = omega (arith, (p.key i l).ahead, p.order i k a b)
 
-  pub pass_done : i ≤ n → n ≤ i → Names (Later (place_keys doc keys) n) Nowhere
+  pub pass_done : i ≤ n → n ≤ i → Names (Later (place_keys doc keys) n) None
   pass_done m l = let e : i ≡ n = omega arith in rw e at x
 
 -- the keys to go over, with none in the chains
@@ -177,7 +174,7 @@ pub record Passed (doc keys heads links marks : List ℕ) (n i : ℕ) : Type 0 w
   pub held : Held doc keys marks n i
   pub room : n ≤ length links
   pub chains : Chains (place_keys doc keys) heads links i
-  pub names : Names (Later (place_keys doc keys) i) Nowhere
+  pub names : Names (Later (place_keys doc keys) i) None
 
 module _ (doc keys : List ℕ) (n : ℕ) where
   pub passed_first : (heads links marks : List ℕ) → Starting doc keys heads links marks n → Passed doc keys heads links marks n 0
@@ -194,15 +191,15 @@ module _ (doc keys : List ℕ) (n : ℕ) where
     pub passed_few : i < n → i < 8192
     passed_few l = omega (arith, x.held.placed.few)
 
-    pub passed_done : n ≤ i → Names (Later (place_keys doc keys) n) Nowhere
+    pub passed_done : n ≤ i → Names (Later (place_keys doc keys) n) None
     passed_done l = pass_done doc keys n i x.held.placed x.names x.within l
 
-    module _ (heads' links' marks' : List ℕ) (r : Walk) (y : Chained doc keys heads' links' marks' i r) (l : i < n) where
-      pub passed_met : (q : ℕ) → r ≡ Met → q ≡ place_at keys i → Names (Later (place_keys doc keys) n) (At q)
+    module _ (heads' links' marks' : List ℕ) (b : Bool) (y : Chained doc keys heads' links' marks' i (Ok b)) (l : i < n) where
+      pub passed_met : (q : ℕ) → b ≡ true → q ≡ place_at keys i → Names (Later (place_keys doc keys) n) (Some q)
       unfolding Walks
       passed_met q e h = pass_again doc keys n i x.held.placed x.names q l h (rw e at y.tells)
 
-      pub passed_more : r ≡ Past → length links' ≡ length links → length marks' ≡ length marks → Passed doc keys heads' links' marks' n (i + 1)
+      pub passed_more : b ≡ false → length links' ≡ length links → length marks' ≡ length marks → Passed doc keys heads' links' marks' n (i + 1)
       unfolding Walks
       passed_more e g h =
           record {

@@ -8,11 +8,12 @@ ghost use Rattle.places.specs.Places.{object_at, place_at, spelled, place_keys};
 ghost use Rattle.spelt.specs.Standing.{Spells, Common};
 ghost use Rattle.places.specs.Names.{Bare, Keyed, MarksOf, Compared, Stand};
 
-use characters::{Reading, Took, is_key};
+use characters::{Reading, is_key};
 use notes::{FIRST, log_word};
-use repeats::{Order, stirred};
+use repeats::stirred;
 use rooms::Cursor;
-use spelt::{Given, Spelling, begin, further, next, standing};
+use spelt::{Spelling, begin, further, next, standing};
+use std::cmp::Ordering;
 
 // What a text leads to: its mark, and a number that picks its chain.
 #[derive(Clone, Copy)]
@@ -22,19 +23,21 @@ pub struct Marks {
 }
 
 // The row of the object of the i-th key noted.
+#[tactic(auto, using(crate::specs::Places::object_is))]
 pub fn object_of(keys: &[u32], i: usize) -> usize
     requires { 4 + 2 * i + 1 < length keys.now }
     ensures { (result ≡ object_at keys.now i) × (result < 4294967296) }
 {
-    log_word(&*keys, FIRST + 2 * i)
+    log_word(keys, FIRST + 2 * i)
 }
 
 // The place where it begins.
+#[tactic(auto, using(crate::specs::Places::place_is))]
 pub fn place_of(keys: &[u32], i: usize) -> usize
     requires { 4 + 2 * i + 1 < length keys.now }
     ensures { result ≡ place_at keys.now i }
 {
-    log_word(&*keys, FIRST + 2 * i + 1)
+    log_word(keys, FIRST + 2 * i + 1)
 }
 
 // A byte more in a mark: twice the mark so far plus that byte, wrapping.
@@ -45,6 +48,7 @@ fn marked(h: u32, b: u8) -> u32
 }
 
 // The marks of the bare key at a place, in an object.
+#[tactic(auto, using(crate::specs::Names::baring))]
 fn bare_marks(doc: &[u8], from: usize, object: usize) -> Marks
     requires { Keyed doc.now from × (object < 4294967296) × Bare doc.now from }
     ensures { MarksOf doc.now from object result }
@@ -53,11 +57,9 @@ fn bare_marks(doc: &[u8], from: usize, object: usize) -> Marks
     let mut mark: u32 = 0;
     let mut stir = object;
     loop {
-        match r.byte(&*doc) {
-            Took::Over => {
-                return Marks { mark, stir };
-            }
-            Took::Byte(b, n) => {
+        match r.byte(doc) {
+            None => return Marks { mark, stir },
+            Some((b, n)) => {
                 if is_key(b as u32) {
                     mark = marked(mark, b);
                     stir = stirred(stir, b);
@@ -71,26 +73,25 @@ fn bare_marks(doc: &[u8], from: usize, object: usize) -> Marks
 }
 
 // The marks of the quoted key at a place, in an object.
+#[tactic(auto, using(crate::specs::Names::marking))]
 fn quoted_marks(doc: &[u8], at: usize, object: usize) -> Marks
     requires { Keyed doc.now at × (object < 4294967296) }
     ensures { MarksOf doc.now at object result }
 {
     let mut room = [0u8; 8];
-    let mut s = begin(&*doc, at);
+    let mut s = begin(doc, at);
     let mut mark: u32 = 0;
     let mut stir = object;
     loop {
-        let v = standing(&*doc, s);
+        let v = standing(doc, s);
         if v < 256 {
             mark = marked(mark, v as u8);
             stir = stirred(stir, v as u8);
             s = further(s);
         } else {
-            match next(&*doc, &mut room, s) {
-                Given::End => {
-                    return Marks { mark, stir };
-                }
-                Given::Byte(b, n) => {
+            match next(doc, &mut room, s) {
+                None => return Marks { mark, stir },
+                Some((b, n)) => {
                     mark = marked(mark, b);
                     stir = stirred(stir, b);
                     s = n;
@@ -110,14 +111,12 @@ pub fn marks_of(doc: &[u8], at: usize, object: usize) -> Marks
         row: 0,
         text: 0,
     };
-    let b = c.look(&*doc);
-    if b == 34 {
-        return quoted_marks(&*doc, at, object);
+    let b = c.look(doc);
+    if b == 34 || b == 39 {
+        quoted_marks(doc, at, object)
+    } else {
+        bare_marks(doc, at, object)
     }
-    if b == 39 {
-        return quoted_marks(&*doc, at, object);
-    }
-    bare_marks(&*doc, at, object)
 }
 
 // Where the reading of two texts is.
@@ -128,6 +127,7 @@ pub struct Both {
 }
 
 // The bytes that two texts have in common passed, as far as they stand in the document as they are.
+#[tactic(auto, using(spelt::specs::Standing::passing))]
 fn common(doc: &[u8], a: Spelling, b: Spelling) -> Both
     requires { Spells doc.now a × Spells doc.now b }
     ensures { Common doc.now a b result.one result.two }
@@ -135,11 +135,11 @@ fn common(doc: &[u8], a: Spelling, b: Spelling) -> Both
     let mut s = a;
     let mut t = b;
     loop {
-        let v = standing(&*doc, s);
+        let v = standing(doc, s);
         if 255 < v {
             return Both { one: s, two: t };
         }
-        let w = standing(&*doc, t);
+        let w = standing(doc, t);
         if v != w {
             return Both { one: s, two: t };
         }
@@ -149,37 +149,29 @@ fn common(doc: &[u8], a: Spelling, b: Spelling) -> Both
 }
 
 // How the texts of the keys at two places stand to each other.
-pub fn texts(doc: &[u8], a: usize, b: usize) -> Order
+#[tactic(auto, using(crate::specs::Names::agreeing))]
+pub fn texts(doc: &[u8], a: usize, b: usize) -> Ordering
     requires { Keyed doc.now a × Keyed doc.now b }
     ensures { Ordered (spelled doc.now a) (spelled doc.now b) result }
 {
     let mut room = [0u8; 8];
     let mut other = [0u8; 8];
-    let mut p = common(&*doc, begin(&*doc, a), begin(&*doc, b));
+    let mut p = common(doc, begin(doc, a), begin(doc, b));
     loop {
-        let x = next(&*doc, &mut room, p.one);
-        let y = next(&*doc, &mut other, p.two);
+        let x = next(doc, &mut room, p.one);
+        let y = next(doc, &mut other, p.two);
         match x {
-            Given::End => match y {
-                Given::End => {
-                    return Order::Same;
-                }
-                Given::Byte(_, _) => {
-                    return Order::Less;
-                }
+            None => match y {
+                None => return Ordering::Equal,
+                Some(_) => return Ordering::Less,
             },
-            Given::Byte(c, n) => match y {
-                Given::End => {
-                    return Order::More;
-                }
-                Given::Byte(d, m) => {
-                    if c < d {
-                        return Order::Less;
+            Some((c, n)) => match y {
+                None => return Ordering::Greater,
+                Some((d, m)) => {
+                    if c != d {
+                        return c.cmp(&d);
                     }
-                    if d < c {
-                        return Order::More;
-                    }
-                    p = common(&*doc, n, m);
+                    p = common(doc, n, m);
                 }
             },
         }
@@ -187,37 +179,27 @@ pub fn texts(doc: &[u8], a: usize, b: usize) -> Order
 }
 
 // How two keys stand to each other: by their marks, then by their objects, then by their texts.
-pub fn ordered(doc: &[u8], keys: &[u32], marks: &[u32], i: usize, k: usize) -> Order
+#[tactic(auto, using(crate::specs::Names::comparing))]
+pub fn ordered(doc: &[u8], keys: &[u32], marks: &[u32], i: usize, k: usize) -> Ordering
     requires { Compared doc.now keys.now marks.now i k }
     ensures { Stand doc.now keys.now i k result }
 {
-    let m = marks[i];
-    let o = marks[k];
-    if m < o {
-        return Order::Less;
+    let by_marks = marks[i].cmp(&marks[k]);
+    if by_marks.is_ne() {
+        return by_marks;
     }
-    if o < m {
-        return Order::More;
+    let by_objects = object_of(keys, i).cmp(&object_of(keys, k));
+    if by_objects.is_ne() {
+        return by_objects;
     }
-    let x = object_of(&*keys, i);
-    let y = object_of(&*keys, k);
-    if x < y {
-        return Order::Less;
-    }
-    if y < x {
-        return Order::More;
-    }
-    texts(&*doc, place_of(&*keys, i), place_of(&*keys, k))
+    texts(doc, place_of(keys, i), place_of(keys, k))
 }
 
 // Whether two keys have one object and one text.
+#[tactic(auto, using(crate::specs::Names::standing))]
 pub fn same_key(doc: &[u8], keys: &[u32], marks: &[u32], i: usize, k: usize) -> bool
     requires { Compared doc.now keys.now marks.now i k }
     ensures { Tells (Same (place_keys doc.now keys.now) i k) result }
 {
-    match ordered(&*doc, &*keys, &*marks, i, k) {
-        Order::Less => false,
-        Order::Same => true,
-        Order::More => false,
-    }
+    ordered(doc, keys, marks, i, k).is_eq()
 }

@@ -1,5 +1,5 @@
 -- THE PROMISE ADMITS ONE ANSWER ONLY (`one_answer`, `one_total`), if a document has one tree and is made of allowed characters. Assumes nothing else.
-use Rattle.std.specs.Prelude.{◌≡◌, refl, List, [], ◌∷◌, ◌++◌, Bool, true, false, ℕ, zero, suc, ◌+◌, ◌-◌, ◌*◌, ◌≤◌, ◌<◌, length, take, drop, eqb, ltb}
+use Rattle.std.specs.Prelude.{◌≡◌, refl, List, [], ◌∷◌, ◌++◌, Bool, true, false, ℕ, zero, suc, ◌+◌, ◌-◌, ◌*◌, ◌≤◌, ◌<◌, length, take, drop, eqb, ltb, Ok, Err}
 use Rattle.std.proofs.Common.{sym, ap, subst, ◌∙◌, arith, take_all, take-take}
 use Rattle.std.proofs.Math.Decide.{dec_le}
 use Rattle.std.proofs.Math.Seq.{take-length}
@@ -7,14 +7,13 @@ use borrow.Author.Tests.{lt-ltb, le-ltb}
 use Rattle.notation.specs.Class.{pick}
 use Rattle.notation.specs.Lang.{Begins}
 use Rattle.exact.specs.Verdict.{Far, less, whole}
-use Rattle.language.specs.declared.Answer.{Answer}
-use Rattle.language.specs.declared.Answer.TheVariants.{Accepted, Long, Char, Syntax, Deep, End, Repeat, Rows, Text}
+use Rattle.language.specs.declared.Refusal.TheVariants.{Long, Char, Syntax, Deep, End, Repeat, Rows, Text}
 use Rattle.language.specs.Tree.{Tree, width, size, text_of, escapes_of, rows_of, Repeats}
 use Rattle.language.specs.Characters.{Allowed}
 use Rattle.language.specs.Document.{Document}
 use Rattle.language.specs.Lines.{lines_of}
 use Rattle.language.specs.Lent.{words_in, bytes_in}
-use Rattle.language.specs.Answered.{limit, deepest, LONG, CHAR, SYNTAX, DEEP, END, REPEAT, ROWS, TEXT, number, value, second, third, Viable, Stops, char, syntax, deep, end, Reads, Answered, accepted, long, stopped, repeated, rows, bytes, Totals, total, untold}
+use Rattle.language.specs.Answered.{limit, deepest, LONG, CHAR, SYNTAX, DEEP, END, REPEAT, ROWS, TEXT, Answer, number, value, second, third, Viable, Stops, char, syntax, deep, end, Reads, Answered, accepted, long, stopped, repeated, rows, bytes, Totals, total, untold}
 
 -- WHAT IS TAKEN FROM THE READERS: a document has one tree, and is a sequence of allowed characters
 pub record Known : Type 0 where
@@ -172,27 +171,27 @@ module _ (κ : Known) where
 -- THE CASE of an answer is told by its number and its values
 answer_of : ℕ → ℕ → ℕ → ℕ → Answer
 answer_of n v s z =
-    pick (eqb n LONG) Long
-    (pick (eqb n CHAR) (Char (record { 0 = v }))
-    (pick (eqb n SYNTAX) (Syntax (record { 0 = v }))
-    (pick (eqb n DEEP) (Deep (record { 0 = v }))
-    (pick (eqb n END) (End (record { 0 = v }))
-    (pick (eqb n REPEAT) (Repeat (record { 0 = v }))
-    (pick (eqb n ROWS) (Rows (record { 0 = v }))
-    (pick (eqb n TEXT) (Text v)
-    (Accepted (record { 0 = v }) s z))))))))
+    pick (eqb n LONG) (Err Long)
+    (pick (eqb n CHAR) (Err (Char (record { 0 = v })))
+    (pick (eqb n SYNTAX) (Err (Syntax (record { 0 = v })))
+    (pick (eqb n DEEP) (Err (Deep (record { 0 = v })))
+    (pick (eqb n END) (Err (End (record { 0 = v })))
+    (pick (eqb n REPEAT) (Err (Repeat (record { 0 = v })))
+    (pick (eqb n ROWS) (Err (Rows (record { 0 = v })))
+    (pick (eqb n TEXT) (Err (Text v))
+    (Ok (record { rows = record { 0 = v }; text = s; escapes = z })))))))))
 
 is_answer : (a : Answer) → answer_of (number a) (value a) (second a) (third a) ≡ a
 unfolding answer_of
-is_answer (Accepted n m z) = refl
-is_answer Long = refl
-is_answer (Char p) = refl
-is_answer (Syntax p) = refl
-is_answer (Deep p) = refl
-is_answer (End p) = refl
-is_answer (Repeat p) = refl
-is_answer (Rows n) = refl
-is_answer (Text m) = refl
+is_answer (Ok x) = refl
+is_answer (Err Long) = refl
+is_answer (Err (Char p)) = refl
+is_answer (Err (Syntax p)) = refl
+is_answer (Err (Deep p)) = refl
+is_answer (Err (End p)) = refl
+is_answer (Err (Repeat p)) = refl
+is_answer (Err (Rows n)) = refl
+is_answer (Err (Text m)) = refl
 
 pub answer_tells : (a b : Answer) → number a ≡ number b → value a ≡ value b → second a ≡ second b → third a ≡ third b → a ≡ b
 answer_tells a b n v s z = sym (is_answer a) ∙ (rw (n, v, s, z) refl ∙ is_answer b)

@@ -1,4 +1,3 @@
--- Laws that several proofs use: of rows, of texts, of the walk.
+-- Laws that several proofs use: of good rows and their texts, of the two questions of a text, of the walk.
 pub mod RowLaws
-pub mod TextLaws
 pub mod WalkLaws

@@ -1,21 +1,21 @@
--- Laws of good rows and their texts, as `search` takes them. Assumes nothing.
-use mathlib.Core.Path.{◌≡◌, refl, sym, ap, ◌∙◌}
-use mathlib.Core.Bool.{Bool, true, false, ◌&&◌}
-use mathlib.Core.List.{List}
-use Prim.Native.Nat.{ℕ, ◌+◌, ◌*◌, ◌/◌, ◌≤◌, ◌<◌}
-use native.Mathlib.Omega.{arith}
-use mir.Syntax.{w64}
-use mir.Val.{Fits}
-use lib.ListN.{length, get_or}
-use lib.Dec.{leb, ltb, eqb}
-use borrow.Author.Rules.{rules}
-use borrow.Author.Tests.{lt-ltb, le-ltb, le-leb, lt-leb, ltb-true, leb-true, ltb-false}
-use Rattle.language.specs.Kind.{has_text}
+-- Laws of good rows and their texts. Assumes nothing.
+use Rattle.std.proofs.Common.{◌≡◌, ℕ, ◌+◌, ◌*◌, ◌-◌, ◌/◌, ◌≤◌, ◌<◌, Bool, true, false, ◌⊎◌, inl, inr, List, [], length, take, drop, leb, ltb, eqb, Fits, w64, Option, Some, None, Result, Ok, Err, refl, sym, subst, ap, ap₂, ◌∙◌, arith, le-leb, leb-true, ltb-true, ltb-false}
+use Rattle.std.specs.Borrow.{Bor}
+use Rattle.std.specs.Option.{MatchOption, unwrap_or, is_some}
+use Rattle.std.specs.Result.{IsErr}
+use Rattle.std.specs.List.{slice_range}
+use Rattle.std.proofs.lemmas.Bool.{lt-leb}
+use Rattle.std.proofs.lemmas.List.{drop-take, take-take, length-take-le}
+use Rattle.language.specs.Kind.{KEY, pick, has_text}
 use Rattle.language.specs.Tree.{width}
 use Rattle.language.specs.Lent.{words_in, bytes_in}
-use Rattle.questions.specs.Both.{both_left, both_right, not_left, not_right, then_right}
-use Rattle.questions.specs.Table.{word, kind, start, end, good, readable}
-use Rattle.questions.specs.Contract.{is_kind, Held}
+use Rattle.questions.specs.Both.{both_left, both_right, not_left, then_right}
+use Rattle.questions.specs.Number.{BADROW}
+use Rattle.questions.specs.Table.{kind, start, end, good, readable}
+use Rattle.questions.specs.Text.{part, text_of, text_number}
+use Rattle.questions.specs.Walk.{paired}
+use Rattle.questions.specs.declared.BadRow.{BadRow}
+use Rattle.questions.specs.Contract.{Held, Part, TextIn, KeyAt}
 
 -- ---- a good row
 
@@ -27,13 +27,13 @@ module _ (table : List ℕ) (R r : ℕ) where
       go true h = let l = ltb-true r (words_in table / width) h in sym (le-leb (width * (r + 1)) (words_in table) (omega arith))
       go false h = let l = ltb-false r (words_in table / width) h in sym (lt-leb (width * (r + 1)) (words_in table) (omega arith))
 
-  pub good_below : (n : ℕ) → n ≡ words_in table / width → r < R → ltb r n ≡ good table R r
+  pub good_below : (n : ℕ) → n ≡ words_in table / width → ltb r R ≡ true → ltb r n ≡ good table R r
   unfolding good
-  good_below n e h = then_right _ _ _ (lt-ltb r R h) (ap (ltb r) e ∙ whole_row)
+  good_below n e h = then_right _ _ _ h (ap (ltb r) e ∙ whole_row)
 
-  pub good_past : R ≤ r → false ≡ good table R r
+  pub good_past : ltb r R ≡ false → ltb r R ≡ good table R r
   unfolding good
-  good_past h = not_left _ _ (le-ltb r R h)
+  good_past h = h ∙ not_left _ _ h
 
   module _ (g : Bool) (said : g ≡ good table R r) (taken : g ≡ true) where
     pub good_row : r < R
@@ -50,81 +50,112 @@ module _ (table : List ℕ) (R r : ℕ) where
     pub good_held : (k : ℕ) → k < width → Held table r k
     good_held k h = record { whole = good_whole; one = h }
 
--- ---- a word of it
-
-pub word_read : (table : List ℕ) (r k x : ℕ) → x ≡ get_or table (width * r + k) 0 → x ≡ word table r k
-unfolding word
-word_read table r k x h = h
-
-pub kind_same : (table : List ℕ) (r x k : ℕ) → x ≡ kind table r → eqb x k ≡ is_kind table r k
-kind_same table r x k h = ap (λ n. eqb n k) h
-
 -- ---- its text
 
 module _ (table : List ℕ) (R : ℕ) (room : List ℕ) (r : ℕ) where
-  abbrev G : Bool
-  G = good table R r
+  pub read_bad : good table R r ≡ false → readable table R room r ≡ false
+  unfolding readable
+  read_bad n = simp n
 
-  abbrev H : Bool
-  H = has_text (kind table r)
+  pub read_kind : good table R r ≡ true → has_text (kind table r) ≡ false → readable table R room r ≡ false
+  unfolding readable
+  read_kind g n = simp (g, n)
 
-  abbrev S : Bool
-  S = leb (start table r) (end table r)
-
-  abbrev E : Bool
-  E = leb (end table r) (bytes_in room)
-
-  module _ (g : Bool) (said : g ≡ good table R r) where
-    pub read_bad : g ≡ false → false ≡ readable table R room r
+  module _ (g : good table R r ≡ true) (h : has_text (kind table r) ≡ true) where
+    read_order : end table r < start table r → readable table R room r ≡ false
     unfolding readable
-    read_bad n = not_left G (H && (S && E)) (sym said ∙ n)
+    read_order l = simp (g, h, lt-leb (start table r) (end table r) l)
 
-    module _ (row : g ≡ true) (h : Bool) (k : ℕ) (its : k ≡ kind table r) (has : h ≡ has_text k) where
-      texted : H ≡ h
-      texted = ap has_text (sym its) ∙ sym has
-
-      pub read_kind : h ≡ false → false ≡ readable table R room r
-      unfolding readable
-      read_kind n = not_right G (H && (S && E)) (sym (not_left H (S && E) (texted ∙ n)))
-
-      module _ (text : h ≡ true) (s e : ℕ) (from : s ≡ start table r) (to : e ≡ end table r) where
-        pub read_order : e < s → false ≡ readable table R room r
-        unfolding readable
-        read_order l =
-            not_right G (H && (S && E))
-            (sym (not_right H (S && E) (sym (not_left S E (lt-leb (start table r) (end table r) (rw (← from, ← to) l))))))
-
-        pub read_room : (n : ℕ) → n ≡ bytes_in room → s ≤ e → leb e n ≡ readable table R room r
-        unfolding readable
-        read_room n z l =
-            then_right G (H && (S && E)) (leb e n) (sym said ∙ row)
-            (then_right H (S && E) (leb e n) (texted ∙ text)
-            (then_right S E (leb e n) (le-leb (start table r) (end table r) (rw (← from, ← to) l)) (ap (λ m. leb m n) to ∙ ap (leb (end table r)) z)))
-
-  module _ (b : Bool) (said : b ≡ readable table R room r) (taken : b ≡ true) where
-    read_all : (G && (H && (S && E))) ≡ true
+    read_room : start table r ≤ end table r → bytes_in room < end table r → readable table R room r ≡ false
     unfolding readable
-    read_all = sym said ∙ taken
+    read_room l m = simp (g, h, le-leb (start table r) (end table r) l, lt-leb (end table r) (bytes_in room) m)
 
-    read_spans : (S && E) ≡ true
-    read_spans = both_right H (S && E) (both_right G (H && (S && E)) read_all)
+    read_whole : start table r ≤ end table r → end table r ≤ bytes_in room → readable table R room r ≡ true
+    unfolding readable
+    read_whole l m = simp (g, h, le-leb (start table r) (end table r) l, le-leb (end table r) (bytes_in room) m)
 
-    pub read_good : true ≡ good table R r
-    read_good = sym (both_left G (H && (S && E)) read_all)
+    within : (s e n : ℕ) → s ≤ e → e ≤ n → slice_range (take n room) s e ≡ slice_range room s e
+    within s e n l m =
+        let d : n ≡ s + (n - s) = omega arith in
+        ap (λ k. take (e - s) (drop s (take k room))) d ∙ (ap (take (e - s)) (drop-take s (n - s) room) ∙ take-take (e - s) (n - s) (drop s room) (omega arith))
 
-    pub read_start : start table r ≤ end table r
-    read_start = leb-true (start table r) (end table r) (both_left S E read_spans)
+    taken : (n : ℕ) → n ≡ bytes_in room → length (take n room) ≡ n
+    taken n z = length-take-le n room (omega arith)
 
-    pub read_end : end table r ≤ length room
-    read_end = omega (arith, leb-true (end table r) (bytes_in room) (both_right S E read_spans))
+    -- what `get` tells of the part of the room that the row names
+    pub read_part : (s e n : ℕ) → s ≡ start table r → e ≡ end table r → n ≡ bytes_in room → (o : Option (Bor (List ℕ)))
+        → MatchOption o ((e < s) ⊎ (length (take n room) < e)) (λ x. (s ≤ e) × (e ≤ length (take n room)) × (x.now ≡ slice_range (take n room) s e) × (length x.now + s ≡ e))
+        → TextIn table R room r o
+    unfolding part
+    read_part s e n p q z (Some x) k =
+        let m = taken n z in
+        let w = within s e n k.0 (omega arith) in
+        record {
+          read = read_whole (omega arith) (omega arith);
+          is = k.2 ∙ (w ∙ ap₂ (λ i j. take (j - i) (drop i room)) p q);
+        }
+    read_part s e n p q z None (inl l) = read_order (omega arith)
+    read_part s e n p q z None (inr l) = let m = taken n z in by (ltb e s) refl
+      where
+        by : (b : Bool) → ltb e s ≡ b → readable table R room r ≡ false
+        by true h = let k = ltb-true e s h in read_order (omega arith)
+        by false h = let k = ltb-false e s h in let m = taken n z in read_room (omega arith) (omega arith)
+
+  module _ (read : readable table R room r ≡ true) where
+    read_good : good table R r ≡ true
+    unfolding readable
+    read_good = both_left (good table R r) _ read
 
     pub read_held : (k : ℕ) → k < width → Held table r k
-    read_held k h = good_held table R r true read_good refl k h
+    read_held k h = good_held table R r true (sym read_good) refl k h
 
     pub read_row : r < R
-    read_row = good_row table R r true read_good refl
+    read_row = good_row table R r true (sym read_good) refl
 
     pub read_fits : Fits w64 R → Fits w64 (r + 1)
-    read_fits = good_fits table R r true read_good refl
+    read_fits f = good_fits table R r true (sym read_good) refl f
 
-pub ruleset rows = (good_below, good_past, good_row, good_whole, good_held, word_read, kind_same, read_bad, read_kind, read_order, read_room, rules)
+-- ---- a pair
+
+module _ (table : List ℕ) (R : ℕ) (room : List ℕ) (r : ℕ) where
+  pub some_text : {o : Option (Bor (List ℕ))} {t : Bor (List ℕ)} → TextIn table R room r o → o ≡ Some t → Part table R room r t.now
+  some_text h e = subst (TextIn table R room r) e h
+
+  pub none_text : {o : Option (Bor (List ℕ))} → TextIn table R room r o → o ≡ None → readable table R room r ≡ false
+  none_text h e = subst (TextIn table R room r) e h
+
+  pub no_name : (x : Result (Bor (List ℕ)) BadRow) → IsErr x → readable table R room r ≡ false → KeyAt table R room r x
+  unfolding paired
+  no_name (Ok t) h n = cc
+  no_name (Err e) h n = simp n
+
+  module _ (read : readable table R room r ≡ true) where
+    pub other_kind : eqb (kind table r) KEY ≡ false → paired table R room r ≡ false
+    unfolding paired
+    other_kind n = simp (read, n)
+
+    module _ (key : eqb (kind table r) KEY ≡ true) where
+      pub bad_value : good table R (r + 1) ≡ false → paired table R room r ≡ false
+      unfolding paired
+      bad_value n = simp (read, key, n)
+
+      pub good_value : good table R (r + 1) ≡ true → paired table R room r ≡ true
+      unfolding paired
+      good_value n = simp (read, key, n)
+
+  pub pair_held : paired table R room r ≡ true → (k : ℕ) → k < width → Held table (r + 1) k
+  unfolding paired
+  pair_held p = good_held table R (r + 1) true (sym (both_right (eqb (kind table r) KEY) _ (both_right (readable table R room r) _ p))) refl
+
+-- ---- the two questions of a text
+
+module _ (table : List ℕ) (R : ℕ) (room : List ℕ) (r : ℕ) where
+  pub text_told : (o : Option (Bor (List ℕ))) → TextIn table R room r o → (e : Bor (List ℕ)) → e.now ≡ [] → (unwrap_or o e).now ≡ text_of table R room r
+  unfolding text_of
+  text_told (Some t) h e n = h.is ∙ sym (simp h.read)
+  text_told None h e n = n ∙ sym (simp h)
+
+  pub number_told : (o : Option (Bor (List ℕ))) → TextIn table R room r o → (pick (is_some o) 0 BADROW) ≡ text_number table R room r
+  unfolding text_number
+  number_told (Some t) h = sym (simp h.read)
+  number_told None h = sym (simp h)

@@ -1,11 +1,9 @@
 -- EACH QUESTION HAS ONE ANSWER ONLY (01, What each statement has to settle). Assumes nothing.
-use Rattle.std.specs.Prelude.{◌≡◌, refl, List, ℕ, ◌+◌, ◌≤◌, ◌<◌}
+use Rattle.std.specs.Prelude.{◌≡◌, refl, List, ℕ, ◌≤◌, ◌<◌, Some, None, Ok, Err}
 use Rattle.std.proofs.Common.{sym, ap, ◌∙◌, arith}
 use mathlib.Core.Bool.{Bool, true, false}
-use Rattle.questions.specs.declared.Found.{Found}
-use Rattle.questions.specs.declared.Found.TheVariants.{At, Missing, BadRow}
 use Rattle.questions.specs.Text.{text_number, text_of}
-use Rattle.questions.specs.Walk.{Reply, found_reply, Walk, ends, breaks, matches, strays, goes, Finds, refused, walked}
+use Rattle.questions.specs.Walk.{Reply, Found, found_reply, Walk, ends, breaks, matches, strays, goes, Finds, refused, walked}
 
 clash : {X : Type 0} {b : Bool} → b ≡ true → b ≡ false → X
 clash p q = absurd (mathlib.Core.Bool.true≢false (sym p ∙ q))
@@ -60,15 +58,15 @@ one_find (walked x w) (walked y v) = one_walk w v
 
 -- a number and a value tell the answer
 pub reply_tells : (f g : Found) → found_reply f ≡ found_reply g → f ≡ g
-reply_tells (At r) (At s) e = ap (λ (x : Reply). At (record { 0 = x.value })) e
-reply_tells (At r) Missing e = absurd (omega (arith, ap (λ (x : Reply). x.number) e))
-reply_tells (At r) BadRow e = absurd (omega (arith, ap (λ (x : Reply). x.number) e))
-reply_tells Missing (At s) e = absurd (omega (arith, ap (λ (x : Reply). x.number) e))
-reply_tells Missing Missing e = refl
-reply_tells Missing BadRow e = absurd (omega (arith, ap (λ (x : Reply). x.number) e))
-reply_tells BadRow (At s) e = absurd (omega (arith, ap (λ (x : Reply). x.number) e))
-reply_tells BadRow Missing e = absurd (omega (arith, ap (λ (x : Reply). x.number) e))
-reply_tells BadRow BadRow e = refl
+reply_tells (Ok (Some r)) (Ok (Some s)) e = ap (λ (x : Reply). Ok (Some (record { 0 = x.value }))) e
+reply_tells (Ok (Some r)) (Ok None) e = absurd (omega (arith, ap (λ (x : Reply). x.number) e))
+reply_tells (Ok (Some r)) (Err _) e = absurd (omega (arith, ap (λ (x : Reply). x.number) e))
+reply_tells (Ok None) (Ok (Some s)) e = absurd (omega (arith, ap (λ (x : Reply). x.number) e))
+reply_tells (Ok None) (Ok None) e = refl
+reply_tells (Ok None) (Err _) e = absurd (omega (arith, ap (λ (x : Reply). x.number) e))
+reply_tells (Err _) (Ok (Some s)) e = absurd (omega (arith, ap (λ (x : Reply). x.number) e))
+reply_tells (Err _) (Ok None) e = absurd (omega (arith, ap (λ (x : Reply). x.number) e))
+reply_tells (Err _) (Err _) e = refl
 
 pub one_found : (table : List ℕ) (R : ℕ) (room key : List ℕ) (r : ℕ) (f g : Found)
     → Finds table R room key r (found_reply f) → Finds table R room key r (found_reply g) → f ≡ g

@@ -1,8 +1,8 @@
 -- FINDING A KEY IN AN OBJECT ROW (01, Questions). Assumes nothing.
-use Rattle.std.specs.Prelude.{◌≡◌, Bool, true, false, ◌&&◌, List, ℕ, ◌+◌, ◌≤◌, ◌<◌, eqb, leb, ltb}
+use Rattle.std.specs.Prelude.{◌≡◌, Bool, true, false, ◌&&◌, List, ℕ, ◌+◌, ◌≤◌, ◌<◌, eqb, leb, ltb, Option, Some, None, Result, Ok, Err}
 use Rattle.language.specs.Kind.{OBJECT, KEY}
-use Rattle.questions.specs.declared.Found.{Found}
-use Rattle.questions.specs.declared.Found.TheVariants.{At, Missing, BadRow}
+use Rattle.language.specs.declared.Row.{Row}
+use Rattle.questions.specs.declared.BadRow.{BadRow}
 use Rattle.questions.specs.Number.{BADROW, NONE}
 use Rattle.questions.specs.Table.{good, readable, kind, next}
 use Rattle.questions.specs.Text.{part}
@@ -18,11 +18,18 @@ answer row = record { number = 0; value = row }
 abbrev pub refusal : ℕ → Reply
 refusal n = record { number = n; value = 0 }
 
+-- what `find` answers
+abbrev pub Found : Type 0
+Found = Result (Option Row) BadRow
+
+abbrev pub bad_row : Found
+bad_row = Err (record {})
+
 -- the number and the value of each answer of `find`
 abbrev pub found_reply : Found → Reply
-found_reply (At row) = answer row.0
-found_reply Missing = refusal NONE
-found_reply BadRow = refusal BADROW
+found_reply (Ok (Some row)) = answer row.0
+found_reply (Ok None) = refusal NONE
+found_reply (Err _) = refusal BADROW
 
 -- "first a key row, good, of kind 10 and with readable text; then the next row, which must be good"
 unfoldable pub paired : List ℕ → ℕ → List ℕ → ℕ → Bool

@@ -1,79 +1,69 @@
 // Finding a key in an object row, by the walk over its pairs.
-ghost use Rattle.std.specs.Prelude.{◌≡◌};
 ghost use Rattle.questions.specs.Walk as W;
-ghost use Rattle.questions.specs.Contract.{Same};
+ghost use Rattle.questions.specs.Contract.{KeyAt};
 
-use super::Found;
-use super::reading::text;
-use super::table::{NEXT, good, is_kind, readable, word};
+use super::BadRow;
+use super::table::{NEXT, good, kind_of, text_in, word};
 use language::{Kind, Row};
 
-// Whether two texts are the same bytes.
-fn same(a: &[u8], b: &[u8]) -> bool
-    ensures { Same a.now b.now result }
+// The text of the key that stands at `at`, with a good row behind it.
+fn key_at<'t, 'r>(
+    table: &'t [u32],
+    rows: usize,
+    room: &'r [u8],
+    at: usize,
+) -> Result<&'r [u8], BadRow>
+    ensures { KeyAt table.now rows room.now at result }
 {
-    if a.len() != b.len() {
-        return false;
+    let name = text_in(table, rows, room, at).ok_or(BadRow)?;
+    if kind_of(table, at) == Kind::KEY && good(table, rows, at + 1) {
+        Ok(name)
+    } else {
+        Err(BadRow)
     }
-    let mut i = 0;
-    while i < a.len() {
-        if a[i] != b[i] {
-            return false;
-        }
-        i += 1;
-    }
-    true
-}
-
-// Whether a key that can be read stands at `at`, and a good row behind it.
-fn paired(table: &[u32], rows: usize, room: &[u8], at: usize) -> bool
-    ensures { result ≡ W.paired table.now rows room.now at }
-{
-    if readable(&*table, rows, &*room, at) {
-        if is_kind(&*table, at, Kind::KEY) {
-            return good(&*table, rows, at + 1);
-        }
-    }
-    false
 }
 
 // The walk from row `from` while below `stop`.
-fn walk(table: &[u32], rows: usize, room: &[u8], key: &[u8], stop: usize, from: usize) -> Found
+fn walk(
+    table: &[u32],
+    rows: usize,
+    room: &[u8],
+    key: &[u8],
+    stop: usize,
+    from: usize,
+) -> Result<Option<Row>, BadRow>
     ensures { W.Walk table.now rows room.now key.now stop from (W.found_reply result) }
 {
     let mut at = from;
     while at < stop {
-        if paired(&*table, rows, &*room, at) {
-            let value = at + 1;
-            let name = text(&*table, rows, &*room, Row(at));
-            if same(&*name, &*key) {
-                return Found::At(Row(value));
-            }
-            let next = word(&*table, value, NEXT);
-            if next <= value {
-                return Found::BadRow;
-            }
-            if stop < next {
-                return Found::BadRow;
-            }
-            at = next;
-        } else {
-            return Found::BadRow;
+        let name = key_at(table, rows, room, at)?;
+        let value = at + 1;
+        if name == key {
+            return Ok(Some(Row(value)));
         }
+        let next = word(table, value, NEXT);
+        if next <= value || stop < next {
+            return Err(BadRow);
+        }
+        at = next;
     }
-    Found::Missing
+    Ok(None)
 }
 
-// The row of the value of a key in an object.
-pub fn find(table: &[u32], rows: usize, room: &[u8], object: Row, key: &[u8]) -> Found
+// The row of the value of a key in an object, where the key is there.
+pub fn find(
+    table: &[u32],
+    rows: usize,
+    room: &[u8],
+    object: Row,
+    key: &[u8],
+) -> Result<Option<Row>, BadRow>
     ensures { W.Finds table.now rows room.now key.now object.0 (W.found_reply result) }
 {
     let r = object.0;
-    if good(&*table, rows, r) {
-        if is_kind(&*table, r, Kind::OBJECT) {
-            let stop = word(&*table, r, NEXT);
-            return walk(&*table, rows, &*room, &*key, stop, r + 1);
-        }
+    if good(table, rows, r) && kind_of(table, r) == Kind::OBJECT {
+        walk(table, rows, room, key, word(table, r, NEXT), r + 1)
+    } else {
+        Err(BadRow)
     }
-    Found::BadRow
 }

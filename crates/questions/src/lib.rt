@@ -1,8 +1,6 @@
 // The questions of document 01, asked of any lent table, row count and text room. None has a `requires`.
 #![tactic(auto)]
 
-use language::Row;
-
 mod finding;
 mod reading;
 mod table;
@@ -10,10 +8,6 @@ mod table;
 pub use finding::find;
 pub use reading::{text, text_number};
 
-// Where the value of a key stands.
-#[derive(Clone, Copy)]
-pub enum Found {
-    At(Row),
-    Missing,
-    BadRow,
-}
+// A row that is asked of is bad, or of another kind, or what stands in it cannot be.
+#[derive(Clone, Copy, Debug, PartialEq, Eq)]
+pub struct BadRow;

@@ -1,17 +1,17 @@
 -- HOW THE ANSWER FOLLOWS where a document was read into rooms of our own, whose rows may be too few. Assumes nothing.
-use Rattle.std.specs.Prelude.{◌≡◌, refl, List, ℕ, ◌+◌, ◌*◌, ◌≤◌, ◌<◌, length, get_or, replicate}
-use Rattle.std.proofs.Common.{sym, subst, ◌∙◌, arith, rules}
+use Rattle.std.specs.Prelude.{◌≡◌, refl, List, ℕ, ◌+◌, ◌-◌, ◌*◌, ◌/◌, ◌%◌, ◌≤◌, ◌<◌, length, get_or, replicate}
+use Rattle.std.proofs.Common.{sym, subst, ◌∙◌, arith}
 use Rattle.std.proofs.lemmas.List.{length-replicate}
+use native.Mathlib.Nat.{mul-le-mul}
 use Rattle.rooms.specs.declared.Cursor.{Cursor}
-use Rattle.rooms.specs.declared.Ans.{Ans}
-use Rattle.rooms.specs.declared.Ans.TheVariants.{Ok}
+use Rattle.rooms.specs.Contract.{Ans}
+use Rattle.std.specs.declared.result.Result.TheVariants.{Ok}
 use Rattle.rooms.specs.Told.{spot, tally}
 use Rattle.rooms.specs.Forest.{length_rows}
-use Rattle.reader.specs.declared.Tried.{Tried}
-use Rattle.reader.specs.declared.Tried.TheVariants.{Settled, TooFew}
-use Rattle.language.specs.declared.Answer.{Answer}
+use Rattle.std.specs.Prelude.{Option}
+use Rattle.std.specs.declared.option.Option.TheVariants.{None, Some}
 use Rattle.language.specs.Tree.{unlined, width, text_of, rows_of}
-use Rattle.language.specs.Answered.{limit, deepest, number, value, second, third, Answered, Totals}
+use Rattle.language.specs.Answered.{Answer, limit, deepest, number, value, second, third, Answered, Totals}
 use Rattle.spans.proofs.DocumentLaws.{few_rows, few_text}
 use Rattle.notes.specs.Flat.{flat}
 use Rattle.notes.specs.Notes.{Kept}
@@ -22,61 +22,6 @@ use Rattle.answers.specs.Held.{Held}
 use Rattle.judge.specs.Blamed.{Blamed}
 use Rattle.judge.specs.Contract.{Known, Checked, Filled, Logged}
 use Rattle.reader.specs.Judged.{accepts, answer_stop, stop_total}
-
--- few bytes, some, and more
-abbrev pub few_bytes : ℕ
-few_bytes = 1024
-
-abbrev pub some_bytes : ℕ
-some_bytes = 4096
-
-abbrev pub more_bytes : ℕ
-more_bytes = 16384
-
--- rooms of a class are for a document of so many bytes
-pub record Classed (doc : List ℕ) (class : ℕ) : Type 0 where
-  pub short : length doc ≤ limit
-  pub few : class ≡ 0 → length doc ≤ few_bytes
-  pub some : class ≡ 1 → length doc ≤ some_bytes
-  pub more : class ≡ 2 → length doc ≤ more_bytes
-
-module _ (doc : List ℕ) where
-  -- the last two are for any
-  pub classed_last : (c : ℕ) → 2 < c → length doc ≤ limit → Classed doc c
-  classed_last c l h = record { short = h; few = λ e. absurd (omega arith); some = λ e. absurd (omega arith); more = λ e. absurd (omega arith) }
-
-  pub classed_few : length doc ≤ few_bytes → Classed doc 0
-  classed_few h = record { short = omega arith; few = λ e. h; some = λ e. absurd (omega arith); more = λ e. absurd (omega arith) }
-
-  pub classed_some : length doc ≤ some_bytes → Classed doc 1
-  classed_some h = record { short = omega arith; few = λ e. absurd (omega arith); some = λ e. h; more = λ e. absurd (omega arith) }
-
-  pub classed_more : length doc ≤ more_bytes → Classed doc 2
-  classed_more h = record { short = omega arith; few = λ e. absurd (omega arith); some = λ e. absurd (omega arith); more = λ e. h }
-
-  module _ (c : ℕ) (x : Classed doc c) where
-    pub class_limit : length doc ≤ limit
-    class_limit = x.short
-
-    pub class_few : c ≡ 0 → length doc ≤ few_bytes
-    class_few = x.few
-
-    pub class_some : c ≡ 1 → length doc ≤ some_bytes
-    class_some = x.some
-
-    pub class_more : c ≡ 2 → length doc ≤ more_bytes
-    class_more = x.more
-
-    -- where rows are too few the next class has more
-    pub after_few : c ≡ 0 → Classed doc 1
-    after_few e = let l = x.few e in classed_some (omega arith)
-
-    pub after_some : c ≡ 1 → Classed doc 2
-    after_some e = let l = x.some e in classed_more (omega arith)
-
-pub ruleset classing = (classed_last, classed_few, classed_some, classed_more, rules)
-
-pub ruleset classes = (class_limit, class_few, class_some, class_more, after_few, after_some, classed_last, rules)
 
 -- the document is within the limit; no key is noted in the log; the text room of our own is large enough for any of so many bytes
 pub record Texted (doc K R T : List ℕ) : Type 0 where
@@ -103,26 +48,38 @@ texted doc keys words rows bytes l e p k h =
       text_fits = omega (arith, length-replicate {A = ℕ} bytes 0);
     }
 
+-- rooms with nothing in them
+pub in_room : (doc : List ℕ) (log words bytes : ℕ) → length doc ≤ bytes → bytes ≤ limit → 4 < log → log ≤ 13124 → log % 4 ≡ 0 → Texted doc (replicate log 0) (replicate words 0) (replicate bytes 0)
+in_room doc log words bytes h b l s m = texted doc ((log - 4) / 4) log words bytes (omega arith) (omega arith) (omega arith) (omega arith) h
+
+-- the i-th of eight parts of a document has 64 bytes
+pub part_inside : (n i : ℕ) → 512 ≤ n → i < 8 → i * (n / 8) + 64 ≤ n
+part_inside n i l h = omega (arith, mul-le-mul {n₁ = i} {m₁ = n / 8} {n₂ = 7} {m₂ = n / 8} (omega arith) (omega arith))
+
 -- n rows, m text bytes and z escapes were read into rooms of our own, which hold them if there are rows enough and no key was left out of the log
 pub record Read (doc K R T : List ℕ) (n m z : ℕ) : Type 0 where
   pub few : n ≤ limit
   pub four : 3 < length K
   pub held : width * n ≤ length R → get_or K 3 0 ≡ 0 → Held doc K R T n m z
 
+-- what an attempt gives: the answer, or none
+abbrev pub Tried : Type 0
+Tried = Option Answer
+
 -- AN ATTEMPT: the answer; or the rows of our own are too few, and nothing lent is changed
 unfoldable pub Attempted : List ℕ → List ℕ → List ℕ → Tried → List ℕ → List ℕ → Type 0
-Attempted doc table text (Settled a) table' text' = Answered doc table text (number a) (value a) (second a) table' text' × Totals doc (number a) (third a)
-Attempted doc table text TooFew table' text' = (table' ≡ table) × (text' ≡ text)
+Attempted doc table text (Some a) table' text' = Answered doc table text (number a) (value a) (second a) table' text' × Totals doc (number a) (third a)
+Attempted doc table text None table' text' = (table' ≡ table) × (text' ≡ text)
 
-pub reads : (doc K K' R R' T T' : List ℕ) (a : Ans) (c : Cursor) (m z : ℕ) → m ≡ spot c.text → z ≡ tally c.text → Texted doc K R T → Checked deepest doc a → a ≡ Ok c → Filled deepest doc R R' T T'
-    → Logged deepest doc K K' → length R' ≡ length R → length T' ≡ length T → Read doc K' R' T' c.row m z
+pub reads : (doc K K' R R' T T' : List ℕ) (a : Ans) (c : Cursor) (n m z : ℕ) → n ≡ c.row → m ≡ spot c.text → z ≡ tally c.text → Texted doc K R T → Checked deepest doc a → a ≡ Ok c → Filled deepest doc R R' T T'
+    → Logged deepest doc K K' → length R' ≡ length R → length T' ≡ length T → Read doc K' R' T' n m z
 unfolding Checked
-reads doc K K' R R' T T' a c m z p q f x e w o u v =
+reads doc K K' R R' T T' a c n m z r p q f x e w o u v =
     let g : Known deepest doc c = rw e at x in
     let t = g.tree in
     let d = accepts deepest doc t g.is in
     let y = w.filled t g.is in
-    let n = length_rows unlined 0 0 0 t in
+    let s = length_rows unlined 0 0 0 t in
     let h = few_rows deepest doc t d in
     let k = few_text deepest doc t d in
     let l = f.short in
@@ -130,19 +87,19 @@ reads doc K K' R R' T T' a c m z p q f x e w o u v =
     let b = windowed_plain doc (replicate f.words 0) K' (flat 0 0 t) f.keys 0 f.keys 0 (room_first f.words f.keys f.halves) f.some f.small (omega arith) l
     (subst (λ (S : List ℕ). Kept doc 0 (flat 0 0 t) (length doc) S K') f.empty (o.logged t g.is)) in
     record {
-      few = omega (arith, g.row);
+      few = omega (arith, r, g.row);
       four = omega (arith, b.long);
       held = λ i w.
           record {
             log = record { tree = t; word = d; holds = holds_whole doc K' (flat 0 0 t) f.keys b w };
             short = l;
-            row = g.row;
+            row = r ∙ g.row;
             text_count = p ∙ g.text;
             escape_count = q ∙ g.escapes;
             few = i;
             fits = omega (arith, g.text);
-            small = omega (arith, g.row, g.text);
-            table_is = subst (λ (s : List ℕ). Stands s 0 (rows_of unlined 0 0 0 t)) (sym y.0) (stands_sets R 0 (rows_of unlined 0 0 0 t) (omega (arith, g.row)));
+            small = omega (arith, r, g.row, g.text);
+            table_is = subst (λ (s : List ℕ). Stands s 0 (rows_of unlined 0 0 0 t)) (sym y.0) (stands_sets R 0 (rows_of unlined 0 0 0 t) (omega (arith, r, g.row)));
             text_is = subst (λ (s : List ℕ). Stands s 0 (text_of t)) (sym y.1) (stands_sets T 0 (text_of t) (omega arith));
           };
     }
@@ -154,30 +111,38 @@ pub read_four : (doc K R T : List ℕ) (n m z : ℕ) → Read doc K R T n m z �
 read_four doc K R T n m z f = f.four
 
 module _ (doc table text : List ℕ) where
-  pub attempt_stop : (a : Answer) → length doc ≤ limit → Blamed doc a → Attempted doc table text (Settled a) table text
+  pub attempt_stop : (a : Answer) → length doc ≤ limit → Blamed doc a → Attempted doc table text (Some a) table text
   unfolding Attempted
   attempt_stop a l x = (answer_stop doc table text a l x, stop_total doc a x)
 
-  pub attempt_few : Attempted doc table text TooFew table text
+  pub attempt_few : Attempted doc table text None table text
   unfolding Attempted
   attempt_few = (refl, refl)
 
   pub attempt_done : (a : Answer) (table' text' : List ℕ) → Answered doc table text (number a) (value a) (second a) table' text' → Totals doc (number a) (third a)
-      → Attempted doc table text (Settled a) table' text'
+      → Attempted doc table text (Some a) table' text'
   unfolding Attempted
   attempt_done a table' text' x y = (x, y)
 
   module _ (r : Tried) (table' text' : List ℕ) (x : Attempted doc table text r table' text') where
-    pub tried_answer : (a : Answer) → r ≡ Settled a → Answered doc table text (number a) (value a) (second a) table' text'
+    pub attempt_there : (a : Answer) → r ≡ Some a → Attempted doc table text (Some a) table' text'
+    attempt_there a e = rw e at x
+
+    -- the rooms lent are as they came, for the next rooms of our own
+    pub attempt_again : (s : Tried) (table'' text'' : List ℕ) → r ≡ None → Attempted doc table' text' s table'' text'' → Attempted doc table text s table'' text''
+    unfolding Attempted
+    attempt_again s table'' text'' e y = let z : (table' ≡ table) × (text' ≡ text) = rw e at x in rw (z.0, z.1) at y
+
+    pub tried_answer : (a : Answer) → r ≡ Some a → Answered doc table text (number a) (value a) (second a) table' text'
     unfolding Attempted
     tried_answer a e = (rw e at x).0
 
-    pub tried_total : (a : Answer) → r ≡ Settled a → Totals doc (number a) (third a)
+    pub tried_total : (a : Answer) → r ≡ Some a → Totals doc (number a) (third a)
     unfolding Attempted
     tried_total a e = (rw e at x).1
 
-    -- the rooms lent are as they came, for the next class
-    pub tried_again : (a : Answer) (table'' text'' : List ℕ) → r ≡ TooFew → Answered doc table' text' (number a) (value a) (second a) table'' text''
+    -- .. and for a pass over the document
+    pub tried_again : (a : Answer) (table'' text'' : List ℕ) → r ≡ None → Answered doc table' text' (number a) (value a) (second a) table'' text''
         → Answered doc table text (number a) (value a) (second a) table'' text''
     unfolding Attempted
     tried_again a table'' text'' e y = let z : (table' ≡ table) × (text' ≡ text) = rw e at x in rw (z.0, z.1) at y
@@ -187,5 +152,5 @@ pub attempt_same : (doc table table₁ table₂ text text₁ text₂ : List ℕ)
 attempt_same doc table table₁ table₂ text text₁ text₂ r e x = rw (e.0, e.1) at x
 
 pub attempt_stop_same : (doc table table₁ table₂ text text₁ text₂ : List ℕ) (a : Answer) → length doc ≤ limit → Blamed doc a → table₁ ≡ table → text₁ ≡ text → table₂ ≡ table₁ → text₂ ≡ text₁
-    → Attempted doc table text (Settled a) table₂ text₂
+    → Attempted doc table text (Some a) table₂ text₂
 attempt_stop_same doc table table₁ table₂ text text₁ text₂ a l x e f g h = rw (g ∙ e, h ∙ f) (attempt_stop doc table text a l x)

@@ -2,13 +2,12 @@
 use Rattle.std.specs.Prelude.{◌≡◌, List, ℕ, ◌≤◌, ◌<◌, length}
 use Rattle.std.proofs.Common.{sym, ap, subst, ◌∙◌, arith}
 use Rattle.exact.specs.Verdict.{Res, Verdict, acc, stop, takes, stops}
-use Rattle.rooms.specs.declared.Ans.{Ans}
-use Rattle.rooms.specs.declared.Ans.TheVariants.{No}
-use Rattle.language.specs.declared.Answer.{Answer}
-use Rattle.language.specs.declared.Answer.TheVariants.{Accepted, Long, Char, Syntax, Deep, End, Repeat, Rows, Text}
+use Rattle.rooms.specs.Contract.{Ans}
+use Rattle.std.specs.declared.result.Result.TheVariants.{Ok, Err}
+use Rattle.language.specs.declared.Refusal.TheVariants.{Long, Char, Syntax, Deep, End, Repeat, Rows, Text}
 use Rattle.language.specs.Tree.{Tree}
 use Rattle.language.specs.Document.{Document}
-use Rattle.language.specs.Answered.{limit, deepest, LONG, number, value, second, third, Stops, Answered, long, stopped, Totals, untold}
+use Rattle.language.specs.Answered.{Answer, limit, deepest, LONG, number, value, second, third, Stops, Answered, long, stopped, Totals, untold}
 use Rattle.blocks.specs.Document.{verdict}
 use Rattle.blocks.proofs.DocumentLaws.{exact}
 use Rattle.judge.specs.Blamed.{Blamed}
@@ -30,7 +29,7 @@ accepted k doc t d = go (verdict k doc) (exact k doc)
     go _ (takes w x u) = ap acc (sym (u t d))
     go _ (stops p v z) = absurd (z t d)
 
-pub stopped_at : (doc : List ℕ) (a : Ans) (p : ℕ) → Checked deepest doc a → a ≡ No p → verdict deepest doc ≡ stop p
+pub stopped_at : (doc : List ℕ) (a : Ans) (p : ℕ) → Checked deepest doc a → a ≡ Err p → verdict deepest doc ≡ stop p
 unfolding Checked
 stopped_at doc a p x e = rw e at x
 
@@ -45,18 +44,18 @@ pub no_total : (doc : List ℕ) (n : ℕ) → 0 < n → Totals doc n 0
 no_total doc n h = untold n h
 
 pub stop_total : (doc : List ℕ) (a : Answer) → Blamed doc a → Totals doc (number a) (third a)
-stop_total doc (Accepted r b e) x = absurd (never x.stops)
+stop_total doc (Ok a) x = absurd (never x.stops)
   where
     never : {p : ℕ} → Stops doc 0 p → ⊥
     never y = elim y [ ]
-stop_total doc Long x = no_total doc 1 (omega arith)
-stop_total doc (Char p) x = no_total doc 2 (omega arith)
-stop_total doc (Syntax p) x = no_total doc 3 (omega arith)
-stop_total doc (Deep p) x = no_total doc 4 (omega arith)
-stop_total doc (End p) x = no_total doc 5 (omega arith)
-stop_total doc (Repeat p) x = no_total doc 6 (omega arith)
-stop_total doc (Rows r) x = no_total doc 7 (omega arith)
-stop_total doc (Text b) x = no_total doc 8 (omega arith)
+stop_total doc (Err Long) x = no_total doc 1 (omega arith)
+stop_total doc (Err (Char p)) x = no_total doc 2 (omega arith)
+stop_total doc (Err (Syntax p)) x = no_total doc 3 (omega arith)
+stop_total doc (Err (Deep p)) x = no_total doc 4 (omega arith)
+stop_total doc (Err (End p)) x = no_total doc 5 (omega arith)
+stop_total doc (Err (Repeat p)) x = no_total doc 6 (omega arith)
+stop_total doc (Err (Rows r)) x = no_total doc 7 (omega arith)
+stop_total doc (Err (Text b)) x = no_total doc 8 (omega arith)
 
 -- the rooms lent came through unchanged, and so the answer is for them as they were lent
 pub answer_same : (doc table table₁ table₂ text text₁ text₂ : List ℕ) (n v s : ℕ) → (table₁ ≡ table) × (text₁ ≡ text) → Answered doc table₁ text₁ n v s table₂ text₂

@@ -5,14 +5,14 @@ use Rattle.std.proofs.Common.{sym, subst, ◌∙◌, arith}
 use Rattle.std.proofs.lemmas.List.Edits.{sets}
 use Rattle.rooms.specs.Told.{spot, tally}
 use Rattle.rooms.specs.declared.Cursor.{Cursor}
-use Rattle.rooms.specs.declared.Ans.{Ans}
-use Rattle.rooms.specs.declared.Ans.TheVariants.{Ok}
+use Rattle.rooms.specs.Contract.{Ans}
+use Rattle.std.specs.declared.option.Option.TheVariants.{None, Some}
+use Rattle.std.specs.declared.result.Result.TheVariants.{Ok}
 use Rattle.language.specs.Tree.{Tree, Repeats, unlined, rows_of, width, size, text_of, escapes_of}
 use Rattle.language.specs.Answered.{limit, deepest, REPEAT, ROWS, TEXT, Answered, Totals}
 use Rattle.language.specs.Document.{Document}
 use Rattle.spans.proofs.DocumentLaws.{few_rows}
-use Rattle.repeats.specs.declared.Repeat.{Repeat}
-use Rattle.repeats.specs.declared.Repeat.TheVariants.{At, Nowhere}
+use Rattle.std.specs.Prelude.{Option}
 use Rattle.notes.specs.Flat.{flat}
 use Rattle.places.specs.Places.{Placed}
 use Rattle.places.specs.Log.{Holds, Told, Windowed, windowed_plain, room_first, holds_whole, holds_placed, holds_told, names_tree}
@@ -49,12 +49,12 @@ pub record Noted (doc keys : List ℕ) (n m z : ℕ) : Type 0 where
   pub log : Windowed doc keys (flat 0 0 passed.tree) half_log 0 half_log
 
 -- so it is after a pass over the document with a room that had none
-module _ (doc : List ℕ) (a : Ans) (c : Cursor) (m z : ℕ) (p : m ≡ spot c.text) (q : z ≡ tally c.text) (l : length doc ≤ limit) (x : Checked deepest doc a) (e : a ≡ Ok c) where
+module _ (doc : List ℕ) (a : Ans) (c : Cursor) (n m z : ℕ) (o : n ≡ c.row) (p : m ≡ spot c.text) (q : z ≡ tally c.text) (l : length doc ≤ limit) (x : Checked deepest doc a) (e : a ≡ Ok c) where
   known : Known deepest doc c
   unfolding Checked
   known = rw e at x
 
-  pub passes : Passed doc c.row m z
+  pub passes : Passed doc n m z
   unfolding known
   passes =
       let d = accepts deepest doc known.tree known.is in
@@ -63,13 +63,13 @@ module _ (doc : List ℕ) (a : Ans) (c : Cursor) (m z : ℕ) (p : m ≡ spot c.t
         short = l;
         is = known.is;
         word = d;
-        row = known.row;
+        row = o ∙ known.row;
         text_count = p ∙ known.text;
         escape_count = q ∙ known.escapes;
-        few = omega (arith, known.row, few_rows deepest doc known.tree d);
+        few = omega (arith, o, known.row, few_rows deepest doc known.tree d);
       }
 
-  pub passes_noted : (keys : List ℕ) → Logged deepest doc (replicate (4 + 4 * half_log) 0) keys → Noted doc keys c.row m z
+  pub passes_noted : (keys : List ℕ) → Logged deepest doc (replicate (4 + 4 * half_log) 0) keys → Noted doc keys n m z
   unfolding passes
   passes_noted keys w =
       record {
@@ -98,7 +98,7 @@ module _ (doc keys : List ℕ) (n m z : ℕ) (f : Noted doc keys n m z) where
     pub noted_placed : Placed doc keys (get_or keys 0 0)
     noted_placed = holds_placed doc keys (flat 0 0 f.passed.tree) whole
 
-    pub noted_repeated : (r : Repeat) → Told doc keys r → Repeated doc r
+    pub noted_repeated : (r : Option ℕ) → Told doc keys r → Repeated doc r
     noted_repeated r t = told
       where
         told : (u : Tree) → verdict deepest doc ≡ acc u → Names (λ p. Repeats p u) r
@@ -109,7 +109,7 @@ module _ (doc keys : List ℕ) (n m z : ℕ) (f : Noted doc keys n m z) where
 
 -- ---- what `filled` shows, once the first repeated key is known
 
-module _ (doc : List ℕ) (n m z : ℕ) (f : Passed doc n m z) (a : Repeat) (h : Repeated doc a) (table text : List ℕ) where
+module _ (doc : List ℕ) (n m z : ℕ) (f : Passed doc n m z) (a : Option ℕ) (h : Repeated doc a) (table text : List ℕ) where
   counted : Counted doc n m z a
   counted =
       record {
@@ -122,13 +122,13 @@ module _ (doc : List ℕ) (n m z : ℕ) (f : Passed doc n m z) (a : Repeat) (h :
         names = h f.tree f.is;
       }
 
-  pub filled_repeat : (p : ℕ) → a ≡ At p → Answered doc table text REPEAT p 0 table text
+  pub filled_repeat : (p : ℕ) → a ≡ Some p → Answered doc table text REPEAT p 0 table text
   filled_repeat = counted_repeat counted table text
 
-  pub filled_rows : a ≡ Nowhere → length table < width * n → Answered doc table text ROWS n 0 table text
+  pub filled_rows : a ≡ None → length table < width * n → Answered doc table text ROWS n 0 table text
   filled_rows = counted_rows counted table text
 
-  pub filled_bytes : a ≡ Nowhere → width * n ≤ length table → length text < m → Answered doc table text TEXT m 0 table text
+  pub filled_bytes : a ≡ None → width * n ≤ length table → length text < m → Answered doc table text TEXT m 0 table text
   filled_bytes = counted_bytes counted table text
 
   module _ (l : width * n ≤ length table) (table' text' : List ℕ) (w : Filled deepest doc table table' text text') where
@@ -139,9 +139,9 @@ module _ (doc : List ℕ) (n m z : ℕ) (f : Passed doc n m z) (a : Repeat) (h :
     unfolding counted
     filled_ranked = counted_ranked counted table text l table' rooms.0
 
-    pub filled_all : a ≡ Nowhere → m ≤ length text → (table'' : List ℕ) → table'' ≡ lined (lines_of doc) n table' → Answered doc table text 0 n m table'' text'
+    pub filled_all : a ≡ None → m ≤ length text → (table'' : List ℕ) → table'' ≡ lined (lines_of doc) n table' → Answered doc table text 0 n m table'' text'
     unfolding counted
     filled_all e k table'' v = counted_all counted table text l table' rooms.0 e k table'' text' v rooms.1
 
-  pub filled_total : a ≡ Nowhere → Totals doc 0 z
+  pub filled_total : a ≡ None → Totals doc 0 z
   filled_total e = counted_total counted e

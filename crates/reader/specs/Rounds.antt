@@ -1,9 +1,9 @@
 -- ROUNDS OF SIEVING: after each, the filter keeps every key that comes twice; so the first that is named twice among those that pass is the first of all. Assumes nothing.
-use Rattle.std.specs.Prelude.{◌≡◌, refl, List, [], true, ◌⊎◌, ℕ, ◌+◌, ◌/◌, ◌≤◌, ◌<◌, length, get_or, set, replicate}
-use Rattle.std.proofs.Common.{sym, ap, subst, ◌∙◌, inl, inr, arith, length-set, get_or-set_same, get_or-set_other, rules}
-use Rattle.std.proofs.Math.Decide.{ℕ_discrete}
+use Rattle.std.specs.Prelude.{◌≡◌, refl, List, [], true, ◌⊎◌, ℕ, ◌+◌, ◌-◌, ◌/◌, ◌≤◌, ◌<◌, length, get_or, set, replicate, take, drop, ◌++◌}
+use Rattle.std.proofs.Common.{sym, ap, subst, ◌∙◌, inl, inr, arith, length-set, get_or-set_same, get_or-set_other, get_or-take, length-take-le, length-append, length-drop, rules}
 use Rattle.notes.specs.Lie.{Keys}
-use Rattle.std.proofs.lemmas.List.{length-replicate}
+use Rattle.std.proofs.lemmas.List.{length-replicate, get_or-replicate, get_or-append_right, get_or_append_left, get_or-drop}
+use Rattle.std.specs.List.{CopiedTo, SameBelow}
 use borrow.Author.Tests.{eq-eqb, ne_eqb}
 use Rattle.exact.specs.Verdict.{acc}
 use Rattle.language.specs.Tree.{Tree, Repeats}
@@ -14,8 +14,8 @@ use Rattle.notes.specs.Notes.{Kept}
 use Rattle.notes.specs.Handed.{mode, round, key_class, passing}
 use Rattle.sieve.specs.Bits.{On}
 use Rattle.sieve.specs.Sieve.{hits, broken, list_at, again, filter, large, class_low, Sieved}
-use Rattle.repeats.specs.declared.Repeat.{Repeat}
-use Rattle.repeats.specs.declared.Repeat.TheVariants.{Nowhere}
+use Rattle.std.specs.Prelude.{Option}
+use Rattle.std.specs.declared.option.Option.TheVariants.{None}
 use Rattle.repeats.specs.Later.{Names, names_map, zeros}
 use Rattle.places.specs.Chosen.{some_twice}
 use Rattle.places.specs.Sifted.{sift_some, Both, both_double, Claims, twice_sifted, twice_both, took_sown}
@@ -110,11 +110,11 @@ module _ (doc keys : List ℕ) (r m : ℕ) (l : 0 < r) (x : Swept doc keys r) (k
   turned_listing e = record { filed = record { roomed = turned_roomed; mode = y.mode ∙ e; list = refl }; claims = turned_claims }
 
 -- the first key among those that pass is the first of all
-pub listing_doubled : (doc keys : List ℕ) (r : Repeat) → Listing doc keys → Doubled (list_of doc keys) r → Doubled (keys_of doc) r
+pub listing_doubled : (doc keys : List ℕ) (r : Option ℕ) → Listing doc keys → Doubled (list_of doc keys) r → Doubled (keys_of doc) r
 listing_doubled doc keys r x d = names_map (λ p t. some_twice (sift_some keys (keys_of doc)) t) (λ p t. twice_sifted keys (keys_of doc) x.claims t) r d
 
 -- nothing was found again, so nothing comes twice
-pub swept_none : (doc keys : List ℕ) (r n : ℕ) → Swept doc keys r → n ≡ get_or keys hits 0 → n < 1 → Doubled (keys_of doc) Nowhere
+pub swept_none : (doc keys : List ℕ) (r n : ℕ) → Swept doc keys r → n ≡ get_or keys hits 0 → n < 1 → Doubled (keys_of doc) None
 swept_none doc keys r n x e l q t = let y = twice_both t in omega (arith, (x.found y.object y.text y.both).1)
 
 pub swept_room : (doc keys : List ℕ) (r : ℕ) → Swept doc keys r → hits < length keys
@@ -130,68 +130,54 @@ pub record Copied (keys : List ℕ) (n : ℕ) (keys' : List ℕ) : Type 0 where
   pub below : (i : ℕ) → i < filter → get_or keys' i 0 ≡ get_or keys i 0
   pub words : (i : ℕ) → i < n → get_or keys' (filter + i) 0 ≡ get_or keys (again + i) 0
 
-module _ (S : List ℕ) (e : length S ≡ large) where
-  pub copied_first : Copied S 0 S
-  copied_first = record { long = refl; below = λ i l. refl; words = λ i l. absurd (omega arith) }
-
-  module _ (T : List ℕ) (i : ℕ) (x : Copied S i T) (l : i < 4096) where
-    pub copied_read : again + i < length T
-    copied_read = omega (arith, x.long)
-
-    pub copied_write : filter + i < length T
-    copied_write = omega (arith, x.long)
-
-    pub copied_more : Copied S (i + 1) (set T (filter + i) (get_or T (again + i) 0))
-    copied_more =
-        record {
-          long = length-set T (filter + i) (get_or T (again + i) 0) ∙ x.long;
-          below = λ k m. get_or-set_other T (filter + i) k (get_or T (again + i) 0) 0 (λ z. omega arith) ∙ x.below k m;
-          words = λ k m. by k m (ℕ_discrete k i);
-        }
-      where
-        by : (k : ℕ) → k < i + 1 → Dec (k ≡ i) → get_or (set T (filter + i) (get_or T (again + i) 0)) (filter + k) 0 ≡ get_or S (again + k) 0
-        by k m (yes z) =
-            rw z (get_or-set_same T (filter + i) (get_or T (again + i) 0) 0 copied_write ∙ x.below (again + i) (omega arith))
-        by k m (no z) = get_or-set_other T (filter + i) (filter + k) (get_or T (again + i) 0) 0 (λ y. z (omega arith)) ∙ x.words k (omega arith)
-
-  pub copied_done : (T : List ℕ) (i : ℕ) → Copied S i T → i ≤ 4096 → 4096 ≤ i → Copied S 4096 T
-  copied_done T i x l m = let z : i ≡ 4096 = omega arith in rw z at x
-
-pub ruleset copying = (copied_first, copied_read, copied_write, copied_more, copied_done, rules)
+pub copied_within : (S T : List ℕ) → length T ≡ length S → CopiedTo S T again filter 4096 → SameBelow S T filter → Copied S 4096 T
+copied_within S T l c b = record { long = l; below = λ i m. b i 0 m; words = λ i m. c (filter + i) 0 (omega arith) (omega arith) ∙ ap (λ (k : ℕ). get_or S k 0) (behind i) }
+  where
+    behind : (i : ℕ) → again + (filter + i - filter) ≡ again + i
+    behind i = omega arith
 
 pub record Wiped (keys : List ℕ) (n : ℕ) (keys' : List ℕ) : Type 0 where
   pub long : length keys' ≡ length keys
   pub zero : (i : ℕ) → hits ≤ i → i < n → get_or keys' i 0 ≡ 0
   pub others : (i : ℕ) → (i < hits) ⊎ (filter ≤ i) → get_or keys' i 0 ≡ get_or keys i 0
 
-module _ (S : List ℕ) (e : length S ≡ large) where
-  pub wiped_first : Wiped S hits S
-  wiped_first = record { long = refl; zero = λ i l m. absurd (omega arith); others = λ i l. refl }
+-- the words of a part are zero, and the others are as they were
+module _ (S ys : List ℕ) (h k n : ℕ) (l : h + k ≤ length S) (e : ys ≡ replicate n 0) (m : n ≡ k) where
+  front : length (take h S) ≡ h
+  front = length-take-le h S (omega arith)
 
-  module _ (T : List ℕ) (i : ℕ) (x : Wiped S i T) (k : hits ≤ i) (l : i < filter) where
-    pub wiped_room : i < length T
-    wiped_room = omega (arith, x.long)
+  many : length ys ≡ k
+  many = ap length e ∙ (length-replicate {A = ℕ} n 0 ∙ m)
 
-    pub wiped_more : Wiped S (i + 1) (set T i 0)
-    wiped_more =
-        record {
-          long = length-set T i 0 ∙ x.long;
-          zero = λ n m o. by n m o (ℕ_discrete n i);
-          others = λ n m. others n m;
-        }
-      where
-        by : (n : ℕ) → hits ≤ n → n < i + 1 → Dec (n ≡ i) → get_or (set T i 0) n 0 ≡ 0
-        by n m o (yes z) = rw z (get_or-set_same T i 0 0 wiped_room)
-        by n m o (no z) = get_or-set_other T i n 0 0 z ∙ x.zero n m (omega arith)
+  filled_long : length (take h S ++ (ys ++ drop k (drop h S))) ≡ length S
+  filled_long = omega (arith, length-append (take h S) (ys ++ drop k (drop h S)), length-append ys (drop k (drop h S)), front, many, length-drop k (drop h S), length-drop h S)
 
-        others : (n : ℕ) → (n < hits) ⊎ (filter ≤ n) → get_or (set T i 0) n 0 ≡ get_or S n 0
-        others n (inl m) = get_or-set_other T i n 0 0 (λ z. omega arith) ∙ x.others n (inl m)
-        others n (inr m) = get_or-set_other T i n 0 0 (λ z. omega arith) ∙ x.others n (inr m)
+  filled_zero : (i : ℕ) → h ≤ i → i < h + k → get_or (take h S ++ (ys ++ drop k (drop h S))) i 0 ≡ 0
+  filled_zero i a b =
+      get_or-append_right (take h S) (ys ++ drop k (drop h S)) h i 0 front a
+      ∙ (get_or_append_left ys (drop k (drop h S)) 0 (i - h) (omega (arith, many)) ∙ (ap (λ (y : List ℕ). get_or y (i - h) 0) e ∙ get_or-replicate n (i - h) 0 0 (omega arith)))
 
-  pub wiped_done : (T : List ℕ) (i : ℕ) → Wiped S i T → i ≤ filter → filter ≤ i → Wiped S filter T
-  wiped_done T i x l m = let z : i ≡ filter = omega arith in rw z at x
+  filled_before : (i : ℕ) → i < h → get_or (take h S ++ (ys ++ drop k (drop h S))) i 0 ≡ get_or S i 0
+  filled_before i a = get_or_append_left (take h S) (ys ++ drop k (drop h S)) 0 i (omega (arith, front)) ∙ get_or-take h S i 0 a
 
-pub ruleset wiping = (wiped_first, wiped_room, wiped_more, wiped_done, rules)
+  filled_behind : (i : ℕ) → h + k ≤ i → get_or (take h S ++ (ys ++ drop k (drop h S))) i 0 ≡ get_or S i 0
+  filled_behind i a =
+      let j : h + (k + (i - h - k)) ≡ i = omega arith in
+      get_or-append_right (take h S) (ys ++ drop k (drop h S)) h i 0 front (omega arith)
+      ∙ (get_or-append_right ys (drop k (drop h S)) k (i - h) 0 many (omega arith)
+      ∙ (get_or-drop k (drop h S) (i - h - k) 0 ∙ (get_or-drop h S (k + (i - h - k)) 0 ∙ ap (λ (x : ℕ). get_or S x 0) j)))
+
+pub wiped_filled : (S ys : List ℕ) (n : ℕ) → length S ≡ large → ys ≡ replicate n 0 → n ≡ 8810 → Wiped S filter (take hits S ++ (ys ++ drop 8810 (drop hits S)))
+wiped_filled S ys n l e m =
+    record {
+      long = filled_long S ys hits 8810 n (omega arith) e m;
+      zero = λ i a b. filled_zero S ys hits 8810 n (omega arith) e m i a (omega arith);
+      others = λ i o. by i o;
+    }
+  where
+    by : (i : ℕ) → (i < hits) ⊎ (filter ≤ i) → get_or (take hits S ++ (ys ++ drop 8810 (drop hits S))) i 0 ≡ get_or S i 0
+    by i (inl a) = filled_before S ys hits 8810 n (omega arith) e m i a
+    by i (inr a) = filled_behind S ys hits 8810 n (omega arith) e m i (omega arith)
 
 module _ (S : List ℕ) (e : length S ≡ large) (A : List ℕ) (x : Copied S 4096 A) (B : List ℕ) (y : Wiped A filter B) (r m : ℕ) where
   pub turn_round : round < length B
@@ -259,10 +245,10 @@ first_sieving doc t l e keys k =
 
 -- ---- what the tree repeats
 
-abbrev pub Repeated : List ℕ → Repeat → Type 0
+abbrev pub Repeated : List ℕ → Option ℕ → Type 0
 Repeated doc r = (t : Tree) → verdict deepest doc ≡ acc t → Names (λ p. Repeats p t) r
 
-pub doubled_repeated : (doc : List ℕ) (r : Repeat) → Doubled (keys_of doc) r → Repeated doc r
+pub doubled_repeated : (doc : List ℕ) (r : Option ℕ) → Doubled (keys_of doc) r → Repeated doc r
 doubled_repeated doc r x t e = names_tree t r (rw (keys_of_lem doc t e) at x)
 
 -- ---- what `settled` and `sifted` show
@@ -274,7 +260,7 @@ module _ (doc keys : List ℕ) (r : ℕ) (x : Swept doc keys r) (l : 0 < r) (key
   pub settled_filed : Filed doc (list_of doc keys') keys'
   settled_filed = listing.filed
 
-  pub settled_doubled : (a : Repeat) → Doubled (list_of doc keys') a → Doubled (keys_of doc) a
+  pub settled_doubled : (a : Option ℕ) → Doubled (list_of doc keys') a → Doubled (keys_of doc) a
   settled_doubled a d = listing_doubled doc keys' a listing d
 
 pub ruleset settling = (swept_long, settled_filed, settled_doubled, rules)

@@ -1,6 +1,7 @@
 -- KEYS IN WINDOWS: where every two halves of the log were looked through, up to one with a key named twice, the first such key of the document is known. Assumes nothing.
-use Rattle.std.specs.Prelude.{◌≡◌, refl, List, [], ◌++◌, ◌⊎◌, ℕ, ◌+◌, ◌-◌, ◌%◌, ◌≤◌, ◌<◌, length, take, drop, get_or, set}
+use Rattle.std.specs.Prelude.{◌≡◌, refl, List, [], ◌++◌, ◌⊎◌, ℕ, ◌+◌, ◌-◌, ◌*◌, ◌/◌, ◌%◌, ◌≤◌, ◌<◌, min, length, take, drop, get_or, set, unwrap_or}
 use Rattle.std.proofs.Common.{sym, ap, subst, ◌∙◌, inl, inr, arith, length-set, take-append-drop, get_or-set_same, get_or-set_other, get_or-take, length-take-le, rules}
+use Rattle.std.proofs.Math.Decide.{ℕ_discrete}
 use Rattle.exact.specs.Verdict.{Res, acc, stop}
 use Rattle.language.specs.Tree.{Tree, count}
 use Rattle.language.specs.Answered.{limit, deepest}
@@ -8,8 +9,8 @@ use Rattle.blocks.specs.Document.{verdict}
 use Rattle.notes.specs.Flat.{Named, flat}
 use Rattle.notes.specs.Lie.{Keys}
 use Rattle.notes.specs.Notes.{Kept}
-use Rattle.repeats.specs.declared.Repeat.{Repeat}
-use Rattle.repeats.specs.declared.Repeat.TheVariants.{At, Nowhere}
+use Rattle.std.specs.Prelude.{Option}
+use Rattle.std.specs.declared.option.Option.TheVariants.{None, Some}
 use Rattle.repeats.specs.Flat.{In, in_left, in_right, in_split, Twice, twice_left, twice_right, Split, in_first, in_second, across, twice_split}
 use Rattle.repeats.specs.Later.{Names, LeastOf}
 use Rattle.places.specs.Places.{Placed}
@@ -200,22 +201,29 @@ module _ (doc : List ℕ) (ks : List Named) (keys : List ℕ) (i j : ℕ) (a : A
     left : get_or keys'' 3 0 ≡ count (drop half (drop j ks))
     left = sym (front keys'' 3 (omega arith)) ∙ held.left
 
-    module _ (r : Repeat) (t : Told doc (take log keys'') r) where
+    module _ (r : Option ℕ) (t : Told doc (take log keys'') r) where
       names : Names (λ p. Twice p (windows half i j ks)) r
       names = holds_told doc (take log keys'') (windows half i j ks) held.holds r t
 
-      pub asking_found : (p : ℕ) → r ≡ At p → Seen doc ks keys'' i j p
+      asking_found : (p : ℕ) → r ≡ Some p → Seen doc ks keys'' i j p
       asking_found p f =
           let n : LeastOf (λ p. Twice p (windows half i j ks)) p = rw f at names in
           let l = twice_low doc (windows half i j ks) held.holds.lie a.filed.roomed.short n.is in
           record { filed = filed; left = left; least = record { top = omega arith; is = λ m. n.is; least = n.least } }
 
-      pub asking_none : r ≡ Nowhere → Seen doc ks keys'' i j limit
+      asking_none : r ≡ None → Seen doc ks keys'' i j limit
       asking_none f =
           let n : (q : ℕ) → Twice q (windows half i j ks) → ⊥ = rw f at names in
           record { filed = filed; left = left; least = record { top = omega arith; is = λ m. absurd (omega arith); least = λ q y. absurd (n q y) } }
 
-pub ruleset asking = (asking_sum, asking_low, asking_four, asking_short, asking_prefix, asking_placed, asking_found, asking_none, rules)
+      pub asking_seen : (p : ℕ) → p ≡ unwrap_or r limit → Seen doc ks keys'' i j p
+      asking_seen p e = rw e (by r refl)
+        where
+          by : (s : Option ℕ) → r ≡ s → Seen doc ks keys'' i j (unwrap_or s limit)
+          by (Some q) f = asking_found q f
+          by None f = asking_none f
+
+pub ruleset asking = (asking_sum, asking_low, asking_four, asking_short, asking_prefix, asking_placed, asking_seen, rules)
 
 -- ---- what `across` shows: half a log from the j-th key on is looked through beside every half before it
 
@@ -243,17 +251,6 @@ pub record Crossing (doc : List ℕ) (ks : List Named) (keys : List ℕ) (j i p 
   pub early : (q r a : ℕ) (s : List ℕ) → In r a s (take i ks) → In r q s (take half (drop j ks)) → p ≤ q
   pub own : 0 < i → (q : ℕ) → Twice q (take half (drop j ks)) → p ≤ q
   pub left : 0 < i → get_or keys 3 0 ≡ count (drop half (drop j ks))
-
-pub record Lesser (a b r : ℕ) : Type 0 where
-  pub first : r ≤ a
-  pub second : r ≤ b
-  pub either : (r ≡ a) ⊎ (r ≡ b)
-
-pub lesser_first : (a b : ℕ) → a < b → Lesser a b a
-lesser_first a b l = record { first = omega arith; second = omega arith; either = inl refl }
-
-pub lesser_second : (a b : ℕ) → b ≤ a → Lesser a b b
-lesser_second a b l = record { first = omega arith; second = omega arith; either = inr refl }
 
 -- two halves are part of what stands before the end of the later one
 windows_before : (i j g : ℕ) (ks : List Named) → i + half + g ≡ j → {p : ℕ} → Twice p (windows half i j ks) → Twice p (take (j + half) ks)
@@ -290,63 +287,62 @@ module _ (doc : List ℕ) (ks : List Named) (j : ℕ) where
         left = λ l. absurd (omega arith);
       }
 
-  module _ (keys : List ℕ) (i p : ℕ) (x : Crossing doc ks keys j i p) where
-    pub crossing_asking : i < j → Asking doc (list_of doc keys) keys i j
-    crossing_asking l = record { filed = filed_own doc ks keys x.sweeping.filed; apart = omega (arith, x.whole, x.sweeping.whole); low = x.sweeping.low }
+  module _ (keys : List ℕ) (k p : ℕ) (x : Crossing doc ks keys j (k * half) p) where
+    pub crossing_asking : k < j / half → Asking doc (list_of doc keys) keys (k * half) j
+    crossing_asking l = record { filed = filed_own doc ks keys x.sweeping.filed; apart = omega (arith, x.sweeping.whole); low = x.sweeping.low }
 
-    pub crossing_low : i < j → i + half ≤ limit
-    crossing_low l = omega (arith, x.whole, x.sweeping.whole, x.sweeping.low)
+    module _ (l : k < j / half) (keys' : List ℕ) (b : ℕ) (seen : Seen doc (list_of doc keys) keys' (k * half) j b) (p' : ℕ) (z : p' ≡ min b p) where
+      y : Seen doc ks keys' (k * half) j b
+      y = subst (λ (l : List Named). Seen doc l keys' (k * half) j b) x.sweeping.filed.list seen
 
-    pub crossing_less : i < j → j - (i + half) < j - i
-    crossing_less l = omega (arith, x.whole, x.sweeping.whole)
+      is : p' < limit → Dec (p' ≡ p) → Twice p' (take (j + half) ks)
+      is m (yes e) = rw e (x.is (omega arith))
+      is m (no n) =
+          let e : p' ≡ b = omega arith in
+          rw e (windows_before (k * half) j (j - (k * half + half)) ks (omega (arith, x.sweeping.whole)) (y.least.is (omega arith)))
 
-    module _ (l : i < j) (keys' : List ℕ) (b : ℕ) (seen : Seen doc (list_of doc keys) keys' i j b) (p' : ℕ) (z : Lesser p b p') where
-      y : Seen doc ks keys' i j b
-      y = subst (λ (l : List Named). Seen doc l keys' i j b) x.sweeping.filed.list seen
+      early : (q r a : ℕ) (s : List ℕ) → In r a s (take (k * half) ks) ⊎ In r a s (take half (drop (k * half) ks)) → In r q s (take half (drop j ks)) → p' ≤ q
+      early q r a s (inl u) v = let w = x.early q r a s u v in omega arith
+      early q r a s (inr u) v = let w = y.least.least q (twice_across (take half (drop (k * half) ks)) (take half (drop j ks)) u v) in omega arith
 
-      is : p' < limit → (p' ≡ p) ⊎ (p' ≡ b) → Twice p' (take (j + half) ks)
-      is m (inl e) = rw e (x.is (omega arith))
-      is m (inr e) = rw e (windows_before i j (j - (i + half)) ks (omega (arith, x.whole, x.sweeping.whole)) (y.least.is (omega arith)))
-
-      early : (q r a : ℕ) (s : List ℕ) → In r a s (take i ks) ⊎ In r a s (take half (drop i ks)) → In r q s (take half (drop j ks)) → p' ≤ q
-      early q r a s (inl u) v = let w = x.early q r a s u v in omega (arith, z.first)
-      early q r a s (inr u) v = let w = y.least.least q (twice_across (take half (drop i ks)) (take half (drop j ks)) u v) in omega (arith, z.second)
-
-      pub crossing_more : Crossing doc ks keys' j (i + half) p'
-      crossing_more =
+      more : Crossing doc ks keys' j (k * half + half) p'
+      more =
           record {
             sweeping = record { filed = y.filed; some = x.sweeping.some; low = x.sweeping.low; whole = x.sweeping.whole; clean = x.sweeping.clean };
-            whole = omega (arith, x.whole);
-            first = omega (arith, x.whole, x.sweeping.whole);
-            top = omega (arith, x.top, z.first);
-            is = λ m. is m z.either;
-            early = λ q r a s u v. early q r a s (in_split (take i ks) (take half (drop i ks)) (subst (In r a s) (take-add i half ks) u)) v;
-            own = λ m q t. let w = y.least.least q (twice_right (take half (drop i ks)) (take half (drop j ks)) t) in omega (arith, z.second);
+            whole = omega arith;
+            first = omega (arith, x.sweeping.whole);
+            top = omega (arith, x.top);
+            is = λ m. is m (ℕ_discrete p' p);
+            early = λ q r a s u v. early q r a s (in_split (take (k * half) ks) (take half (drop (k * half) ks)) (subst (In r a s) (take-add (k * half) half ks) u)) v;
+            own = λ m q t. let w = y.least.least q (twice_right (take half (drop (k * half) ks)) (take half (drop j ks)) t) in omega arith;
             left = λ m. y.left;
           }
 
-    pub crossing_done : j ≤ i → Crossed doc ks keys j p
+      pub crossing_more : Crossing doc ks keys' j ((k + 1) * half) p'
+      crossing_more = let e : k * half + half ≡ (k + 1) * half = omega arith in subst (λ (i : ℕ). Crossing doc ks keys' j i p') e more
+
+    pub crossing_done : j / half ≤ k → Crossed doc ks keys j p
     crossing_done l =
         record {
           filed = x.sweeping.filed;
           whole = x.sweeping.whole;
-          left = x.left (omega (arith, x.sweeping.some));
+          left = x.left (omega (arith, x.sweeping.some, x.sweeping.whole));
           least = record { top = x.top; is = x.is; least = λ q t. by q (twice_split (take j ks) (take half (drop j ks)) (subst (Twice q) (take-add j half ks) t)) };
         }
       where
-        e : i ≡ j
-        e = omega (arith, x.first)
+        e : k * half ≡ j
+        e = omega (arith, x.first, x.sweeping.whole)
 
         by : (q : ℕ) → Split q (take j ks) (take half (drop j ks)) → p ≤ q
         by q (in_first t) = absurd (x.sweeping.clean q t)
         by q (in_second t) = x.own (omega (arith, x.sweeping.some)) q t
         by q (across r a s u v) = x.early q r a s (rw e u) v
 
-pub ruleset crossing = (crossing_first, crossing_asking, crossing_low, crossing_less, crossing_more, crossing_done, rules)
+pub ruleset crossing = (crossing_first, crossing_asking, crossing_more, crossing_done, rules)
 
 -- ---- what `behind` and `listed` show
 
-abbrev pub Doubled : List Named → Repeat → Type 0
+abbrev pub Doubled : List Named → Option ℕ → Type 0
 Doubled ks r = Names (λ p. Twice p ks) r
 
 pub sweeping_own : (doc : List ℕ) (ks : List Named) (keys : List ℕ) (j : ℕ) → Sweeping doc ks keys j → Sweeping doc (list_of doc keys) keys j
@@ -360,7 +356,7 @@ module _ (doc : List ℕ) (ks : List Named) (keys : List ℕ) (j : ℕ) (s : Swe
   lies : Keys doc 0 ks (length doc)
   lies = filed_lie doc ks keys' x.filed
 
-  pub behind_found : p < limit → Doubled ks (At p)
+  pub behind_found : p < limit → Doubled ks (Some p)
   behind_found l = prefix_least doc ks lies x.filed.roomed.short (j + half) p (x.least.is l) x.least.least
 
   module _ (l : limit ≤ p) where
@@ -369,7 +365,7 @@ module _ (doc : List ℕ) (ks : List Named) (keys : List ℕ) (j : ℕ) (s : Swe
         let y = subst (Twice q) (take-append-drop (j + half) ks) (twice_left (take (j + half) ks) (drop (j + half) ks) t) in
         omega (arith, x.least.least q t, twice_low doc ks lies x.filed.roomed.short y)
 
-    pub behind_none : (n : ℕ) → n ≡ get_or keys' 3 0 → n < 1 → Doubled ks Nowhere
+    pub behind_none : (n : ℕ) → n ≡ get_or keys' 3 0 → n < 1 → Doubled ks None
     behind_none n e z q t = none q (rw (take_whole j half ks (omega (arith, x.left))) t)
 
     module _ (n : ℕ) (e : n ≡ get_or keys' 3 0) (f : 1 ≤ n) where
@@ -408,7 +404,7 @@ module _ (doc : List ℕ) (ks : List Named) (p : ℕ) (keys : List ℕ) (y : See
   pub listed_room : 3 < length keys
   listed_room = omega (arith, y.filed.roomed.long)
 
-  pub listed_found : p < limit → Doubled ks (At p)
+  pub listed_found : p < limit → Doubled ks (Some p)
   listed_found l = prefix_least doc ks first_lie y.filed.roomed.short (half + half) p (first_least.is l) first_least.least
 
   module _ (l : limit ≤ p) where
@@ -417,7 +413,7 @@ module _ (doc : List ℕ) (ks : List Named) (p : ℕ) (keys : List ℕ) (y : See
         let v = subst (Twice q) (take-append-drop (half + half) ks) (twice_left (take (half + half) ks) (drop (half + half) ks) t) in
         omega (arith, first_least.least q t, twice_low doc ks first_lie y.filed.roomed.short v)
 
-    pub listed_none : (n : ℕ) → n ≡ get_or keys 3 0 → n < 1 → Doubled ks Nowhere
+    pub listed_none : (n : ℕ) → n ≡ get_or keys 3 0 → n < 1 → Doubled ks None
     listed_none n e z q t = first_none q (rw (take_whole half half ks (omega (arith, y.left))) t)
 
     pub listed_behind : Sweeping doc (list_of doc keys) keys 3280
@@ -430,7 +426,7 @@ module _ (doc : List ℕ) (ks : List Named) (p : ℕ) (keys : List ℕ) (y : See
           clean = λ q t. first_none q (rw y.filed.list at t);
         }
 
-    pub listed_all : (r : Repeat) → Doubled (list_of doc keys) r → Doubled ks r
+    pub listed_all : (r : Option ℕ) → Doubled (list_of doc keys) r → Doubled ks r
     listed_all r d = rw y.filed.list at d
 
 pub ruleset listing = (listed_asking, listed_room, listed_found, listed_none, listed_behind, listed_all, rules)

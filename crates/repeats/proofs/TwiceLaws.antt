@@ -1,9 +1,9 @@
 -- THE KEYS IN A LIST (`Lists`): a key that is the same as an earlier one is one that the list names twice, and back. Assumes nothing.
-use Rattle.std.specs.Prelude.{◌≡◌, refl, List, [], ◌∷◌, ℕ, suc, ◌≤◌, ◌<◌}
+use Rattle.std.specs.Prelude.{◌≡◌, List, ◌∷◌, ℕ, suc}
 use Rattle.std.proofs.Common.{sym, ap, subst, ◌∙◌, arith}
 use Rattle.std.proofs.Math.Decide.{ℕ_discrete}
-use Rattle.repeats.specs.Flat.{Named, named, In, in_here, in_later, Twice, twice_here, twice_later}
-use Rattle.repeats.specs.Numbering.{Numbering, Same}
+use Rattle.repeats.specs.Flat.{Named, named, In, Twice, twice_here, twice_later}
+use Rattle.repeats.specs.Numbering.{Numbering}
 use Rattle.repeats.specs.Later.{Later}
 use Rattle.repeats.specs.Twice.{Lists, Pair, held_in, in_held, lists_key, lists_none, lists_other, pair_from, pair_later}
 

@@ -1,10 +1,8 @@
 -- KEYS THAT ARE THE SAME AS AN EARLIER ONE, and the least place at which one starts, found key by key. Assumes nothing.
-use Rattle.std.specs.Prelude.{◌≡◌, refl, ℕ, zero, suc, ◌+◌, ◌≤◌, ◌<◌, get_or, replicate}
+use Rattle.std.specs.Prelude.{◌≡◌, refl, ℕ, zero, suc, ◌+◌, ◌≤◌, ◌<◌, get_or, replicate, Option, Some, None}
 use Rattle.std.proofs.Common.{sym, ap, subst, ◌∙◌, arith}
 use Rattle.std.proofs.Math.Decide.{ℕ_discrete, dec_lt}
 use Rattle.std.proofs.lemmas.List.{length-replicate}
-use Rattle.repeats.specs.declared.Repeat.{Repeat}
-use Rattle.repeats.specs.declared.Repeat.TheVariants.{At, Nowhere}
 use Rattle.repeats.specs.Numbering.{Numbering}
 use Rattle.repeats.specs.Links.{Before, Earlier, Chains, chains_none}
 
@@ -14,13 +12,13 @@ pub record LeastOf (A : ℕ → Type 0) (p : ℕ) : Type 0 where
   pub is : A p
   pub least : (q : ℕ) → A q → p ≤ q
 
-abbrev pub Names : (ℕ → Type 0) → Repeat → Type 0
-Names A (At p) = LeastOf A p
-Names A Nowhere = (q : ℕ) → A q → ⊥
+abbrev pub Names : (ℕ → Type 0) → Option ℕ → Type 0
+Names A (Some p) = LeastOf A p
+Names A None = (q : ℕ) → A q → ⊥
 
-pub names_map : {A B : ℕ → Type 0} → ((q : ℕ) → A q → B q) → ((q : ℕ) → B q → A q) → (r : Repeat) → Names A r → Names B r
-names_map f g (At p) x = record { is = f p x.is; least = λ q y. x.least q (g q y) }
-names_map f g Nowhere x = λ q y. x q (g q y)
+pub names_map : {A B : ℕ → Type 0} → ((q : ℕ) → A q → B q) → ((q : ℕ) → B q → A q) → (r : Option ℕ) → Names A r → Names B r
+names_map f g (Some p) x = record { is = f p x.is; least = λ q y. x.least q (g q y) }
+names_map f g None x = λ q y. x q (g q y)
 
 -- ---- keys
 
@@ -32,7 +30,7 @@ pub record Later (N : Numbering) (n p : ℕ) : Type 0 where
   pub earlier : Earlier N number
 
 -- of fewer than two keys none has an earlier one
-pub names_few : (N : Numbering) (n : ℕ) → n < 2 → Names (Later N n) Nowhere
+pub names_few : (N : Numbering) (n : ℕ) → n < 2 → Names (Later N n) None
 names_few N n l q x = omega (arith, x.key.before, x.earlier.key.before)
 
 module _ (N : Numbering) (i : ℕ) where
@@ -43,12 +41,12 @@ module _ (N : Numbering) (i : ℕ) where
   narrow q x n = record { number = x.number; key = record { before = omega (arith, x.key.before); key = x.key.key }; starts = x.starts; earlier = x.earlier }
 
   -- the number i is no key, or that of one without an earlier
-  pub names_same : (r : Repeat) → Names (Later N i) r → (N.Key i → Earlier N i → ⊥) → Names (Later N (i + 1)) r
+  pub names_same : (r : Option ℕ) → Names (Later N i) r → (N.Key i → Earlier N i → ⊥) → Names (Later N (i + 1)) r
   names_same r x n = names_map wider (λ q y. narrow q y (λ e. n (subst N.Key e y.key.key) (subst (Earlier N) e y.earlier))) r x
 
 -- keys that start one behind another: the first that has an earlier one is the least
-pub names_first : (N : Numbering) (n i : ℕ) → Names (Later N i) Nowhere → ((k : ℕ) → i < k → k < n → N.start i < N.start k) → i < n → N.Key i → Earlier N i
-    → Names (Later N n) (At (N.start i))
+pub names_first : (N : Numbering) (n i : ℕ) → Names (Later N i) None → ((k : ℕ) → i < k → k < n → N.start i < N.start k) → i < n → N.Key i → Earlier N i
+    → Names (Later N n) (Some (N.start i))
 names_first N n i x o l k e =
     record {
       is = record { number = i; key = record { before = l; key = k }; starts = refl; earlier = e };

@@ -2,8 +2,8 @@
 use Rattle.std.specs.Prelude.{◌≡◌, List, [], ◌∷◌, ℕ, ◌<◌}
 use Rattle.std.proofs.Math.Path.{refl}
 use Rattle.std.proofs.Common.{sym, subst, arith}
-use Rattle.repeats.specs.declared.Order.{Order}
-use Rattle.repeats.specs.declared.Order.TheVariants.{Less, Same as Equal, More}
+use Rattle.std.specs.declared.cmp.Ordering.{Ordering}
+use Rattle.std.specs.declared.cmp.Ordering.TheVariants.{Less, Equal, Greater}
 use Rattle.repeats.specs.Numbering.{Numbering, Same, mark_of}
 
 -- one list comes before another
@@ -26,25 +26,25 @@ onward (further {a} e x) (lower {b = c} m) = let h : a < c = omega arith in lowe
 onward (further {a} e x) (further {b = c} f y) = let h : a ≡ c = omega arith in further h (onward x y)
 
 -- how two lists stand to each other
-unfoldable pub Ordered : List ℕ → List ℕ → Order → Type 0
+unfoldable pub Ordered : List ℕ → List ℕ → Ordering → Type 0
 Ordered s t Less = Precedes s t
 Ordered s t Equal = s ≡ t
-Ordered s t More = Precedes t s
+Ordered s t Greater = Precedes t s
 
 module _ (b c : ℕ) (s t : List ℕ) where
   pub ordered_less : b < c → Ordered (b ∷ s) (c ∷ t) Less
   unfolding Ordered
   ordered_less l = lower l
 
-  pub ordered_more : c < b → Ordered (b ∷ s) (c ∷ t) More
+  pub ordered_more : c < b → Ordered (b ∷ s) (c ∷ t) Greater
   unfolding Ordered
   ordered_more l = lower l
 
-  pub ordered_further : b ≡ c → (r : Order) → Ordered s t r → Ordered (b ∷ s) (c ∷ t) r
+  pub ordered_further : b ≡ c → (r : Ordering) → Ordered s t r → Ordered (b ∷ s) (c ∷ t) r
   unfolding Ordered
   ordered_further e Less x = further e x
   ordered_further e Equal x = rw (e, x) refl
-  ordered_further e More x = further (sym e) x
+  ordered_further e Greater x = further (sym e) x
 
 -- a key's mark, its object and its text
 abbrev pub name_of : Numbering → ℕ → List ℕ

@@ -1,6 +1,7 @@
 -- KEYS BY NUMBER IN THE ORDER OF THEIR NAMES (`Ranked`): the first t stand in a room, each once; a name is sought among them by halving (`Sought`), and its key put between (`Inserted`). Assumes nothing.
-use Rattle.std.specs.Prelude.{◌≡◌, refl, List, ℕ, ◌+◌, ◌-◌, ◌≤◌, ◌<◌, length, get_or, set}
-use Rattle.std.proofs.Common.{sym, ap, subst, ◌∙◌, arith, length-set, get_or-set_same, get_or-set_other}
+use Rattle.std.specs.Prelude.{◌≡◌, List, ℕ, ◌+◌, ◌-◌, ◌≤◌, ◌<◌, length, get_or, set}
+use Rattle.std.proofs.Common.{sym, ap, subst, ◌∙◌, arith, get_or-set_same, get_or-set_other}
+use Rattle.std.specs.List.{CopiedTo, SameBelow}
 use Rattle.std.proofs.Math.Decide.{ℕ_discrete, dec_lt}
 use Rattle.repeats.specs.Order.{Precedes, onward, never_itself}
 
@@ -80,44 +81,17 @@ pub record Inserted (order order' : List ℕ) (p i : ℕ) : Type 0 where
   pub here : at order' p ≡ i
   pub behind : (x : ℕ) → p < x → x ≤ i → at order' x ≡ at order (x - 1)
 
--- those behind j are moved
-pub record Moved (order order' : List ℕ) (p i j : ℕ) : Type 0 where
-  pub from : p ≤ j
-  pub to : j ≤ i
-  pub long : length order' ≡ length order
-  pub room : i < length order
-  pub before : (x : ℕ) → x < j → at order' x ≡ at order x
-  pub behind : (x : ℕ) → j < x → x ≤ i → at order' x ≡ at order (x - 1)
-
-module _ (order : List ℕ) (p i : ℕ) where
-  pub move_first : p ≤ i → i < length order → Moved order order p i i
-  move_first h l = record { from = h; to = omega arith; long = refl; room = l; before = λ x k. refl; behind = λ x k m. absurd (omega arith) }
-
-  module _ (order' : List ℕ) (j : ℕ) (w : Moved order order' p i j) where
-    pub move_more : p < j → Moved order (set order' j (at order' (j - 1))) p i (j - 1)
-    move_more h =
-        record {
-          from = omega arith;
-          to = omega (arith, w.to);
-          long = length-set order' j (at order' (j - 1)) ∙ w.long;
-          room = w.room;
-          before = λ x k. get_or-set_other order' j x (at order' (j - 1)) 0 (λ e. omega arith) ∙ w.before x (omega arith);
-          behind = λ x k m. by x k m (ℕ_discrete x j);
-        }
-      where
-        by : (x : ℕ) → j - 1 < x → x ≤ i → Dec (x ≡ j) → at (set order' j (at order' (j - 1))) x ≡ at order (x - 1)
-        by x k m (yes e) =
-            ap (at (set order' j (at order' (j - 1)))) e
-            ∙ (get_or-set_same order' j (at order' (j - 1)) 0 (omega (arith, w.to, w.room, w.long)) ∙ (w.before (j - 1) (omega arith) ∙ ap (λ (y : ℕ). at order (y - 1)) (sym e)))
-        by x k m (no e) = get_or-set_other order' j x (at order' (j - 1)) 0 e ∙ w.behind x (omega arith) m
-
-    pub move_done : j ≤ p → Inserted order (set order' p i) p i
-    move_done h =
-        record {
-          before = λ x k. get_or-set_other order' p x i 0 (λ e. omega arith) ∙ w.before x (omega (arith, w.from));
-          here = get_or-set_same order' p i 0 (omega (arith, w.from, w.to, w.room, w.long));
-          behind = λ x k m. get_or-set_other order' p x i 0 (λ e. omega arith) ∙ w.behind x (omega (arith, w.from)) m;
-        }
+-- those from p on are moved one further, and i is stored there
+pub inserted : (order order' : List ℕ) (p i : ℕ) → p ≤ i → i < length order → length order' ≡ length order → CopiedTo order order' p (p + 1) (i - p) → SameBelow order order' (p + 1) → Inserted order (set order' p i) p i
+inserted order order' p i h l e c s =
+    record {
+      before = λ x k. get_or-set_other order' p x i 0 (λ z. omega arith) ∙ s x 0 (omega arith);
+      here = get_or-set_same order' p i 0 (omega arith);
+      behind = λ x k m. get_or-set_other order' p x i 0 (λ z. omega arith) ∙ (c x 0 (omega arith) (omega arith) ∙ ap (at order) (behind x k));
+    }
+  where
+    behind : (x : ℕ) → p < x → p + (x - (p + 1)) ≡ x - 1
+    behind x k = omega arith
 
 -- so one key more is in order
 module _ (name : ℕ → List ℕ) (order order' : List ℕ) (p i : ℕ) (r : Ranked name order i) (w : Sought name (name i) order i p p) (v : Inserted order order' p i) where

@@ -1,35 +1,34 @@
 -- A LOOK THROUGH A CHAIN, broken off where it is long: what it tells (`Walks`), and how far it has come (`Walking`). Assumes nothing.
-use Rattle.std.specs.Prelude.{◌≡◌, List, Bool, true, false, ℕ, ◌+◌, ◌-◌, ◌≤◌, ◌<◌, length, get_or}
-use Rattle.std.proofs.Common.{sym, arith}
+use Rattle.std.specs.Prelude.{◌≡◌, List, Bool, true, false, ℕ, ◌+◌, ◌-◌, ◌≤◌, ◌<◌, length, get_or, Result, Ok, Err}
+use Rattle.std.proofs.Common.{arith}
 use Rattle.exact.specs.Tells.{Tells, tells_yes, tells_no}
-use Rattle.repeats.specs.declared.Walk.{Walk}
-use Rattle.repeats.specs.declared.Walk.TheVariants.{Met, Past, Long}
+use Rattle.repeats.specs.declared.TooLong.{TooLong}
 use Rattle.repeats.specs.Numbering.{Numbering}
 use Rattle.repeats.specs.Links.{Walkable, Walked, walk_first, walk_none, walk_key, walk_room, walk_less, walk_same, walk_more}
 use Rattle.repeats.specs.Links
 
 -- what it tells of A
-unfoldable pub Walks : Type 0 → Walk → Type 0
-Walks A Met = A
-Walks A Past = A → ⊥
-Walks A Long = Unit {0}
+unfoldable pub Walks : Type 0 → Result Bool TooLong → Type 0
+Walks A (Ok true) = A
+Walks A (Ok false) = A → ⊥
+Walks A (Err e) = Unit {0}
 
-pub walks_long : (A : Type 0) → Walks A Long
+pub walks_long : (A : Type 0) (e : TooLong) → Walks A (Err e)
 unfolding Walks
-walks_long A = tt
+walks_long A e = tt
 
-pub walks_map : {A B : Type 0} → (A → B) → (B → A) → (r : Walk) → Walks A r → Walks B r
+pub walks_map : {A B : Type 0} → (A → B) → (B → A) → (r : Result Bool TooLong) → Walks A r → Walks B r
 unfolding Walks
-walks_map f g Met x = f x
-walks_map f g Past x = λ y. x (g y)
-walks_map f g Long x = tt
+walks_map f g (Ok true) x = f x
+walks_map f g (Ok false) x = λ y. x (g y)
+walks_map f g (Err e) x = tt
 
-module _ (A : Type 0) (r : Walk) (x : Walks A r) where
-  pub walks_met : r ≡ Met → A
+module _ (A : Type 0) (r : Result Bool TooLong) (x : Walks A r) where
+  pub walks_met : r ≡ Ok true → A
   unfolding Walks
   walks_met e = rw e at x
 
-  pub walks_past : r ≡ Past → A → ⊥
+  pub walks_past : r ≡ Ok false → A → ⊥
   unfolding Walks
   walks_past e = rw e at x
 
@@ -43,7 +42,7 @@ module _ (N : Numbering) (P : ℕ → Type 0) (links : List ℕ) (head i : ℕ) 
   chain_first = record { walked = walk_first N P links head i w; few = omega arith }
 
   module _ (h steps : ℕ) (x : Walking N P links head i h steps) where
-    pub chain_none : h ≤ 0 → Walks (Links.Met P links head) Past
+    pub chain_none : h ≤ 0 → Walks (Links.Met P links head) (Ok false)
     unfolding Walks
     chain_none l = walk_none N P links head i w h x.walked l
 
@@ -51,7 +50,7 @@ module _ (N : Numbering) (P : ℕ → Type 0) (links : List ℕ) (head i : ℕ) 
       pub chain_before : k < i
       chain_before = omega (arith, (walk_key N P links head i w h x.walked l).before)
 
-      pub chain_met : (r : Bool) → r ≡ true → Tells (P k) r → Walks (Links.Met P links head) Met
+      pub chain_met : (r : Bool) → r ≡ true → Tells (P k) r → Walks (Links.Met P links head) (Ok true)
       unfolding Walks
       chain_met r f t = walk_same N P links head i w h x.walked l (rw e at (tells_yes r f t))
 

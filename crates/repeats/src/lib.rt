@@ -5,35 +5,9 @@ ghost use Rattle.std.specs.Prelude.{◌≡◌, ◌+◌, ◌*◌, ◌%◌, ◌≤
 ghost use Rattle.repeats.specs.Numbering.{spread};
 ghost use Rattle.repeats.specs.Sorted.{Inserted};
 
-// Where the first key stands that is the same as an earlier one of its object, if there is one.
-#[derive(Clone, Copy)]
-pub enum Repeat {
-    At(usize),
-    Nowhere,
-}
-
-// What a look through a chain gives: the same key is met, or not, or the chain is too long.
-#[derive(Clone, Copy)]
-pub enum Walk {
-    Met,
-    Past,
-    Long,
-}
-
-// How two names stand to each other in their order.
-#[derive(Clone, Copy)]
-pub enum Order {
-    Less,
-    Same,
-    More,
-}
-
-// Where a key belongs among those in order: behind so many, or it is there already.
-#[derive(Clone, Copy)]
-pub enum Found {
-    Gap(usize),
-    There,
-}
+// A look through a chain was broken off: the chain is too long.
+#[derive(Clone, Copy, PartialEq, Eq, Debug)]
+pub struct TooLong;
 
 // A word of the chains or of the order, as a number of keys.
 pub fn word(words: &[u16], x: usize) -> usize
@@ -64,10 +38,6 @@ pub fn insert(order: &mut [u16], p: usize, i: usize)
     requires { (p ≤ i) × (i < length order.old) × (i < 65536) }
     ensures { Inserted order.old order.new p i }
 {
-    let mut j = i;
-    while p < j {
-        order[j] = order[j - 1];
-        j -= 1;
-    }
+    order.copy_within(p..i, p + 1);
     order[p] = i as u16;
 }

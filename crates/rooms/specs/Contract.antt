@@ -1,21 +1,31 @@
 -- What a reader in code promises of the reader that it runs: where it stands afterwards, and what the rooms hold. Assumes nothing.
 use Rattle.std.specs.Prelude.{◌≡◌, List, ℕ, ◌+◌, ◌*◌, ◌≤◌, ◌<◌, length, drop}
 use Rattle.std.proofs.lemmas.List.Edits.{sets}
-use Rattle.exact.specs.Out.{Out, ok, soft, bad}
+use Rattle.exact.specs.Out.{Out, bad}
 use Rattle.exact.specs.Lines.{reached}
 use Rattle.exact.specs.Place.{peek}
 use Rattle.language.specs.Tree.{unlined, Tree, after, width, size, text_of, escapes_of, rows_of}
 use Rattle.language.specs.Answered.{limit, deepest}
 use Rattle.rooms.specs.Told.{spot, tally}
 use Rattle.rooms.specs.declared.Cursor.{Cursor}
-use Rattle.rooms.specs.declared.Step.{Step}
-use Rattle.rooms.specs.declared.Step.TheVariants.{Byte, Over}
-use Rattle.rooms.specs.declared.Ans.{Ans}
-use Rattle.rooms.specs.declared.Ans.TheVariants.{Ok, No}
-use Rattle.rooms.specs.declared.Far.{Far}
-use Rattle.rooms.specs.declared.Far.TheVariants.{Upto, Not}
-use Rattle.rooms.specs.declared.Block.{Block}
-use Rattle.rooms.specs.declared.Block.TheVariants.{Done, Bad}
+use Rattle.std.specs.declared.option.Option.{Option}
+use Rattle.std.specs.declared.option.Option.TheVariants.{None, Some}
+use Rattle.std.specs.declared.result.Result.{Result}
+use Rattle.std.specs.declared.result.Result.TheVariants.{Err, Ok}
+
+-- WHAT READERS ANSWER, as the crate's types of these names say it: a byte and the next cursor; a cursor, or the place of the refusal; with the place up to
+-- which something longer stays viable; with the place where a span ends
+abbrev pub Step : Type 0
+Step = Option (ℕ × Cursor)
+
+abbrev pub Ans : Type 0
+Ans = Result Cursor ℕ
+
+abbrev pub Far : Type 0
+Far = Result (Cursor × ℕ) ℕ
+
+abbrev pub Block : Type 0
+Block = Result (Cursor × ℕ × ℕ) ℕ
 
 -- what the numbers of one document, or of stored bytes, are below: places, rows, counts, and a sum of a few of them
 abbrev pub ample : ℕ
@@ -31,13 +41,13 @@ onward c i = record { at = c.at + i; row = c.row; text = c.text }
 
 -- a byte was there, and the next cursor stands behind it; or the document is at its end
 unfoldable pub Stepped : List ℕ → Cursor → Step → Type 0
-Stepped doc c (Byte b n) = (c.at < length doc) × (b ≡ peek doc c.at) × (n ≡ onward c 1)
-Stepped doc c Over = (length doc ≤ c.at) × (peek doc c.at ≡ 256)
+Stepped doc c (Some (b, n)) = (c.at < length doc) × (b ≡ peek doc c.at) × (n ≡ onward c 1)
+Stepped doc c None = (length doc ≤ c.at) × (peek doc c.at ≡ 256)
 
 -- the byte b was there, and the next cursor stands behind it; or another was
 unfoldable pub Takes : List ℕ → Cursor → ℕ → Ans → Type 0
 Takes doc c b (Ok n) = (n ≡ onward c 1) × (b ≡ peek doc c.at)
-Takes doc c b (No p) = (p ≡ c.at) × (peek doc c.at ≡ b → ⊥)
+Takes doc c b (Err p) = (p ≡ c.at) × (peek doc c.at ≡ b → ⊥)
 
 -- ASKED of a cursor: it stands in a document within the limit, and neither its row nor its text nor the escapes so far are ahead of it
 pub record Ready (doc : List ℕ) (c : Cursor) : Type 0 where
@@ -73,12 +83,12 @@ pub record Taken (doc : List ℕ) (c : Cursor) (parent : ℕ) (o : Out Tree) (n 
 -- THE CONTRACT of a reader in code: it answers what o says, and has written o's tree
 unfoldable pub Answers : List ℕ → Cursor → ℕ → Out Tree → Ans → List ℕ → List ℕ → List ℕ → List ℕ → Type 0
 Answers doc c parent o (Ok n) rows rows' text text' = Taken doc c parent o n 0 rows rows' text text'
-Answers doc c parent o (No p) rows rows' text text' = o ≡ bad p
+Answers doc c parent o (Err p) rows rows' text text' = o ≡ bad p
 
 -- .. and of one that may be soft
 unfoldable pub Reaches : List ℕ → Cursor → ℕ → Out Tree → Far → List ℕ → List ℕ → List ℕ → List ℕ → Type 0
-Reaches doc c parent o (Upto n far) rows rows' text text' = Taken doc c parent o n far rows rows' text text'
-Reaches doc c parent o (Not p) rows rows' text text' = o ≡ bad p
+Reaches doc c parent o (Ok (n, far)) rows rows' text text' = Taken doc c parent o n far rows rows' text text'
+Reaches doc c parent o (Err p) rows rows' text text' = o ≡ bad p
 
 -- .. and of one whose tree ends at e, before the line's end
 pub record Blocked (doc : List ℕ) (c : Cursor) (parent : ℕ) (o : Out Tree) (n : Cursor) (far e : ℕ) (rows rows' text text' : List ℕ) : Type 0 where
@@ -87,8 +97,8 @@ pub record Blocked (doc : List ℕ) (c : Cursor) (parent : ℕ) (o : Out Tree) (
   pub inner : e ≤ n.at
 
 unfoldable pub Blocks : List ℕ → Cursor → ℕ → Out Tree → Block → List ℕ → List ℕ → List ℕ → List ℕ → Type 0
-Blocks doc c parent o (Done n far e) rows rows' text text' = Blocked doc c parent o n far e rows rows' text text'
-Blocks doc c parent o (Bad p) rows rows' text text' = o ≡ bad p
+Blocks doc c parent o (Ok (n, far, e)) rows rows' text text' = Blocked doc c parent o n far e rows rows' text text'
+Blocks doc c parent o (Err p) rows rows' text text' = o ≡ bad p
 
 -- the numbers of a row fit
 pub record Small (first after from to next : ℕ) : Type 0 where

@@ -1,6 +1,6 @@
 -- How many words the rows of trees have. Assumes nothing.
-use Rattle.std.specs.Prelude.{◌≡◌, refl, List, Bool, true, false, ℕ, zero, suc, ◌+◌, ◌*◌, ◌≤◌, ◌<◌, length, leb}
-use Rattle.std.proofs.Common.{◌∙◌, arith, length-append}
+use Rattle.std.specs.Prelude.{◌≡◌, refl, List, Bool, true, false, ℕ, ◌+◌, ◌*◌, length, leb}
+use Rattle.std.proofs.Common.{arith, length-append}
 use Rattle.notation.specs.Class.{pick}
 use Rattle.language.specs.Tree.{Positions, width, Tree, leaf, node, Forest, none, more, size, sizes, text_of, rows_of, rowss, row_list}
 

@@ -1,14 +1,15 @@
 -- Laws of the spaces before a line, as a loop over them says it. Assumes nothing.
-use Rattle.std.specs.Prelude.{◌≡◌, List, [], ◌∷◌, Bool, true, false, ℕ, zero, suc, ◌+◌, ◌-◌, ◌≤◌, ◌<◌, max, length, get_or, drop}
+use Rattle.std.specs.Prelude.{◌≡◌, List, [], ◌∷◌, Bool, true, false, ℕ, zero, suc, ◌+◌, ◌-◌, ◌≤◌, ◌<◌, min, length, get_or, drop}
 use Rattle.std.proofs.Math.Path.{refl}
-use Rattle.std.proofs.Common.{sym, ap, subst, ◌∙◌, add-zero, zero-add, add-one}
+use Rattle.std.proofs.Common.{sym, ap, subst, add-zero, zero-add, add-one}
 use native.Mathlib.Omega.{arith}
 use Rattle.exact.specs.Class.{pick, is, only, only_eq}
 use Rattle.exact.specs.Block.{lead}
-use Rattle.exact.specs.Place.{peek, peek_in, There, there, byte_there, none_there}
+use native.Mathlib.Decide.{dec_le}
+use Rattle.exact.specs.Place.{common, common_end, common_over, peek, peek_in, There, there, byte_there, none_there}
 use Rattle.exact.specs.Lines.{spaces, spaces_more, spaces_other, spaces_over}
 use Rattle.rooms.specs.declared.Cursor.{Cursor}
-use Rattle.rooms.specs.declared.Step.TheVariants.{Byte}
+use Rattle.std.specs.declared.option.Option.TheVariants.{Some}
 use Rattle.rooms.specs.Contract.{onward, Stepped}
 
 pub indent_first : (doc : List ℕ) (at n : ℕ) → spaces n (drop at doc) ≡ 0 + spaces (n - 0) (drop (at + 0) doc)
@@ -38,6 +39,21 @@ module _ (doc : List ℕ) (at n i : ℕ) (inv : spaces n (drop at doc) ≡ i + s
       let y : spaces (n - i) (drop (at + i) doc) ≡ suc (spaces (n - (i + 1)) (drop (at + (i + 1)) doc)) = rw (z, ← q) (spaces_more (n - (i + 1)) (at + i) doc h k) in
       omega arith
 
+  pub indent_done : at ≤ length doc → i ≡ min n (length doc - at) → i ≡ spaces n (drop at doc)
+  indent_done h e = by (dec_le n i)
+    where
+      by : Dec (n ≤ i) → i ≡ spaces n (drop at doc)
+      by (yes l) = indent_all l
+      by (no l) = indent_over (omega arith) (omega arith)
+
+-- .. and of the bytes of a word
+pub common_done : (w doc : List ℕ) (at n : ℕ) → at ≤ length doc → n ≡ min (length w) (length doc - at) → common (drop n w) (drop (at + n) doc) ≡ 0
+common_done w doc at n h e = by (dec_le (length w) n)
+  where
+    by : Dec (length w ≤ n) → common (drop n w) (drop (at + n) doc) ≡ 0
+    by (yes l) = common_end w doc n (at + n) l
+    by (no l) = common_over w doc n (at + n) (omega arith) (omega arith)
+
 pub spaces_lead : (n : ℕ) (s : List ℕ) → spaces n s ≡ lead n s
 unfolding spaces
 spaces_lead zero s = refl
@@ -47,7 +63,7 @@ spaces_lead (suc n) (b ∷ s) = ap (λ k. pick (is (only 32) b) (suc k) 0) (spac
 -- A COUNT OF SPACES is as many steps, each with a space
 pub data Spaces (doc : List ℕ) : Cursor → ℕ → Type 0 where
   no_space : {c : Cursor} → Spaces doc c 0
-  a_space : {c n : Cursor} {i : ℕ} → Stepped doc c (Byte 32 n) → Spaces doc n i → Spaces doc c (suc i)
+  a_space : {c n : Cursor} {i : ℕ} → Stepped doc c (Some (32, n)) → Spaces doc n i → Spaces doc c (suc i)
 
 pub indent_steps : (doc : List ℕ) (n : ℕ) (c : Cursor) → Spaces doc c (lead n (drop c.at doc))
 unfolding Stepped

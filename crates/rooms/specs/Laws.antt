@@ -1,14 +1,14 @@
 -- What a return of a reader in code has to show, from what the tests and the calls on the way say: each law's conclusion is the contract. Assumes nothing.
-use Rattle.std.specs.Prelude.{◌≡◌, refl, List, [], ◌∷◌, ℕ, ◌+◌, ◌*◌, ◌≤◌, ◌<◌, drop, get_or}
+use Rattle.std.specs.Prelude.{◌≡◌, refl, List, [], ℕ, ◌+◌, ◌*◌, ◌≤◌, ◌<◌, drop, get_or}
 use Rattle.std.proofs.Math.Path.{sym}
-use Rattle.std.proofs.Common.{ap, ◌∙◌, add-zero}
+use Rattle.std.proofs.Common.{◌∙◌, add-zero}
 use Rattle.std.proofs.Math.Bool.{true, false}
 use native.Mathlib.Omega.{arith}
 use Rattle.std.proofs.Math.ListN.{length, get_or-eq_default}
 use Rattle.std.proofs.lemmas.List.Edits.{sets}
 use Rattle.std.proofs.Math.Dec.{leb}
 use borrow.Author.Tests.{le-leb, lt-leb}
-use Rattle.exact.specs.Out.{Out, ok, bad, Reader}
+use Rattle.exact.specs.Out.{Out, bad, Reader}
 use Rattle.exact.specs.Class.{is, only}
 use Rattle.exact.specs.Comb.{alt_r}
 use Rattle.exact.specs.Lines.{reached}
@@ -17,54 +17,48 @@ use Rattle.language.specs.Kind.{TRUE}
 use Rattle.language.specs.Tree.{unlined, Decoded, unescaped, Tree, leaf, width, size, text_of, escapes_of, rows_of, row_list}
 use Rattle.rooms.specs.Told.{ESCAPE, spot, tally, told, spot_on, tally_on}
 use Rattle.rooms.specs.declared.Cursor.{Cursor}
-use Rattle.rooms.specs.declared.Step.{Step}
-use Rattle.rooms.specs.declared.Step.TheVariants.{Byte, Over}
-use Rattle.rooms.specs.declared.Ans.{Ans}
-use Rattle.rooms.specs.declared.Ans.TheVariants.{Ok, No}
-use Rattle.rooms.specs.declared.Far.{Far}
-use Rattle.rooms.specs.declared.Far.TheVariants.{Upto, Not}
-use Rattle.rooms.specs.declared.Block.{Block}
-use Rattle.rooms.specs.declared.Block.TheVariants.{Done, Bad}
-use Rattle.rooms.specs.Contract.{onward, Stepped, Takes, Ready, Span, Filled, Taken, Answers, Reaches, Blocked, Blocks}
+use Rattle.std.specs.declared.option.Option.TheVariants.{None, Some}
+use Rattle.std.specs.declared.result.Result.TheVariants.{Err, Ok}
+use Rattle.rooms.specs.Contract.{Step, Ans, Far, Block, onward, Stepped, Takes, Ready, Taken, Answers, Reaches, Blocked, Blocks}
 
 -- ---- the cursor
 
 module _ (doc : List ℕ) (c : Cursor) where
-  pub stepped : (n : Cursor) → c.at < length doc → n ≡ onward c 1 → Stepped doc c (Byte (get_or doc c.at 0) n)
+  pub stepped : (n : Cursor) → c.at < length doc → n ≡ onward c 1 → Stepped doc c (Some (get_or doc c.at 0, n))
   unfolding Stepped
   stepped n l h = (l, get_d_any doc c.at 0 256 l, h)
 
-  pub stepped_over : length doc ≤ c.at → Stepped doc c Over
+  pub stepped_over : length doc ≤ c.at → Stepped doc c None
   unfolding Stepped
   stepped_over l = (l, get_or-eq_default doc 256 l)
 
   -- .. and taken apart
   module _ (s : Step) (h : Stepped doc c s) where
-    pub step_byte : (b : ℕ) (n : Cursor) → s ≡ Byte b n → b ≡ peek doc c.at
+    pub step_byte : (b : ℕ) (n : Cursor) → s ≡ Some (b, n) → b ≡ peek doc c.at
     unfolding Stepped
     step_byte b n e = (rw e at h).1
 
-    pub step_next : (b : ℕ) (n : Cursor) → s ≡ Byte b n → n ≡ onward c 1
+    pub step_next : (b : ℕ) (n : Cursor) → s ≡ Some (b, n) → n ≡ onward c 1
     unfolding Stepped
     step_next b n e = (rw e at h).2
 
-    pub step_inside : (b : ℕ) (n : Cursor) → s ≡ Byte b n → c.at < length doc
+    pub step_inside : (b : ℕ) (n : Cursor) → s ≡ Some (b, n) → c.at < length doc
     unfolding Stepped
     step_inside b n e = (rw e at h).0
 
-    pub step_over : s ≡ Over → peek doc c.at ≡ 256
+    pub step_over : s ≡ None → peek doc c.at ≡ 256
     unfolding Stepped
     step_over e = (rw e at h).1
 
-    pub takes_it : (b g : ℕ) (n : Cursor) → s ≡ Byte g n → g ≡ b → Takes doc c b (Ok n)
+    pub takes_it : (b g : ℕ) (n : Cursor) → s ≡ Some (g, n) → g ≡ b → Takes doc c b (Ok n)
     unfolding Takes
     takes_it b g n e k = (step_next g n e, sym k ∙ step_byte g n e)
 
-    pub takes_other : (b g : ℕ) (n : Cursor) → s ≡ Byte g n → (g ≡ b → ⊥) → Takes doc c b (No c.at)
+    pub takes_other : (b g : ℕ) (n : Cursor) → s ≡ Some (g, n) → (g ≡ b → ⊥) → Takes doc c b (Err c.at)
     unfolding Takes
     takes_other b g n e k = (refl, λ z. k (step_byte g n e ∙ z))
 
-    pub takes_none : (b : ℕ) → b < 256 → s ≡ Over → Takes doc c b (No c.at)
+    pub takes_none : (b : ℕ) → b < 256 → s ≡ None → Takes doc c b (Err c.at)
     unfolding Takes
     takes_none b l e = let z = step_over e in (refl, λ k. omega arith)
 
@@ -77,18 +71,18 @@ module _ (doc : List ℕ) (c : Cursor) where
     unfolding Takes
     take_byte n e = (rw e at h).1
 
-    pub take_place : (p : ℕ) → a ≡ No p → p ≡ c.at
+    pub take_place : (p : ℕ) → a ≡ Err p → p ≡ c.at
     unfolding Takes
     take_place p e = (rw e at h).0
 
-    pub take_other : (p : ℕ) → a ≡ No p → peek doc c.at ≡ b → ⊥
+    pub take_other : (p : ℕ) → a ≡ Err p → peek doc c.at ≡ b → ⊥
     unfolding Takes
     take_other p e = (rw e at h).1
 
 -- ---- answers, made and taken apart
 
 module _ (doc : List ℕ) (c : Cursor) (p : ℕ) (o : Out Tree) (R R' T T' : List ℕ) where
-  pub refused : (q : ℕ) → o ≡ bad q → Answers doc c p o (No q) R R' T T'
+  pub refused : (q : ℕ) → o ≡ bad q → Answers doc c p o (Err q) R R' T T'
   unfolding Answers
   refused q h = h
 
@@ -100,39 +94,39 @@ module _ (doc : List ℕ) (c : Cursor) (p : ℕ) (o : Out Tree) (R R' T T' : Lis
   unfolding Answers
   taken a n e h = rw e at h
 
-  pub refusal : (a : Ans) (q : ℕ) → a ≡ No q → Answers doc c p o a R R' T T' → o ≡ bad q
+  pub refusal : (a : Ans) (q : ℕ) → a ≡ Err q → Answers doc c p o a R R' T T' → o ≡ bad q
   unfolding Answers
   refusal a q e h = rw e at h
 
-  pub not_reached : (q : ℕ) → o ≡ bad q → Reaches doc c p o (Not q) R R' T T'
+  pub not_reached : (q : ℕ) → o ≡ bad q → Reaches doc c p o (Err q) R R' T T'
   unfolding Reaches
   not_reached q h = h
 
-  pub reaching : (n : Cursor) (far : ℕ) → Taken doc c p o n far R R' T T' → Reaches doc c p o (Upto n far) R R' T T'
+  pub reaching : (n : Cursor) (far : ℕ) → Taken doc c p o n far R R' T T' → Reaches doc c p o (Ok (n, far)) R R' T T'
   unfolding Reaches
   reaching n far h = h
 
-  pub reached_taken : (a : Far) (n : Cursor) (far : ℕ) → a ≡ Upto n far → Reaches doc c p o a R R' T T' → Taken doc c p o n far R R' T T'
+  pub reached_taken : (a : Far) (n : Cursor) (far : ℕ) → a ≡ Ok (n, far) → Reaches doc c p o a R R' T T' → Taken doc c p o n far R R' T T'
   unfolding Reaches
   reached_taken a n far e h = rw e at h
 
-  pub reached_refusal : (a : Far) (q : ℕ) → a ≡ Not q → Reaches doc c p o a R R' T T' → o ≡ bad q
+  pub reached_refusal : (a : Far) (q : ℕ) → a ≡ Err q → Reaches doc c p o a R R' T T' → o ≡ bad q
   unfolding Reaches
   reached_refusal a q e h = rw e at h
 
-  pub not_block : (q : ℕ) → o ≡ bad q → Blocks doc c p o (Bad q) R R' T T'
+  pub not_block : (q : ℕ) → o ≡ bad q → Blocks doc c p o (Err q) R R' T T'
   unfolding Blocks
   not_block q h = h
 
-  pub a_block : (n : Cursor) (far e : ℕ) → Blocked doc c p o n far e R R' T T' → Blocks doc c p o (Done n far e) R R' T T'
+  pub a_block : (n : Cursor) (far e : ℕ) → Blocked doc c p o n far e R R' T T' → Blocks doc c p o (Ok (n, far, e)) R R' T T'
   unfolding Blocks
   a_block n far e h = h
 
-  pub block_taken : (a : Block) (n : Cursor) (far e : ℕ) → a ≡ Done n far e → Blocks doc c p o a R R' T T' → Blocked doc c p o n far e R R' T T'
+  pub block_taken : (a : Block) (n : Cursor) (far e : ℕ) → a ≡ Ok (n, far, e) → Blocks doc c p o a R R' T T' → Blocked doc c p o n far e R R' T T'
   unfolding Blocks
   block_taken a n far e z h = rw z at h
 
-  pub block_refusal : (a : Block) (q : ℕ) → a ≡ Bad q → Blocks doc c p o a R R' T T' → o ≡ bad q
+  pub block_refusal : (a : Block) (q : ℕ) → a ≡ Err q → Blocks doc c p o a R R' T T' → o ≡ bad q
   unfolding Blocks
   block_refusal a q z h = rw z at h
 

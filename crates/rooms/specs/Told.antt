@@ -1,6 +1,6 @@
 -- THE TEXT WORD of a cursor, which is how an answer carries the escapes: the text byte that comes next, and the escapes read so far, in one word, since a cursor of four words
 -- costs a quarter more time. Assumes nothing.
-use Rattle.std.specs.Prelude.{◌≡◌, ℕ, ◌+◌, ◌*◌, ◌/◌, ◌%◌, ◌≤◌, ◌<◌, length}
+use Rattle.std.specs.Prelude.{◌≡◌, ℕ, ◌+◌, ◌*◌, ◌/◌, ◌%◌, ◌<◌, length}
 use Rattle.std.proofs.Common.{arith}
 use Rattle.language.specs.Tree.{Decoded}
 

@@ -17,6 +17,7 @@ use language::{Kind, WIDTH};
 pub const ESCAPE: usize = 4294967296;
 
 // Where a reader stands: the byte and the row that come next, and the text byte that comes next with the escapes read so far, in one word.
+// Stays (point 5): with a word each for the text byte and the escapes, reading takes a quarter more time (specs/Told.antt).
 #[derive(Clone, Copy)]
 pub struct Cursor {
     pub at: usize,
@@ -24,65 +25,42 @@ pub struct Cursor {
     pub text: usize,
 }
 
-// What reading a byte gives: the byte and the next cursor, or the document's end.
-#[derive(Clone, Copy)]
-pub enum Step {
-    Byte(u8, Cursor),
-    Over,
-}
-
 // What a reader answers: the cursor after what it read, or the place where it is refused.
-#[derive(Clone, Copy)]
-pub enum Ans {
-    Ok(Cursor),
-    No(usize),
-}
+pub type Ans = Result<Cursor, usize>;
 
 // The same with the place up to which something longer stays viable, 0 for none.
-#[derive(Clone, Copy)]
-pub enum Far {
-    Upto(Cursor, usize),
-    Not(usize),
-}
+// Stays (point 1): `reached` has it so, and readers take the greater of two such places, which with Options would be no plainer.
+pub type Far = Result<(Cursor, usize), usize>;
 
 // What the reader of a block answers: the same, with the place where the span of what it read ends.
-#[derive(Clone, Copy)]
-pub enum Block {
-    Done(Cursor, usize, usize),
-    Bad(usize),
-}
+pub type Block = Result<(Cursor, usize, usize), usize>;
 
 // An answer made anew, field by field: one that a callee wrote and that is handed on whole is read back in wide words, which waits for its narrow stores.
-impl Ans {
-    pub fn anew(self) -> Ans
-        ensures { result ≡ self }
-    {
-        match self {
-            Ans::Ok(n) => Ans::Ok(n),
-            Ans::No(p) => Ans::No(p),
-        }
+// Stays (point 4), as `anew_far`, `anew_block` and `Cursor::anew` do: handed on whole is slower (docs/BENCHMARKS.md, "Answers and cursors").
+pub fn anew(a: Ans) -> Ans
+    ensures { result ≡ a }
+{
+    match a {
+        Ok(n) => Ok(n),
+        Err(p) => Err(p),
     }
 }
 
-impl Far {
-    pub fn anew(self) -> Far
-        ensures { result ≡ self }
-    {
-        match self {
-            Far::Upto(n, far) => Far::Upto(n, far),
-            Far::Not(p) => Far::Not(p),
-        }
+pub fn anew_far(a: Far) -> Far
+    ensures { result ≡ a }
+{
+    match a {
+        Ok((n, far)) => Ok((n, far)),
+        Err(p) => Err(p),
     }
 }
 
-impl Block {
-    pub fn anew(self) -> Block
-        ensures { result ≡ self }
-    {
-        match self {
-            Block::Done(n, far, e) => Block::Done(n, far, e),
-            Block::Bad(p) => Block::Bad(p),
-        }
+pub fn anew_block(a: Block) -> Block
+    ensures { result ≡ a }
+{
+    match a {
+        Ok((n, far, e)) => Ok((n, far, e)),
+        Err(p) => Err(p),
     }
 }
 
@@ -107,7 +85,7 @@ impl Cursor {
     {
         Cursor {
             at: self.at,
-            row: lesser(self.row, self.at),
+            row: self.row.min(self.at),
             text: self.text,
         }
     }
@@ -127,112 +105,76 @@ impl Cursor {
     }
 
     // The byte at the cursor, 256 at the end.
+    // Stays (point 1): `peek`, by which the laws of readers speak, is 256 there, and `c.look(doc) == 58` would be no plainer with Some.
     pub fn look(self, doc: &[u8]) -> u32
         ensures { result ≡ peek doc.now self.at }
     {
-        let at = self.at;
-        if at < doc.len() { doc[at] as u32 } else { 256 }
+        match doc.get(self.at) {
+            Some(b) => *b as u32,
+            None => 256,
+        }
     }
 
-    // The byte at the cursor, and the cursor behind it.
-    pub fn step(self, doc: &[u8]) -> Step
+    // The byte at the cursor, and the cursor behind it; none at the document's end.
+    #[tactic(auto, using(crate::specs::Laws::stepped, crate::specs::Laws::stepped_over))]
+    pub fn step(self, doc: &[u8]) -> Option<(u8, Cursor)>
         ensures { Stepped doc.now self result }
     {
         let at = self.at;
         if at < doc.len() {
-            return Step::Byte(
-                doc[at],
-                Cursor {
-                    at: at + 1,
-                    row: self.row,
-                    text: self.text,
-                },
-            );
+            let next = Cursor {
+                at: at + 1,
+                row: self.row,
+                text: self.text,
+            };
+            Some((doc[at], next))
+        } else {
+            None
         }
-        Step::Over
     }
 
     // The byte b, taken: the cursor behind it, or the place where another stands.
+    #[tactic(auto, using(crate::specs::Laws::takes_it, crate::specs::Laws::takes_other, crate::specs::Laws::takes_none))]
     pub fn take(self, doc: &[u8], b: u8) -> Ans
         ensures { Takes doc.now self b result }
     {
         let at = self.at;
-        match self.step(&*doc) {
-            Step::Over => Ans::No(at),
-            Step::Byte(got, n) => {
-                if got == b {
-                    return Ans::Ok(n);
-                }
-                Ans::No(at)
-            }
+        match self.step(doc) {
+            Some((got, n)) if got == b => Ok(n),
+            _ => Err(at),
         }
     }
 
     // How many spaces stand here, of n.
+    // Stays (point 6): n is how many are asked for, and no count of the document's bytes.
     pub fn indent(self, doc: &[u8], n: usize) -> usize
         requires { self.at ≤ length doc.now }
         ensures { (result ≡ lead n (drop self.at doc.now)) × (result ≤ n) × (self.at + result ≤ length doc.now) }
     {
         let at = self.at;
-        let mut i = 0;
-        while i < n {
-            if doc.len() - at <= i {
+        let most = n.min(doc.len() - at);
+        for i in 0..most {
+            if doc[at + i] != b' ' {
                 return i;
             }
-            if doc[at + i] != 32 {
-                return i;
-            }
-            i += 1;
         }
-        i
+        most
     }
 }
 
 // How many bytes of the word stand at `at`.
+// Stays (point 4): it tells how many are the same, which a comparison of slices does not.
 pub fn same(doc: &[u8], at: usize, word: &[u8]) -> usize
     requires { at ≤ length doc.now }
     ensures { (result ≡ common word.now (drop at doc.now)) × (at + result ≤ length doc.now) }
 {
-    let mut n = 0;
-    while n < word.len() {
-        if doc.len() - at <= n {
-            return n;
-        }
+    let most = word.len().min(doc.len() - at);
+    for n in 0..most {
         if doc[at + n] != word[n] {
             return n;
         }
-        n += 1;
     }
-    n
-}
-
-// The greater of two places.
-pub fn greater(a: usize, b: usize) -> usize
-    ensures { result ≡ max a b }
-{
-    if a < b {
-        return b;
-    }
-    a
-}
-
-// The lesser of two numbers.
-pub fn lesser(a: usize, b: usize) -> usize
-    ensures { result ≡ min a b }
-{
-    if b < a {
-        return b;
-    }
-    a
-}
-
-// A word stored, where there is room.
-pub fn put(rows: &mut [u32], i: usize, v: u32)
-    ensures { rows.new ≡ set rows.old i v }
-{
-    if i < rows.len() {
-        rows[i] = v;
-    }
+    most
 }
 
 // A byte stored, where there is room.
@@ -244,47 +186,33 @@ pub fn put_byte(text: &mut [u8], i: usize, v: u8)
     }
 }
 
-// The document's bytes from a to e, stored from x on, where all of them have room.
-fn copy_whole(doc: &[u8], a: usize, e: usize, text: &mut [u8], x: usize)
-    requires { (a ≤ e) × (e ≤ length doc.now) × (x + e < ample) × (x + e ≤ a + length text.old) }
-    ensures { text.new ≡ sets text.old x (slice a e doc.now) }
-{
-    let mut i = a;
-    while i < e {
-        text[x + (i - a)] = doc[i];
-        i += 1;
-    }
-}
-
 // The document's bytes from a to e, stored from x on, as many as have room.
 pub fn copy(doc: &[u8], a: usize, e: usize, text: &mut [u8], x: usize)
     requires { (a ≤ e) × (e ≤ length doc.now) × (x + e < ample) }
     ensures { text.new ≡ sets text.old x (slice a e doc.now) }
 {
-    if text.len() <= x {
-        return;
+    if x < text.len() {
+        let n = (e - a).min(text.len() - x);
+        // A loop, since most runs are short: by the slice's own copy reading takes 1.11 of the time in the mean, and 1.24 at most.
+        for i in 0..n {
+            text[x + i] = doc[a + i];
+        }
     }
-    if x + e <= a + text.len() {
-        copy_whole(&*doc, a, e, text, x);
-        return;
-    }
-    copy_whole(&*doc, a, a + (text.len() - x), text, x);
 }
 
-// The first n of these words from i on, where some may have no room. It calls itself before it stores, so that it is put into no caller: those stay small.
-fn put_part(rows: &mut [u32], i: usize, words: &[u32], n: usize)
-    requires { (n ≤ length words.now) × (i + n ≤ width * ample) }
-    ensures { rows.new ≡ sets rows.old i (take n words.now) }
+// These words from i on, of which the last may have no room. It is put into no caller, so that those stay small.
+#[inline(never)]
+fn put_part(rows: &mut [u32], i: usize, words: &[u32])
+    requires start { i ≤ length rows.old }
+    requires few { length rows.old ≤ i + length words.now }
+    ensures { rows.new ≡ sets rows.old i words.now }
 {
-    if n == 0 {
-        return;
-    }
-    let m = n - 1;
-    put_part(rows, i, words, m);
-    put(rows, i + m, words[m]);
+    let n = rows.len() - i;
+    rows[i..].copy_from_slice(&words[..n]);
 }
 
 // The words of a row: one test, then plain stores.
+// Stays (point 6): as one array that is copied whole, reading records takes 1.30 of the time before, and 1.09 by these stores in the same minutes.
 pub fn put_row(rows: &mut [u32], row: usize, w: Words)
     requires { row < ample }
     ensures { rows.new ≡ sets rows.old (width * row) (row_list unlined w.kind w.first w.after w.from w.to w.parent w.next) }
@@ -295,7 +223,7 @@ pub fn put_row(rows: &mut [u32], row: usize, w: Words)
             let words = [
                 w.kind, w.first, w.after, w.from, w.to, w.parent, w.next, 0, 0,
             ];
-            put_part(rows, i, &words, WIDTH);
+            put_part(rows, i, &words);
         }
         return;
     }

@@ -1,13 +1,13 @@
 -- BITS IN WORDS: the bit c of a run of words that begins at a word's number; one that is set stays set. Assumes nothing.
-use Rattle.std.specs.Prelude.{◌≡◌, refl, List, ℕ, ◌+◌, ◌*◌, ◌/◌, ◌%◌, ◌^◌, ◌≤◌, ◌<◌, max, length, get_or, set, eqb}
-use Rattle.std.proofs.Common.{sym, ◌∙◌, one-mul, arith, get_or-set_same, pow_pos, shl_exact}
+use Rattle.std.specs.Prelude.{◌≡◌, List, ℕ, ◌+◌, ◌*◌, ◌/◌, ◌%◌, ◌^◌, ◌<◌, max, length, get_or, set, eqb}
+use Rattle.std.proofs.Common.{◌∙◌, one-mul, arith, get_or-set_same, pow_pos, shl_exact}
 use Rattle.std.proofs.Math.Path.{ap}
 use Rattle.std.proofs.Math.Nat.{mod-lt, div_self}
 use Rattle.std.proofs.Math.Decide.{ℕ_discrete}
 use Rattle.std.proofs.Math.ListN.{length-set}
 use Rattle.std.proofs.Math.Seq.{get_or-set_other}
 use Rattle.std.specs.Int.Bits.{bit_or, or_step}
-use Rattle.std.proofs.lemmas.Nat.{or_shr, or_lt}
+use Rattle.std.proofs.lemmas.Nat.{or_shr}
 use Rattle.exact.specs.Tells.{Tells, tells_eqb}
 
 -- the bit k of a word

@@ -3,7 +3,7 @@ use Rattle.std.specs.Prelude.{◌≡◌, List, ◌∷◌, Bool, true, false, ℕ
 use Rattle.std.proofs.Common.{sym, ◌∙◌, arith, rules}
 use Rattle.exact.specs.Tells.{Tells, tells_yes, tells_no}
 use Rattle.sieve.specs.Bits.{On, Sets}
-use Rattle.sieve.specs.Sieve.{hits, broken, seen, again, filter, large, class_of, class_low, Mark, mark, Has, has_here, has_later, Double, double_here, double_later, Sieved, Steps, Flags, flag_framed, flag_seen, flag_found}
+use Rattle.sieve.specs.Sieve.{hits, broken, seen, again, large, class_of, class_low, Mark, mark, Has, has_here, has_later, Double, double_here, double_later, Sieved, Steps, Flags, flag_framed, flag_seen, flag_found}
 use Rattle.sieve.specs.Shown.{class_small}
 
 -- ASKED: the sieve has no lists

@@ -1,7 +1,10 @@
 -- WHAT THE FUNCTIONS OF THE SIEVE SHOW, each over the words that it leaves. Assumes nothing.
-use Rattle.std.specs.Prelude.{◌≡◌, List, ◌⊎◌, Bool, true, false, ℕ, ◌+◌, ◌/◌, ◌≤◌, ◌<◌, length, get_or, set}
+use Rattle.std.specs.Prelude.{◌≡◌, List, ◌⊎◌, Bool, true, false, ℕ, ◌+◌, ◌/◌, ◌-◌, ◌≤◌, ◌<◌, length, get_or, set, take, drop}
 use Rattle.std.proofs.Common.{sym, ap, ◌∙◌, inl, inr, mod-lt, arith, length-set, get_or-set_same, get_or-set_other, rules}
 use Rattle.std.proofs.Math.Decide.{ℕ_discrete}
+use Rattle.std.proofs.Common.{MatchBool, length-take, length-drop}
+use Rattle.std.proofs.lemmas.List.{get_or-take, get_or-drop}
+use Rattle.std.specs.List.{HoldsAt, AllWithin}
 use Rattle.exact.specs.Tells.{Tells, tells_yes, tells_no}
 use Rattle.sieve.specs.Bits.{On, Sets, on_same}
 use Rattle.sieve.specs.Sieve.{hits, top, broken, list_at, lists, seen, again, filter, large, class_of, Near, Steps, Flags}
@@ -35,7 +38,23 @@ module _ (S : List ℕ) (d n h : ℕ) where
   pub near_low : (i : ℕ) → length S ≡ large → d < lists → n ≤ 16 → i < n → list_at d + 2 + i < length S
   near_low i e l m v = omega arith
 
-pub ruleset nearing = (near_first, near_found, near_more, near_done, near_low, rules)
+-- by a look at the list as a slice
+module _ (S xs : List ℕ) (a d n h : ℕ) (e : a ≡ list_at d) (f : xs ≡ take (a + 2 + n - (a + 2)) (drop (a + 2) S)) (l : a + 2 + n ≤ length S) where
+  sliced : (k : ℕ) → k < n → get_or xs k 0 ≡ get_or S (list_at d + 2 + k) 0
+  sliced k m =
+      rw f
+      (get_or-take (a + 2 + n - (a + 2)) (drop (a + 2) S) k 0 (omega arith)
+      ∙ (get_or-drop (a + 2) S k 0 ∙ ap (λ (i : ℕ). get_or S i 0) (let z : a + 2 + k ≡ list_at d + 2 + k = omega arith in z)))
+
+  long : length xs ≤ n
+  long = rw f (omega (arith, length-take (a + 2 + n - (a + 2)) (drop (a + 2) S)))
+
+  full : n ≤ length xs
+  full = rw f (omega (arith, length-take (a + 2 + n - (a + 2)) (drop (a + 2) S), length-drop (a + 2) S))
+
+  pub near_any : (r : Bool) → MatchBool r ((k : ℕ) × (k < length xs) × HoldsAt (λ x. x ≡ h) xs k) (AllWithin (λ x. x ≡ h → ⊥) xs 0 (length xs)) → Tells (NearBelow S d n h) r
+  near_any true m = record { number = m.0; low = omega (arith, m.1, long); is = sym (sliced m.0 (omega (arith, m.1, long))) ∙ m.2 0 }
+  near_any false m = λ x. m x.number 0 (omega arith) (omega (arith, x.low, full)) (sliced x.number x.low ∙ x.is)
 
 -- a flag, from the bit that is set and the count
 module _ (S : List ℕ) (c : ℕ) (long : length S ≡ large) (l : c < 131072) (T : List ℕ) (x : Sets S again c T) where

@@ -1,6 +1,6 @@
 -- A SIEVE OF KEYS: for each depth a list of the keys of the object last met there, and two runs of bits; whatever key comes twice has its bit set in the second run. Assumes nothing.
-use Rattle.std.specs.Prelude.{◌≡◌, List, ◌∷◌, ◌⊎◌, ℕ, ◌+◌, ◌*◌, ◌/◌, ◌%◌, ◌≤◌, ◌<◌, length, get_or, set}
-use Rattle.std.proofs.Common.{sym, ap, ◌∙◌, inl, inr, mod-lt, arith}
+use Rattle.std.specs.Prelude.{◌≡◌, List, ◌∷◌, ◌⊎◌, ℕ, ◌+◌, ◌*◌, ◌/◌, ◌%◌, ◌≤◌, ◌<◌, length, get_or}
+use Rattle.std.proofs.Common.{sym, ◌∙◌, inl, inr, mod-lt, arith}
 use Rattle.sieve.specs.Bits.{On, on_same}
 
 -- ---- where the words stand

@@ -1,4 +1,5 @@
 // A sieve of keys, each an object's row and a hash: whatever key comes twice has its bit set in the second of two runs of bits. Each depth has a list of the first keys of the object last met there, so that small objects set no bits; without lists every key has its bit.
+// Stays (points 5, 6): the sieve and its lists lie in one lent room of words, since there is no heap, and go with depth and hash as parameters. A struct that holds the `&mut` slices would need a clause in every contract that it still holds the same ones.
 #![tactic(auto)]
 
 ghost use Rattle.std.specs.Prelude.{◌≡◌, ◌+◌, ◌/◌, ◌≤◌, ◌<◌, length, get_or};
@@ -23,6 +24,7 @@ pub const HITS: usize = LOG + 2;
 pub const TOP: usize = LOG + 3;
 
 // 1 if an object was lost, 2 if there are no lists.
+// Stays (point 1), with MODE and ROUND: a number in a word of the room that the caller lends (fixed memory), which Sieved in specs/Sieve.antt names.
 pub const BROKEN: usize = LOG + 4;
 
 const BITS: usize = 2;
@@ -38,7 +40,7 @@ const KEYS: usize = 16;
 const WORDS: usize = 4096;
 
 // The runs of bits: seen, and found again; and the filter of keys to look at.
-pub const SEEN: usize = LISTS + DEPTHS * (KEYS + 2);
+pub const SEEN: usize = LISTS + DEPTHS * LIST;
 
 pub const AGAIN: usize = SEEN + WORDS;
 
@@ -46,8 +48,11 @@ pub const FILTER: usize = AGAIN + WORDS;
 
 pub const LARGE: usize = FILTER + WORDS;
 
+// The list of a depth takes so many words.
+const LIST: usize = KEYS + 2;
+
 // A word of the room, as a number.
-fn word(keys: &[u32], i: usize) -> usize
+pub fn log_word(keys: &[u32], i: usize) -> usize
     requires { i < length keys.now }
     ensures { (result ≡ get_or keys.now i 0) × (result < 4294967296) }
 {
@@ -63,6 +68,7 @@ pub fn class_of(h: usize) -> usize
 }
 
 // Whether a bit is set in the run that begins at a word.
+#[tactic(auto, using(crate::specs::Bits::bit_told))]
 pub fn bit(keys: &[u32], base: usize, c: usize) -> bool
     requires { (base + c / 32 < length keys.now) × (base < 4294967296) }
     ensures { Tells (On keys.now base c) result }
@@ -71,6 +77,7 @@ pub fn bit(keys: &[u32], base: usize, c: usize) -> bool
 }
 
 // Sets it.
+#[tactic(auto, using(crate::specs::Bits::sets_bit))]
 pub fn set_bit(keys: &mut [u32], base: usize, c: usize)
     requires { (base + c / 32 < length keys.old) × (base < 4294967296) }
     ensures { Sets keys.old base c keys.new }
@@ -79,15 +86,24 @@ pub fn set_bit(keys: &mut [u32], base: usize, c: usize)
 }
 
 // A key found again.
+#[tactic(auto, using(crate::specs::Shown::flagging))]
 fn flag(keys: &mut [u32], c: usize)
     requires { (length keys.old ≡ large) × (c < 131072) }
     ensures { Flags keys.old c keys.new }
 {
     set_bit(keys, AGAIN, c);
-    let n = word(&*keys, HITS);
+    let n = log_word(keys, HITS);
     if n < LARGE {
         keys[HITS] = (n + 1) as u32;
     }
+}
+
+// Where the list of a depth begins.
+fn list_at(d: usize) -> usize
+    requires { d < lists }
+    ensures { result ≡ list_at d }
+{
+    LISTS + LIST * d
 }
 
 // Whether a hash is among the first n of a list.
@@ -95,50 +111,46 @@ fn near(keys: &[u32], d: usize, n: usize, h: usize) -> bool
     requires { (length keys.now ≡ large) × (d < lists) × (n ≤ 16) }
     ensures { Tells (NearBelow keys.now d n h) result }
 {
-    let mut i = 0;
-    while i < n {
-        if word(&*keys, LISTS + 18 * d + 2 + i) == h {
-            return true;
-        }
-        i += 1;
-    }
-    false
+    let at = list_at(d) + 2;
+    keys[at..at + n].iter().any(|key| *key as usize == h)
 }
 
 // A key more of the object whose list has n: found again, or put into the list, or, where that is full, its bit is set.
+#[tactic(auto, using(crate::specs::Shown::owning))]
 fn own(keys: &mut [u32], d: usize, n: usize, h: usize)
     requires { Owning keys.old d n h }
     ensures { Owned keys.old d h keys.new }
 {
     let c = class_of(h);
-    if near(&*keys, d, n, h) {
+    if near(keys, d, n, h) {
         flag(keys, c);
-        return;
-    }
-    if bit(&*keys, SEEN, c) {
+    } else if bit(keys, SEEN, c) {
         flag(keys, c);
-        return;
+    } else if n < KEYS {
+        let at = list_at(d);
+        keys[at + 2 + n] = h as u32;
+        keys[at + 1] = (n + 1) as u32;
+    } else {
+        set_bit(keys, SEEN, c);
     }
-    if n < KEYS {
-        keys[LISTS + 18 * d + 2 + n] = h as u32;
-        keys[LISTS + 18 * d + 1] = (n + 1) as u32;
-        return;
-    }
-    set_bit(keys, SEEN, c);
 }
 
 // The first key of an object.
+#[tactic(auto, using(crate::specs::Shown::beginning))]
 fn first(keys: &mut [u32], d: usize, object: usize, h: usize)
     requires { (length keys.old ≡ large) × (d < lists) × (object + 1 < 4294967296) × (h < 4294967296) }
     ensures { Begun keys.old object h keys.new }
 {
-    keys[TOP] = (object + 1) as u32;
-    keys[LISTS + 18 * d] = (object + 1) as u32;
-    keys[LISTS + 18 * d + 1] = 1;
-    keys[LISTS + 18 * d + 2] = h as u32;
+    let at = list_at(d);
+    let next = (object + 1) as u32;
+    keys[TOP] = next;
+    keys[at] = next;
+    keys[at + 1] = 1;
+    keys[at + 2] = h as u32;
 }
 
 // A key of an object that is not known: from then on every key is found again. Where all keys of a document come no object is lost, but that need not be shown.
+#[tactic(auto, using(crate::specs::Shown::losing))]
 fn lost(keys: &mut [u32], object: usize, h: usize)
     requires { (length keys.old ≡ large) × (h < 4294967296) }
     ensures { Steps keys.old object h keys.new }
@@ -148,56 +160,59 @@ fn lost(keys: &mut [u32], object: usize, h: usize)
 }
 
 // A key of an object that was met before, which is that of the list.
+#[tactic(auto, using(crate::specs::Shown::placing))]
 fn known(keys: &mut [u32], d: usize, object: usize, h: usize)
     requires { (length keys.old ≡ large) × (d < lists) × (object + 1 < 4294967296) × (h < 4294967296) × (get_or keys.old broken 0 ≡ 0) }
     ensures { Steps keys.old object h keys.new }
 {
-    let n = word(&*keys, LISTS + 18 * d + 1);
-    if n <= KEYS && word(&*keys, LISTS + 18 * d) == object + 1 {
+    let at = list_at(d);
+    let n = log_word(keys, at + 1);
+    if n <= KEYS && log_word(keys, at) == object + 1 {
         own(keys, d, n, h);
-        return;
+    } else {
+        lost(keys, object, h);
     }
-    lost(keys, object, h);
 }
 
 // A key of an object at a depth, where none was lost.
+#[tactic(auto, using(crate::specs::Shown::placing))]
 fn placed(keys: &mut [u32], d: usize, object: usize, h: usize)
     requires { (length keys.old ≡ large) × (d < lists) × (object + 1 < 4294967296) × (h < 4294967296) × (get_or keys.old broken 0 ≡ 0) }
     ensures { Steps keys.old object h keys.new }
 {
-    if word(&*keys, TOP) <= object {
+    if log_word(keys, TOP) <= object {
         first(keys, d, object, h);
-        return;
+    } else {
+        known(keys, d, object, h);
     }
-    known(keys, d, object, h);
 }
 
 // A key where there are no lists: found again, or its bit is set.
+#[tactic(auto, using(crate::specs::Plain::plaining))]
 fn plain(keys: &mut [u32], object: usize, h: usize)
     requires { Listless keys.old h }
     ensures { Steps keys.old object h keys.new }
 {
     let c = class_of(h);
-    if bit(&*keys, SEEN, c) {
+    if bit(keys, SEEN, c) {
         flag(keys, c);
-        return;
+    } else {
+        set_bit(keys, SEEN, c);
     }
-    set_bit(keys, SEEN, c);
 }
 
 // A key of an object at a depth, by its hash.
+#[tactic(auto, using(crate::specs::Shown::placing))]
 pub fn sieve(keys: &mut [u32], d: usize, object: usize, h: usize)
     requires { (length keys.old ≡ large) × (object < 4294967296) × (h < 4294967296) }
     ensures { Steps keys.old object h keys.new }
 {
-    let mode = word(&*keys, BROKEN);
+    let mode = log_word(keys, BROKEN);
     if mode == BITS {
         plain(keys, object, h);
-        return;
-    }
-    if d < DEPTHS && object < 4294967295 && mode < 1 {
+    } else if d < DEPTHS && object < 4294967295 && mode == 0 {
         placed(keys, d, object, h);
-        return;
+    } else {
+        lost(keys, object, h);
     }
-    lost(keys, object, h);
 }

@@ -10,18 +10,19 @@ use mir.Val.{Fits}
 use lib.ListN.{length, get_or}
 use borrow.Author.Rules.{rules}
 use Rattle.exact.specs.Tells.{Tells, tells_yes, tells_no, tells_map}
-use Rattle.language.specs.Kind.{ARRAY, OBJECT}
-use Rattle.language.specs.Tree.{Tree, node, Forest, width, size, sizes}
+use Rattle.language.specs.Kind.{OBJECT}
+use Rattle.language.specs.Tree.{Tree, node, Forest, width}
 use Rattle.shaped.specs.Shaped.{shaped_object}
-use Rattle.shaped.specs.RowIs.{RowIs}
-use Rattle.shaped.specs.RowsAt.{RowsAt, ForestAt, node_at}
+use Rattle.shaped.specs.RowsAt.{RowsAt, node_at}
 use Rattle.shaped.specs.Told.{rows_tell}
 use Rattle.shaped.specs.Once.{alike_once}
+use Rattle.std.specs.declared.option.Option.{Option}
+use Rattle.std.specs.declared.option.Option.TheVariants.{Some, None}
 use Rattle.sound.specs.declared.Tested.{Tested}
-use Rattle.sound.specs.declared.Tested.TheVariants.{Good, Bad}
+use Rattle.sound.specs.declared.Several.{Several}
 use Rattle.sound.specs.Distinct.{Distinct, once_distinct}
 use Rattle.sound.specs.Members.{Sane, One, IsKey, Member, container_kind, Many, many_pairs, array_distinct, some_member, few_members}
-use Rattle.sound.specs.Tested.{Lies, Stand, Tests, stand_inside, none_alone}
+use Rattle.sound.specs.Tested.{Good, Lies, Stand, Tests, stand_inside, none_alone}
 use Rattle.sound.specs.Walk.{Passed, passed_none, passed_more, passed_bad, passed_count}
 use Rattle.sound.specs.Pairs.{element_tests, keyless_tests, pair_tests}
 use Rattle.sound.specs.Rows.{kind_at, parent_at, Words, Container, container_words, container_stands, other_none}
@@ -35,21 +36,21 @@ use Rattle.sound.proofs.RowLaws.{row_past, row_parent}
 
 module _ (table text : List ℕ) (stop r p x : ℕ) where
   -- what is asked behind what was good
-  pub lies_on : (Q : Forest → Type 0) (n y : ℕ) (q : Tested) → Tests table text Q stop r p x q → q ≡ Good n y → Lies table text stop x → Lies table text stop y
-  lies_on Q n y q t e w =
-      let z : Tests table text Q stop r p x (Good n y) = rw e at t in
+  pub lies_on : (Q : Forest → Type 0) (v : Tested) (q : Option Tested) → Tests table text Q stop r p x q → q ≡ Some v → Lies table text stop x → Lies table text stop v.text
+  lies_on Q v q t e w =
+      let z : Tests table text Q stop r p x (Some v) = rw e at t in
       record { whole = w.whole; few = w.few; inside = stand_inside table text z }
 
   module _ (k : ℕ) (o : Bool) where
-    pub child_element : o ≡ false → (q : Tested) → Tests table text (One (Sane k)) stop r p x q → Tests table text (Member o k) stop r p x q
+    pub child_element : o ≡ false → (q : Option Tested) → Tests table text (One (Sane k)) stop r p x q → Tests table text (Member o k) stop r p x q
     child_element e q t = rw e (element_tests table text k stop r p x q t)
 
-    module _ (c : Tested) (t : Tests table text (One IsKey) stop r p x c) (e : o ≡ true) where
-      pub child_keyless : c ≡ Bad → Tests table text (Member o k) stop r p x Bad
-      child_keyless h = let z : Tests table text (One IsKey) stop r p x Bad = rw h at t in rw e (keyless_tests table text k stop r p x z)
+    module _ (c : Option Tested) (t : Tests table text (One IsKey) stop r p x c) (e : o ≡ true) where
+      pub child_keyless : c ≡ None → Tests table text (Member o k) stop r p x None
+      child_keyless h = let z : Tests table text (One IsKey) stop r p x None = rw h at t in rw e (keyless_tests table text k stop r p x z)
 
-      pub child_pair : (n y : ℕ) → c ≡ Good n y → (q : Tested) → Tests table text (One (Sane k)) stop n p y q → Tests table text (Member o k) stop r p x q
-      child_pair n y h q s = let z : Tests table text (One IsKey) stop r p x (Good n y) = rw h at t in rw e (pair_tests table text k stop r p x n y z q s)
+      pub child_pair : (v : Tested) → c ≡ Some v → (q : Option Tested) → Tests table text (One (Sane k)) stop v.row p v.text q → Tests table text (Member o k) stop r p x q
+      child_pair v h q s = let z : Tests table text (One IsKey) stop r p x (Some v) = rw h at t in rw e (pair_tests table text k stop r p x v.row v.text z q s)
 
 pub ruleset childing = (lies_on, child_element, child_keyless, child_pair, rules)
 
@@ -74,21 +75,21 @@ module _ (table text : List ℕ) (o : Bool) (k r x end : ℕ) where
     pub going_count : Fits w64 (n + 1)
     going_count = let p = w.passed in omega (arith, few_members p.many, p.row, p.inside, w.lies.few)
 
-    pub going_done : end ≤ at → Went table text o k r x end (Good n y)
+    pub going_done : end ≤ at → Went table text o k r x end (Some (record { count = n; text = y }))
     going_done l = let p = w.passed in let e : at ≡ end = omega (arith, p.inside) in subst (λ (i : ℕ). Passed table text o k r (r + 1) x end i y n) e p
 
-    module _ (l : at < end) (q : Tested) (t : Tests table text (Member o k) end at r y q) where
-      pub going_bad : q ≡ Bad → Went table text o k r x end Bad
-      going_bad e = let z : Tests table text (Member o k) end at r y Bad = rw e at t in passed_bad table text o k r (r + 1) x end at y n w.passed l z
+    module _ (l : at < end) (q : Option Tested) (t : Tests table text (Member o k) end at r y q) where
+      pub going_bad : q ≡ None → Went table text o k r x end None
+      going_bad e = let z : Tests table text (Member o k) end at r y None = rw e at t in passed_bad table text o k r (r + 1) x end at y n w.passed l z
 
-      module _ (m i : ℕ) (e : q ≡ Good m i) where
-        stands : Stand table text (Member o k) end at r y m i
-        stands = let z : Tests table text (Member o k) end at r y (Good m i) = rw e at t in z
+      module _ (m : Tested) (e : q ≡ Some m) where
+        stands : Stand table text (Member o k) end at r y m.row m.text
+        stands = let z : Tests table text (Member o k) end at r y (Some m) = rw e at t in z
 
-        pub going_more : Going table text o k r x end m i (n + 1)
-        going_more = record { lies = lies_on table text end at r y (Member o k) m i q t e w.lies; passed = passed_more table text o k r (r + 1) x end at y n w.passed l m i stands }
+        pub going_more : Going table text o k r x end m.row m.text (n + 1)
+        going_more = record { lies = lies_on table text end at r y (Member o k) m q t e w.lies; passed = passed_more table text o k r (r + 1) x end at y n w.passed l m.row m.text stands }
 
-        pub going_less : end - m < end - at
+        pub going_less : end - m.row < end - at
         going_less = omega (arith, stands.next, some_member stands.good, stands.below)
 
 pub ruleset going = (going_first, going_row, going_lies, going_count, going_done, going_bad, going_more, going_less, rules)
@@ -103,38 +104,38 @@ module _ (table text : List ℕ) (stop r x : ℕ) (o : Bool) (w : Row table text
   held a t s h = container_words table text r (parent_at table r) x o a t s h g
 
   module _ (allow : ℕ) where
-    abbrev None : Type 0
-    None = Tests table text (One (Sane allow)) stop r (parent_at table r) x Bad
+    abbrev Nothing : Type 0
+    Nothing = Tests table text (One (Sane allow)) stop r (parent_at table r) x None
 
-    pub no_allowance : allow ≡ 0 → None
+    pub no_allowance : allow ≡ 0 → Nothing
     no_allowance e = none_alone table text (λ t s h l. let z = held allow t s h in omega (arith, z.one_less))
 
     module _ (end : ℕ) (e : end ≡ get_or table (width * r + 6) 0) where
-      pub no_end : end ≤ r → None
+      pub no_end : end ≤ r → Nothing
       no_end l = none_alone table text (λ t s h i. let z = held allow t s h in omega (arith, z.words.next_is))
 
-      pub past_end : stop < end → None
+      pub past_end : stop < end → Nothing
       past_end l = none_alone table text (λ t s h i. let z = held allow t s h in omega (arith, z.words.next_is, z.rows))
 
       pub lies_within : end ≤ stop → Lies table text end x
       lies_within l = record { whole = omega (arith, w.lies.whole); few = omega (arith, w.lies.few); inside = w.lies.inside }
 
-      module _ (n : allow ≡ 0 → ⊥) (q : Tested) (t : Went table text o (allow - 1) r x end q) where
-        pub no_children : q ≡ Bad → None
+      module _ (n : allow ≡ 0 → ⊥) (q : Option Several) (t : Went table text o (allow - 1) r x end q) where
+        pub no_children : q ≡ None → Nothing
         no_children h =
-            let z : Went table text o (allow - 1) r x end Bad = rw h at t in
+            let z : Went table text o (allow - 1) r x end None = rw h at t in
             none_alone table text
             (λ u s i j.
             let y = held allow u s i in
             let v : y.allow ≡ allow - 1 = omega (arith, y.one_less) in
             z y.count y.children (subst (λ (a : ℕ). Many (Member o a) y.count y.children) v y.many) y.stand (omega (arith, y.words.next_is)))
 
-        pub now_closing : (m y : ℕ) → q ≡ Good m y → end ≤ stop → Closing table text stop r x (allow - 1) o m y
-        now_closing m y h l =
-            let z : Went table text o (allow - 1) r x end (Good m y) = rw h at t in
-            record { row = w; kind = g; below = omega arith; passed = subst (λ (i : ℕ). Passed table text o (allow - 1) r (r + 1) x i i y m) e z }
+        pub now_closing : (m : Several) → q ≡ Some m → end ≤ stop → Closing table text stop r x (allow - 1) o m.count m.text
+        now_closing m h l =
+            let z : Went table text o (allow - 1) r x end (Some m) = rw h at t in
+            record { row = w; kind = g; below = omega arith; passed = subst (λ (i : ℕ). Passed table text o (allow - 1) r (r + 1) x i i m.text m.count) e z }
 
-  pub one_more : (p allow : ℕ) → (allow ≡ 0 → ⊥) → (c : Tested) → Tests table text (One (Sane (suc (allow - 1)))) stop r p x c → Tests table text (One (Sane allow)) stop r p x c
+  pub one_more : (p allow : ℕ) → (allow ≡ 0 → ⊥) → (c : Option Tested) → Tests table text (One (Sane (suc (allow - 1)))) stop r p x c → Tests table text (One (Sane allow)) stop r p x c
   one_more p allow n c z = subst (λ (a : ℕ). Tests table text (One (Sane a)) stop r p x c) (let v : suc (allow - 1) ≡ allow = omega arith in v) z
 
 pub ruleset containing = (row_inside, no_allowance, no_end, past_end, lies_within, no_children, now_closing, one_more, rules)
@@ -165,7 +166,7 @@ module _ (table text : List ℕ) (stop r x k : ℕ) (o : Bool) (n y : ℕ) (w : 
 
   module _ (end : ℕ) (e : end ≡ last) (b : Bool) (t : Tells (Words table r 0 n end) b) where
     -- another count
-    pub closed_count : b ≡ false → Tests table text (One (Sane (suc k))) stop r p x Bad
+    pub closed_count : b ≡ false → Tests table text (One (Sane (suc k))) stop r p x None
     closed_count h =
         none_alone table text
         (λ u s i j.
@@ -216,7 +217,7 @@ module _ (table text : List ℕ) (stop r x k : ℕ) (o : Bool) (n y : ℕ) (w : 
             })
             w.passed.stand
 
-        pub closed_twice : c ≡ false → Tests table text (One (Sane (suc k))) stop r p x Bad
+        pub closed_twice : c ≡ false → Tests table text (One (Sane (suc k))) stop r p x None
         closed_twice i =
             none_alone table text
             (λ u d a j.
@@ -235,7 +236,7 @@ module _ (table text : List ℕ) (stop r x : ℕ) where
   value_inside j i w l = omega (arith, w.whole)
 
   -- the row's own parent is the one asked for
-  pub value_parent : (parent allow v : ℕ) → v ≡ get_or table (width * r + 5) 0 → v ≡ parent → (q : Tested) → Tests table text (One (Sane allow)) stop r (parent_at table r) x q
+  pub value_parent : (parent allow v : ℕ) → v ≡ get_or table (width * r + 5) 0 → v ≡ parent → (q : Option Tested) → Tests table text (One (Sane allow)) stop r (parent_at table r) x q
       → Tests table text (One (Sane allow)) stop r parent x q
   value_parent parent allow v e f q t = subst (λ (p : ℕ). Tests table text (One (Sane allow)) stop r p x q) (sym e ∙ f) t
 
@@ -267,15 +268,15 @@ module _ (table text : List ℕ) (stop r x : ℕ) (w : Row table text stop r x) 
     pub kind_object : k ≡ 9 → kind_at table r ≡ container_kind true
     kind_object h = kind_is ∙ h
 
-    other : (allow : ℕ) → ((1 ≤ k) × (k ≤ 9) → ⊥) → Tests table text (One (Sane allow)) stop r (parent_at table r) x Bad
+    other : (allow : ℕ) → ((1 ≤ k) × (k ≤ 9) → ⊥) → Tests table text (One (Sane allow)) stop r (parent_at table r) x None
     other allow n =
         none_alone table text
         (λ t s h i. let z = other_none table text r (parent_at table r) x allow t s h in n (omega (arith, kind_is, z.0), omega (arith, kind_is, z.1)))
 
-    pub kind_less : (allow : ℕ) → k < 1 → Tests table text (One (Sane allow)) stop r (parent_at table r) x Bad
+    pub kind_less : (allow : ℕ) → k < 1 → Tests table text (One (Sane allow)) stop r (parent_at table r) x None
     kind_less allow l = other allow (λ z. omega (arith, z.0))
 
-    pub kind_more : (allow : ℕ) → 8 ≤ k → (k ≡ 8 → ⊥) → (k ≡ 9 → ⊥) → Tests table text (One (Sane allow)) stop r (parent_at table r) x Bad
+    pub kind_more : (allow : ℕ) → 8 ≤ k → (k ≡ 8 → ⊥) → (k ≡ 9 → ⊥) → Tests table text (One (Sane allow)) stop r (parent_at table r) x None
     kind_more allow l m n = other allow (λ z. omega (arith, z.1, m, n))
 
 pub ruleset kinding = (kind_inside, keyword_least, keyword_most, scalar_least, scalar_most, kind_array, kind_object, kind_less, kind_more, rules)

@@ -2,8 +2,10 @@
 use Rattle.std.specs.Prelude.{◌≡◌, List, Bool, ℕ, ◌+◌, ◌*◌, ◌≤◌, ◌<◌, length, get_or}
 use Rattle.language.specs.Tree.{Forest, width, sizes}
 use Rattle.shaped.specs.RowsAt.{ForestAt}
+use Rattle.std.specs.declared.option.Option.{Option}
+use Rattle.std.specs.declared.option.Option.TheVariants.{Some, None}
 use Rattle.sound.specs.declared.Tested.{Tested}
-use Rattle.sound.specs.declared.Tested.TheVariants.{Good, Bad}
+use Rattle.sound.specs.declared.Several.{Several}
 use Rattle.sound.specs.Members.{Member, container_kind, Many}
 use Rattle.sound.specs.Tested.{Lies}
 use Rattle.sound.specs.Walk.{Passed}
@@ -19,14 +21,14 @@ pub record Row (table text : List ℕ) (stop r x : ℕ) : Type 0 where
   pub below : r < stop
 
 -- the text of a row
-abbrev pub TextTests : List ℕ → List ℕ → ℕ → ℕ → Tested → Type 0
-TextTests table text r x (Good n e) = (n ≡ r + 1) × Texted table text r (parent_at table r) x e
-TextTests table text r x Bad = (to : ℕ) → Texted table text r (parent_at table r) x to → ⊥
+abbrev pub TextTests : List ℕ → List ℕ → ℕ → ℕ → Option Tested → Type 0
+TextTests table text r x (Some t) = (t.row ≡ r + 1) × Texted table text r (parent_at table r) x t.text
+TextTests table text r x None = (to : ℕ) → Texted table text r (parent_at table r) x to → ⊥
 
 -- the members of the container at row r, whose rows end at `end`
-abbrev pub Went : List ℕ → List ℕ → Bool → ℕ → ℕ → ℕ → ℕ → Tested → Type 0
-Went table text o k r x end (Good n y) = Passed table text o k r (r + 1) x end end y n
-Went table text o k r x end Bad = (m : ℕ) (ts : Forest) → Many (Member o k) m ts → ForestAt table text (r + 1) r x ts → r + 1 + sizes ts ≡ end → ⊥
+abbrev pub Went : List ℕ → List ℕ → Bool → ℕ → ℕ → ℕ → ℕ → Option Several → Type 0
+Went table text o k r x end (Some m) = Passed table text o k r (r + 1) x end end m.text m.count
+Went table text o k r x end None = (m : ℕ) (ts : Forest) → Many (Member o k) m ts → ForestAt table text (r + 1) r x ts → r + 1 + sizes ts ≡ end → ⊥
 
 -- the members of the container at row r are passed, n of them, up to the row behind its last descendant
 pub record Closing (table text : List ℕ) (stop r x allow : ℕ) (o : Bool) (n y : ℕ) : Type 0 where

@@ -1,12 +1,11 @@
 -- THE KEYS OF AN OBJECT BY THEIR ROWS (`object_keys`): each leads to the next by the row behind its value. No two have one text exactly if the object's keys are distinct. Assumes nothing.
 use mathlib.Core.Path.{◌≡◌, refl, sym, ap, subst, ◌∙◌}
-use Rattle.std.specs.Prelude.{List, [], ◌∷◌, ℕ, suc, ◌+◌, ◌*◌, ◌≤◌, ◌<◌, get_or}
+use Rattle.std.specs.Prelude.{List, [], ◌∷◌, ℕ, ◌+◌, ◌*◌, ◌≤◌, ◌<◌, get_or}
 use Rattle.std.proofs.Common.{arith}
 use Rattle.std.proofs.Math.ListN.{length}
 use Rattle.std.proofs.Math.Seq.{slice}
 use Rattle.language.specs.Kind.{KEY}
 use Rattle.language.specs.Tree.{Decoded, Tree, leaf, Forest, none, more, width, size, sizes, Has, has_here, has_later}
-use Rattle.language.specs.Lent.{bytes_in}
 use Rattle.shaped.specs.Shaped.{Shaped, Pairs, pairs_none, pairs_more}
 use Rattle.shaped.specs.RowsAt.{RowsAt, ForestAt, leaf_row, first_at, rest_at, next_at}
 use Rattle.shaped.specs.Leaves.{part_is, part_fits}

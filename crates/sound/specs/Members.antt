@@ -1,11 +1,11 @@
 -- THE CHILDREN OF A CONTAINER, member by member: an element of an array, a key and a value of an object (`Member`), and any number of them (`Many`). Assumes nothing.
-use Rattle.std.specs.Prelude.{◌≡◌, refl, Bool, true, false, ℕ, zero, suc, ◌+◌, ◌≤◌}
+use Rattle.std.specs.Prelude.{◌≡◌, refl, Bool, true, false, ℕ, suc, ◌+◌, ◌≤◌}
 use Rattle.std.proofs.Common.{sym, ap, subst, ◌∙◌, arith}
 use Rattle.language.specs.Kind.{ARRAY, OBJECT, KEY}
 use Rattle.language.specs.Tree.{Decoded, Tree, leaf, node, Forest, none, more, size, sizes, Once}
 use Rattle.shaped.specs.Shaped.{Scripted, Shaped, shaped_array, shaped_object, shaped_leaf, Scalar, Elements, elements_none, elements_more, Pairs, pairs_none, pairs_more}
 use Rattle.shaped.specs.Beside.{beside, beside_size}
-use Rattle.sound.specs.Distinct.{Again, again_here, again_later, Distinct, Onces, onces_none, onces_more, node_once, once_distinct, once_onces, leaf_once}
+use Rattle.sound.specs.Distinct.{again_here, again_later, Distinct, Onces, onces_none, onces_more, node_once, once_onces, leaf_once}
 
 -- a tree as a document without repeated keys has it, with at most k containers one inside another
 pub record Sane (k : ℕ) (t : Tree) : Type 0 where

@@ -1,11 +1,12 @@
 -- A KEY AND A VALUE BEHIND IT are a member of an object; without the one or the other there is none. A value alone is a member of an array. Assumes nothing.
 use mathlib.Core.Path.{◌≡◌, refl, sym, subst}
-use Rattle.std.specs.Prelude.{List, [], Bool, true, false, ℕ, ◌+◌, ◌≤◌, length}
+use Rattle.std.specs.Prelude.{List, true, false, ℕ, ◌+◌, ◌≤◌, length}
 use Rattle.std.proofs.Common.{arith, length-append}
 use Rattle.language.specs.Tree.{Tree, Forest, none, more, size, sizes, text_of, texts_of}
 use Rattle.shaped.specs.RowsAt.{RowsAt, ForestAt, none_at, more_at, first_at, rest_at}
+use Rattle.std.specs.declared.option.Option.{Option}
+use Rattle.std.specs.declared.option.Option.TheVariants.{Some, None}
 use Rattle.sound.specs.declared.Tested.{Tested}
-use Rattle.sound.specs.declared.Tested.TheVariants.{Good, Bad}
 use Rattle.sound.specs.Members.{Sane, One, one, IsKey, Member, pair, element}
 use Rattle.sound.specs.Tested.{Stand, Tests}
 use Rattle.sound.specs.Walk.{key_level, moved}
@@ -48,23 +49,23 @@ module _ (table text : List ℕ) where
   alone_at t h = more_at table text h (none_at table text h.text_is.fits)
 
   module _ (k stop r p x : ℕ) where
-    pub element_tests : (q : Tested) → Tests table text (One (Sane k)) stop r p x q → Tests table text (Member false k) stop r p x q
-    element_tests (Good n y) z = record { members = z.members; good = go z.good; at = z.at; next = z.next; end = z.end; below = z.below }
+    pub element_tests : (q : Option Tested) → Tests table text (One (Sane k)) stop r p x q → Tests table text (Member false k) stop r p x q
+    element_tests (Some t) z = record { members = z.members; good = go z.good; at = z.at; next = z.next; end = z.end; below = z.below }
       where
         go : {ts : Forest} → One (Sane k) ts → Member false k ts
         go (one s) = element s
-    element_tests Bad z = λ ts m h l. z ts (back m) h l
+    element_tests None z = λ ts m h l. z ts (back m) h l
       where
         back : {ts : Forest} → Member false k ts → One (Sane k) ts
         back (element s) = one s
 
-    pub keyless_tests : Tests table text (One IsKey) stop r p x Bad → Tests table text (Member true k) stop r p x Bad
+    pub keyless_tests : Tests table text (One IsKey) stop r p x None → Tests table text (Member true k) stop r p x None
     keyless_tests z ts m h l = by m h l
       where
         by : {ts : Forest} → Member true k ts → ForestAt table text r p x ts → r + sizes ts ≤ stop → ⊥
         by (pair {t = t} {v = v} s d) h l = z (more t none) (one s) (alone_at t (first_at table text h)) (omega (arith, one_rows t, two_rows t v))
 
-    pub pair_tests : (n y : ℕ) → Stand table text (One IsKey) stop r p x n y → (q : Tested) → Tests table text (One (Sane k)) stop n p y q → Tests table text (Member true k) stop r p x q
+    pub pair_tests : (n y : ℕ) → Stand table text (One IsKey) stop r p x n y → (q : Option Tested) → Tests table text (One (Sane k)) stop n p y q → Tests table text (Member true k) stop r p x q
     pair_tests n y s q w = by q w
       where
         f : Lone IsKey stop r p x n y
@@ -81,11 +82,11 @@ module _ (table text : List ℕ) where
               below = g.below;
             }
 
-        bad : Tests table text (One (Sane k)) stop n p y Bad → {ts : Forest} → Member true k ts → ForestAt table text r p x ts → r + sizes ts ≤ stop → ⊥
+        bad : Tests table text (One (Sane k)) stop n p y None → {ts : Forest} → Member true k ts → ForestAt table text r p x ts → r + sizes ts ≤ stop → ⊥
         bad w (pair {t = t} {v = v} a d) h l =
             let e = key_level table text a f.good (first_at table text h) f.at in
             w (more v none) (one d) (moved table text (omega (arith, e.rows, f.next)) (omega (arith, e.bytes, f.end)) (rest_at table text h)) (omega (arith, one_rows v, two_rows t v, e.rows, f.next))
 
-        by : (q : Tested) → Tests table text (One (Sane k)) stop n p y q → Tests table text (Member true k) stop r p x q
-        by (Good m i) z = good m i (lone z)
-        by Bad z = λ ts m h l. bad z m h l
+        by : (q : Option Tested) → Tests table text (One (Sane k)) stop n p y q → Tests table text (Member true k) stop r p x q
+        by (Some t) z = good t.row t.text (lone z)
+        by None z = λ ts m h l. bad z m h l

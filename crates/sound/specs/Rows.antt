@@ -1,21 +1,20 @@
 -- ROWS BY THEIR KINDS: which tree stands in a row of a kind, and what its words then are; and which words make it stand there. Assumes nothing.
-use Rattle.std.specs.Prelude.{◌≡◌, List, [], Bool, ℕ, zero, suc, ◌+◌, ◌*◌, ◌≤◌, ◌<◌, length, get_or, leb}
+use Rattle.std.specs.Prelude.{◌≡◌, List, [], Bool, ℕ, zero, suc, ◌+◌, ◌*◌, ◌≤◌, ◌<◌, length, get_or}
 use Rattle.std.proofs.Math.Path.{refl}
-use Rattle.std.proofs.Common.{sym, ap, subst, ◌∙◌, arith, le-leb}
+use Rattle.std.proofs.Common.{subst, arith, le-leb}
 use Rattle.std.proofs.Math.Bool.{true, false}
 use Rattle.std.proofs.Math.Seq.{slice, length-slice}
 use Rattle.std.proofs.lemmas.Bool.{lt-leb}
-use Rattle.exact.specs.Class.{clash}
-use Rattle.language.specs.Kind.{NULL, FALSE, TRUE, INTEGER, BYTES, ARRAY, OBJECT, KEY}
+use Rattle.language.specs.Kind.{TRUE, KEY}
 use Rattle.language.specs.Tree.{Decoded, unescaped, Tree, leaf, node, Forest, none, more, width, size, sizes, text_of, texts_of}
 use Rattle.language.specs.Lent.{bytes_in}
 use Rattle.shaped.specs.Shaped.{Scripted, Scalar, is_null, is_false, is_true, is_an_integer, is_float, is_string, is_bytes, Shaped, shaped_leaf, shaped_array, shaped_object}
 use Rattle.shaped.specs.RowIs.{RowIs}
-use Rattle.shaped.specs.RowsAt.{RowsAt, ForestAt, leaf_row, node_at, node_row, node_forest, kind_at_lem}
+use Rattle.shaped.specs.RowsAt.{RowsAt, ForestAt, leaf_row, node_at, node_row, node_forest}
 use Rattle.shaped.specs.Leaves.{word_at, word_row, part_at, part_row, part_is, part_fits}
 use Rattle.sound.specs.Distinct.{Distinct, once_distinct, leaf_once}
 use Rattle.sound.specs.Members.{Sane, One, IsKey, is_a_key, Member, container_kind, Many, contained, array_many, object_many}
-use Rattle.sound.specs.Tested.{Stand, Tests, alone}
+use Rattle.sound.specs.Tested.{Stand, alone}
 use Rattle.sound.specs.Walk.{Passed}
 
 -- the kind and the parent that a row names

@@ -1,6 +1,6 @@
 -- A TREE THAT STANDS IN THE ROWS makes the table sound: what the house style writes for it is a document with a tree like it (`sane_sound`); and a sound table holds such a tree. Assumes nothing.
 use Rattle.std.specs.Prelude.{◌≡◌, List, ℕ, ◌*◌, ◌≤◌}
-use Rattle.std.proofs.Common.{sym, ◌∙◌, arith}
+use Rattle.std.proofs.Common.{sym, ◌∙◌}
 use Rattle.language.specs.Tree.{Tree, width, size}
 use Rattle.language.specs.Answered.{deepest}
 use Rattle.language.specs.Lent.{words_in}

@@ -1,18 +1,15 @@
 -- WHAT TESTING ROWS TELLS (`Tests`): the members that stand from a row on, with the row and the text byte behind them, or that none stand there. Assumes nothing.
-use Rattle.std.specs.Prelude.{◌≡◌, refl, Bool, true, false, ℕ, zero, suc, ◌+◌, ◌*◌, ◌≤◌, ◌<◌, get_or}
-use Rattle.std.proofs.Common.{sym, subst, ◌∙◌, arith}
+use Rattle.std.specs.Prelude.{◌≡◌, refl, ℕ, ◌+◌, ◌*◌, ◌≤◌, ◌<◌}
+use Rattle.std.proofs.Common.{sym, ◌∙◌, arith}
 use Rattle.std.proofs.Math.Path.{ap}
 use mathlib.Core.List.{List, [], ◌∷◌, ◌++◌}
 use Rattle.std.proofs.Math.ListN.{length}
-use Rattle.language.specs.Kind.{KEY}
-use Rattle.language.specs.Tree.{Decoded, Tree, leaf, node, Forest, none, more, width, size, sizes, text_of, texts_of}
+use Rattle.language.specs.Tree.{Tree, Forest, none, more, width, size, sizes, text_of, texts_of}
 use Rattle.language.specs.Lent.{bytes_in}
-use Rattle.shaped.specs.Shaped.{Scripted, Shaped}
-use Rattle.shaped.specs.RowsAt.{RowsAt, ForestAt, none_at, more_at, first_at, rest_at, next_at}
-use Rattle.shaped.specs.Bare.{alike_size, alike_text}
-use Rattle.shaped.specs.Told.{rows_tell}
+use Rattle.shaped.specs.RowsAt.{RowsAt, ForestAt, none_at, more_at, first_at}
+use Rattle.std.specs.declared.option.Option.{Option}
+use Rattle.std.specs.declared.option.Option.TheVariants.{Some, None}
 use Rattle.sound.specs.declared.Tested.{Tested}
-use Rattle.sound.specs.declared.Tested.TheVariants.{Good, Bad}
 use Rattle.sound.specs.Members.{One, one}
 
 append_none : (s : List ℕ) → s ++ [] ≡ s
@@ -25,6 +22,10 @@ pub record Lies (table text : List ℕ) (stop x : ℕ) : Type 0 where
   pub few : stop < 4294967296
   pub inside : x ≤ bytes_in text
 
+-- the row and the text byte behind what was tested
+abbrev pub Good : ℕ → ℕ → Option Tested
+Good n y = Some (record { row = n; text = y })
+
 module _ (table text : List ℕ) where
   -- members stand from row r up to n, below `stop`, as children of p, and their text from x up to y
   pub record Stand (Q : Forest → Type 0) (stop r p x n y : ℕ) : Type 0 where
@@ -35,9 +36,9 @@ module _ (table text : List ℕ) where
     pub end : y ≡ x + length (texts_of members)
     pub below : n ≤ stop
 
-  abbrev pub Tests : (Forest → Type 0) → ℕ → ℕ → ℕ → ℕ → Tested → Type 0
-  Tests Q stop r p x (Good n y) = Stand Q stop r p x n y
-  Tests Q stop r p x Bad = (ts : Forest) → Q ts → ForestAt table text r p x ts → r + sizes ts ≤ stop → ⊥
+  abbrev pub Tests : (Forest → Type 0) → ℕ → ℕ → ℕ → ℕ → Option Tested → Type 0
+  Tests Q stop r p x (Some t) = Stand Q stop r p x t.row t.text
+  Tests Q stop r p x None = (ts : Forest) → Q ts → ForestAt table text r p x ts → r + sizes ts ≤ stop → ⊥
 
   -- the text behind members is inside the room
   pub stand_inside : {Q : Forest → Type 0} {stop r p x n y : ℕ} → Stand Q stop r p x n y → y ≤ bytes_in text
@@ -57,6 +58,6 @@ module _ (table text : List ℕ) where
           below = l;
         }
 
-    pub none_alone : ((t : Tree) → P t → RowsAt table text r p x t → r + size t ≤ stop → ⊥) → Tests (One P) stop r p x Bad
+    pub none_alone : ((t : Tree) → P t → RowsAt table text r p x t → r + size t ≤ stop → ⊥) → Tests (One P) stop r p x None
     unfolding sizes
     none_alone f ts (one {t = t} q) h l = f t q (first_at table text h) (omega arith)

@@ -1,17 +1,16 @@
 -- A WALK OVER THE MEMBERS OF A CONTAINER (`Passed`): those passed stand in its rows, and whatever members its rows hold begin with them. Assumes nothing.
-use Rattle.std.specs.Prelude.{◌≡◌, refl, List, ◌++◌, Bool, ℕ, zero, suc, ◌+◌, ◌≤◌, ◌<◌}
-use Rattle.std.proofs.Common.{sym, subst₂, ◌∙◌}
+use Rattle.std.specs.Prelude.{◌≡◌, refl, List, Bool, ℕ, ◌+◌, ◌≤◌, ◌<◌}
+use Rattle.std.proofs.Common.{subst₂, ◌∙◌}
 use Rattle.std.proofs.Math.Path.{ap, subst}
 use native.Mathlib.Omega.{arith}
 use Rattle.std.proofs.Math.ListN.{length, length-append}
-use Rattle.language.specs.Kind.{KEY}
-use Rattle.language.specs.Tree.{Decoded, Tree, leaf, Forest, none, more, size, sizes, text_of, texts_of}
+use Rattle.language.specs.Tree.{Tree, Forest, none, more, size, sizes, text_of, texts_of}
 use Rattle.language.specs.Lent.{bytes_in}
 use Rattle.shaped.specs.RowsAt.{RowsAt, ForestAt, leaf_row, none_at, first_at, rest_at}
 use Rattle.shaped.specs.Bare.{alike_size, alike_text}
 use Rattle.shaped.specs.Told.{rows_tell}
 use Rattle.shaped.specs.Beside.{beside, beside_size, beside_text, beside_at, beside_left, beside_right}
-use Rattle.sound.specs.declared.Tested.TheVariants.{Bad}
+use Rattle.std.specs.declared.option.Option.TheVariants.{None}
 use Rattle.sound.specs.Members.{Sane, IsKey, is_a_key, Member, pair, element, Many, many_none, many_more, many_last, some_member}
 use Rattle.sound.specs.Tested.{Stand, Tests}
 
@@ -131,7 +130,7 @@ module _ (table text : List ℕ) where
             }
 
       -- no member stands here: so the rows hold none in all
-      pub passed_bad : Tests table text (Member o k) end at p y Bad → (m : ℕ) (ts : Forest) → Many (Member o k) m ts → ForestAt table text r p x ts → r + sizes ts ≡ end → ⊥
+      pub passed_bad : Tests table text (Member o k) end at p y None → (m : ℕ) (ts : Forest) → Many (Member o k) m ts → ForestAt table text r p x ts → r + sizes ts ≡ end → ⊥
       unfolding sizes
       passed_bad f m ts a c d = by z.members z.many z.stand z.total
         where

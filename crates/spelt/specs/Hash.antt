@@ -9,12 +9,11 @@ use Rattle.language.specs.Answered.{limit}
 use Rattle.exact.specs.Class.{is}
 use Rattle.exact.specs.Place.{peek}
 use Rattle.characters.specs.declared.Reading.{Reading}
-use Rattle.characters.specs.declared.Took.{Took}
-use Rattle.characters.specs.declared.Took.TheVariants.{Byte, Over}
+use Rattle.characters.specs.Reads.{Took}
+use Rattle.std.specs.declared.option.Option.TheVariants.{None, Some}
 use Rattle.characters.specs.Reads.{ByteRead, byte_inside, byte_there, byte_next, byte_over}
 use Rattle.spelt.specs.declared.spelling.Spelling.{Spelling}
-use Rattle.spelt.specs.declared.spelling.Given.{Given}
-use Rattle.spelt.specs.declared.spelling.Given.TheVariants as given
+use Rattle.spelt.specs.Spelling.{Given}
 use Rattle.spelt.specs.Texts.{spelled}
 use Rattle.spelt.specs.Spelling.{Spellable, Gave, Nexts, Begins, weight, rest_tail, begin_bare, step}
 use Rattle.spelt.specs.Standing.{further, Spells, Standing, standing_next, standing_low}
@@ -77,14 +76,14 @@ module _ (doc : List ℕ) (at q f : ℕ) where
     hashing_full l = let e : left ≡ 0 = omega arith in record { is = rw e at x.turns; low = x.low }
 
     module _ (room' : List ℕ) (g : Given) (y : Nexts doc room p room' g) where
-      pub hashing_done : g ≡ given.End → HashOf doc at q f h
+      pub hashing_done : g ≡ None → HashOf doc at q f h
       unfolding turn
       hashing_done e =
           let z = reads_end doc room p x.text x.reads room' g y e in
           let u : turn f h (take left []) ≡ hash_of f q (spelled doc at) = rw z at x.turns in
           record { is = rw (take-nil {A = ℕ} left) at u; low = x.low }
 
-      module _ (b : ℕ) (n : Spelling) (e : g ≡ given.Byte b n) where
+      module _ (b : ℕ) (n : Spelling) (e : g ≡ Some (b, n)) where
         pub hashing_less : weight doc n < weight doc p
         hashing_less = (gave doc room p x.text x.reads room' g y b n e).less
 
@@ -109,9 +108,13 @@ module _ (doc : List ℕ) (at q f : ℕ) where
       hashing_further = standing_low doc p v y l hashing_spells
 
       pub hashing_stood : 0 < left → (h' : ℕ) (n : Spelling) → h' ≡ (f * h + h / 65536 + v) % 4294967296 → n ≡ further p → Hashing doc at q f room n h' (left - 1)
-      hashing_stood m h' n e i = rw i (hashing_more room (given.Byte v (further p)) (standing_next doc p v y l room) v (further p) refl refl m h' e)
+      hashing_stood m h' n e i = rw i (hashing_more room (Some (v, further p)) (standing_next doc p v y l room) v (further p) refl refl m h' e)
 
-pub ruleset hashing = (keyed_low, hashing_first, hashing_able, hashing_low, hashing_full, hashing_done, hashing_more, hashing_spells, hashing_further, hashing_stood, rules)
+-- so many bytes are passed
+pub counted_down : (doc : List ℕ) (at q f : ℕ) (room : List ℕ) (p : Spelling) (h i : ℕ) → Hashing doc at q f room p h (4096 - i - 1) → Hashing doc at q f room p h (4096 - (i + 1))
+counted_down doc at q f room p h i x = let z : 4096 - i - 1 ≡ 4096 - (i + 1) = omega arith in rw z at x
+
+pub ruleset hashing = (counted_down, keyed_low, hashing_first, hashing_able, hashing_low, hashing_full, hashing_done, hashing_more, hashing_spells, hashing_further, hashing_stood, rules)
 
 -- ---- of a bare key, as it stands
 
@@ -126,7 +129,7 @@ module _ (doc : List ℕ) (at q f : ℕ) where
     ended : is keybyte (peek doc a) ≡ false → HashOf doc at q f h
     unfolding Nexts
     ended e =
-        hashing_done doc at q f (replicate 8 0) (bare a) h left x (replicate 8 0) given.End
+        hashing_done doc at q f (replicate 8 0) (bare a) h left x (replicate 8 0) None
         (λ s r. key_over doc 0 a refl s (rest_tail doc (replicate 8 0) (bare a) s (omega arith) r) e) refl
 
     pub bare_full : left ≤ 0 → HashOf doc at q f h
@@ -136,10 +139,10 @@ module _ (doc : List ℕ) (at q f : ℕ) where
     bare_low = x.low
 
     module _ (t : Took) (g : ByteRead doc a t) where
-      pub bare_over : t ≡ Over → HashOf doc at q f h
+      pub bare_over : t ≡ None → HashOf doc at q f h
       bare_over e = let z = byte_over doc a t g e in ended (rw z refl)
 
-      module _ (b : ℕ) (n : Reading) (e : t ≡ Byte b n) where
+      module _ (b : ℕ) (n : Reading) (e : t ≡ Some (b, n)) where
         module _ (y : Bool) (k : y ≡ is keybyte b) where
           there : is keybyte (peek doc a) ≡ y
           there = ap (is keybyte) (sym (byte_there doc a t g b n e)) ∙ sym k
@@ -154,9 +157,9 @@ module _ (doc : List ℕ) (at q f : ℕ) where
               rw (byte_there doc a t g b n e)
               (step doc (replicate 8 0) (bare a) (peek doc a) (byte_inside doc a t g b n e) (λ s r. key_more doc 0 a refl s (rest_tail doc (replicate 8 0) (bare a) s (omega arith) r) (there ∙ v))) in
               rw (byte_next doc a t g b n e)
-              (hashing_more doc at q f (replicate 8 0) (bare a) h left x (replicate 8 0) (given.Byte b (bare (a + 1))) z b (bare (a + 1)) refl refl m h' w)
+              (hashing_more doc at q f (replicate 8 0) (bare a) h left x (replicate 8 0) (Some (b, bare (a + 1))) z b (bare (a + 1)) refl refl m h' w)
 
-pub ruleset baring = (bare_first, bare_full, bare_low, bare_over, bare_ended, bare_more, rules)
+pub ruleset baring = (counted_down, bare_first, bare_full, bare_low, bare_over, bare_ended, bare_more, rules)
 
 -- ---- of either
 

@@ -5,8 +5,8 @@ use Rattle.language.specs.Answered.{limit}
 use Rattle.exact.specs.Place.{peek}
 use Rattle.named.specs.Lie.{KeyAt}
 use Rattle.spelt.specs.declared.spelling.Spelling.{Spelling}
-use Rattle.spelt.specs.declared.spelling.Given.{Given}
-use Rattle.spelt.specs.declared.spelling.Given.TheVariants as given
+use Rattle.spelt.specs.Spelling.{Given}
+use Rattle.std.specs.declared.option.Option.TheVariants.{None, Some}
 use Rattle.spelt.specs.Texts.{spelled, ends}
 use Rattle.spelt.specs.Spelling.{Rest, Spellable, Gave, Nexts, Begins}
 
@@ -29,11 +29,11 @@ module _ (doc : List ℕ) (room : List ℕ) (p : Spelling) (s : List ℕ) (x : R
   reads_able = record { short = x.short; long = x.long; text = s; rest = x.rest }
 
   module _ (room' : List ℕ) (g : Given) (h : Nexts doc room p room' g) where
-    pub reads_end : g ≡ given.End → s ≡ []
+    pub reads_end : g ≡ None → s ≡ []
     unfolding Nexts
     reads_end e = (rw e at h) s x.rest
 
-    module _ (b : ℕ) (n : Spelling) (e : g ≡ given.Byte b n) where
+    module _ (b : ℕ) (n : Spelling) (e : g ≡ Some (b, n)) where
       pub gave : Gave doc room p room' b n
       unfolding Nexts
       gave = rw e at h

@@ -12,7 +12,7 @@ use Rattle.std.proofs.Math.Seq.{slice, slice_empty, slice-cons, length-sets, len
 use Rattle.std.proofs.lemmas.Bool.{lt-leb}
 use Rattle.language.specs.Strings.{keybyte, lettered, stands_for}
 use Rattle.language.specs.Answered.{limit}
-use Rattle.exact.specs.Class.{clash, pick, is, only}
+use Rattle.exact.specs.Class.{is}
 use Rattle.language.specs.Characters.{utf8}
 use Rattle.language.specs.Tree.{Decoded, unescaped, escaped}
 use Rattle.exact.specs.Out.{ok, bind}
@@ -21,27 +21,29 @@ use Rattle.exact.specs.Comb.{map_r}
 use Rattle.exact.specs.Place.{peek, alt_not}
 use Rattle.utf8.specs.Utf8.{char_r}
 use Rattle.rooms.specs.declared.Cursor.{Cursor}
-use Rattle.rooms.specs.declared.Ans.{Ans}
-use Rattle.rooms.specs.declared.Ans.TheVariants.{Ok, No}
+use Rattle.rooms.specs.Contract.{Ans}
+use Rattle.std.specs.declared.option.Option.TheVariants.{None, Some}
+use Rattle.std.specs.declared.result.Result.TheVariants.{Err, Ok}
 use Rattle.rooms.specs.Told.{spot, spot_on, spot_low, tally_low}
 use Rattle.rooms.specs.Contract.{ample, Ready}
 use Rattle.characters.specs.declared.Reading.{Reading}
-use Rattle.characters.specs.declared.Took.{Took}
-use Rattle.characters.specs.declared.Took.TheVariants.{Byte, Over}
-use Rattle.characters.specs.declared.Read.{Read}
-use Rattle.characters.specs.declared.Read.TheVariants.{Scalar, Not}
+use Rattle.characters.specs.Reads.{Took}
+use Rattle.characters.specs.Reads.{Read}
 use Rattle.characters.specs.Reads.{ByteRead, byte_inside, byte_there, byte_next, byte_over, Stands, ReadAt}
 use Rattle.characters.specs.Plains.{Quote, double, single, plain_of}
 use Rattle.strings.specs.Quoted.{coded_r}
 use Rattle.strings.specs.Inside.{escapes_r, special_r, Special}
-use Rattle.strings.specs.Contract.{Texts, Texted, Letter, lettering}
+use Rattle.strings.specs.Contract.{Texts, Texted, Letter, letter_some, letter_none}
 use Rattle.strings.specs.Joining.{itself}
 use Rattle.named.specs.Lie.{KeyAt}
 use Rattle.spelt.specs.declared.spelling.Spelling.{Spelling}
-use Rattle.spelt.specs.declared.spelling.Given.{Given}
-use Rattle.spelt.specs.declared.spelling.Given.TheVariants as given
+use Rattle.std.specs.declared.option.Option.{Option}
 use Rattle.spelt.specs.Pieces.{Few, utf8_few, piece_few}
 use Rattle.spelt.specs.Left.{Left, After, left_quote, key_more, key_over, piece_more, piece_none, plain_more, quote_over, quoted_inside, letter_is, coded_is, single_escape, single_kept, whole_double, whole_single, whole_bare}
+
+-- what the reading of a text gives, as the crate's type of this name says it: the next byte and the text behind it, or that the text is over
+abbrev pub Given : Type 0
+Given = Option (ℕ × Spelling)
 
 -- s is before it: the bytes of the room from `from` up to `to`, and what is left in the document
 pub record Rest (doc room : List ℕ) (p : Spelling) (s : List ℕ) : Type 0 where
@@ -82,8 +84,8 @@ first_byte doc at v n s l =
 
 -- THE CONTRACT: whatever text is before it, its first byte is given, or it is over
 unfoldable pub Nexts : List ℕ → List ℕ → Spelling → List ℕ → Given → Type 0
-Nexts doc room p room' (given.Byte b n) = Gave doc room p room' b n
-Nexts doc room p room' given.End = (s : List ℕ) → Rest doc room p s → s ≡ []
+Nexts doc room p room' (Some (b, n)) = Gave doc room p room' b n
+Nexts doc room p room' None = (s : List ℕ) → Rest doc room p s → s ≡ []
 
 -- ---- nothing of the room is before it
 
@@ -120,7 +122,7 @@ module _ (doc room : List ℕ) (p : Spelling) (w : Spellable doc room p) (l : p.
   pub held_room : p.from < length room
   held_room = omega (arith, w.rest.fits)
 
-  pub held_next : Nexts doc room p room (given.Byte (get_or room p.from 0) (record { at = p.at; quote = p.quote; from = p.from + 1; to = p.to }))
+  pub held_next : Nexts doc room p room (Some (get_or room p.from 0, record { at = p.at; quote = p.quote; from = p.from + 1; to = p.to }))
   unfolding Nexts
   held_next =
       record {
@@ -159,7 +161,7 @@ module _ (doc room : List ℕ) (p : Spelling) (w : Spellable doc room p) (d : p.
   fresh_quote n = left_quote doc p.quote p.at w.text (rest_tail doc room p w.text d w.rest) n
 
   module _ (t : Took) (h : ByteRead doc p.at t) where
-    pub fresh_over : t ≡ Over → Nexts doc room p room given.End
+    pub fresh_over : t ≡ None → Nexts doc room p room None
     unfolding Nexts
     fresh_over e s r = by (rest_tail doc room p s d r) (byte_over doc p.at t h e)
       where
@@ -170,23 +172,23 @@ module _ (doc room : List ℕ) (p : Spelling) (w : Spellable doc room p) (d : p.
             go (yes z) = key_over doc p.quote p.at z s l (rw f refl)
             go (no z) = absurd (quoted_inside doc p.quote p.at (fresh_quote z) s l f)
 
-    module _ (b : ℕ) (m : Reading) (e : t ≡ Byte b m) where
+    module _ (b : ℕ) (m : Reading) (e : t ≡ Some (b, m)) where
       pub there : b ≡ peek doc p.at
       there = byte_there doc p.at t h b m e
 
-      stepped : ((s : List ℕ) → Rest doc room p s → After doc p.quote (p.at + 1) (peek doc p.at ∷ []) s) → Nexts doc room p room (given.Byte b (record { at = m.at; quote = p.quote; from = 0; to = 0 }))
+      stepped : ((s : List ℕ) → Rest doc room p s → After doc p.quote (p.at + 1) (peek doc p.at ∷ []) s) → Nexts doc room p room (Some (b, record { at = m.at; quote = p.quote; from = 0; to = 0 }))
       unfolding Nexts
       stepped f = rw (byte_next doc p.at t h b m e, there) (step doc room p (peek doc p.at) (byte_inside doc p.at t h b m e) f)
 
       module _ (x : Bool) where
-        pub fresh_key : p.quote ≡ 0 → x ≡ is keybyte b → x ≡ true → Nexts doc room p room (given.Byte b (record { at = m.at; quote = p.quote; from = 0; to = 0 }))
+        pub fresh_key : p.quote ≡ 0 → x ≡ is keybyte b → x ≡ true → Nexts doc room p room (Some (b, record { at = m.at; quote = p.quote; from = 0; to = 0 }))
         fresh_key z k y = stepped (λ s r. key_more doc p.quote p.at z s (rest_tail doc room p s d r) (ap (is keybyte) (sym there) ∙ (sym k ∙ y)))
 
-        pub fresh_ended : p.quote ≡ 0 → x ≡ is keybyte b → x ≡ false → Nexts doc room p room given.End
+        pub fresh_ended : p.quote ≡ 0 → x ≡ is keybyte b → x ≡ false → Nexts doc room p room None
         unfolding Nexts
         fresh_ended z k y s r = key_over doc p.quote p.at z s (rest_tail doc room p s d r) (ap (is keybyte) (sym there) ∙ (sym k ∙ y))
 
-        pub fresh_plain : (p.quote ≡ 0 → ⊥) → x ≡ is (plain_of p.quote) b → x ≡ true → Nexts doc room p room (given.Byte b (record { at = m.at; quote = p.quote; from = 0; to = 0 }))
+        pub fresh_plain : (p.quote ≡ 0 → ⊥) → x ≡ is (plain_of p.quote) b → x ≡ true → Nexts doc room p room (Some (b, record { at = m.at; quote = p.quote; from = 0; to = 0 }))
         fresh_plain z k y = stepped (λ s r. plain_more doc p.quote p.at (fresh_quote z) s (rest_tail doc room p s d r) (ap (is (plain_of p.quote)) (sym there) ∙ (sym k ∙ y)))
 
         pub fresh_piece : (p.quote ≡ 0 → ⊥) → x ≡ is (plain_of p.quote) b → x ≡ false → (b ≡ p.quote → ⊥) → Pieced doc room p
@@ -199,7 +201,7 @@ module _ (doc room : List ℕ) (p : Spelling) (w : Spellable doc room p) (d : p.
               special = record { dark = ap (is (plain_of p.quote)) (sym there) ∙ (sym k ∙ y); other = λ f. n (there ∙ f) };
             }
 
-      pub fresh_close : (p.quote ≡ 0 → ⊥) → b ≡ p.quote → Nexts doc room p room given.End
+      pub fresh_close : (p.quote ≡ 0 → ⊥) → b ≡ p.quote → Nexts doc room p room None
       unfolding Nexts
       fresh_close z f s r = quote_over doc p.quote p.at (fresh_quote z) s (rest_tail doc room p s d r) (sym there ∙ f)
 
@@ -257,45 +259,23 @@ module _ (doc room : List ℕ) (p : Spelling) (w : Pieced doc room p) where
     as_double d n e = rw q e
 
     -- .. of a letter
-    module _ (b v : ℕ) (e : b ≡ peek doc (p.at + 1)) (z : Letter b v) where
-      pub letter_none : v ≡ 256 → is lettered (peek doc (p.at + 1)) ≡ false
-      unfolding lettering
-      letter_none f = by (is lettered b) refl (sym z.is ∙ f)
-        where
-          lost : (u x y j k : Bool) → pick u 8 (pick x 12 (pick y 10 (pick j 13 (pick k 9 b)))) ≡ 256 → b ≡ 256
-          lost true x y j k g = absurd (omega arith)
-          lost false true y j k g = absurd (omega arith)
-          lost false false true j k g = absurd (omega arith)
-          lost false false false true k g = absurd (omega arith)
-          lost false false false false true g = absurd (omega arith)
-          lost false false false false false g = g
+    module _ (b : ℕ) (r : Option ℕ) (e : b ≡ peek doc (p.at + 1)) (z : Letter b r) where
+      pub letter_coded : r ≡ None → is lettered (peek doc (p.at + 1)) ≡ false
+      letter_coded f = ap (is lettered) (sym e) ∙ letter_none b r z f
 
-          by : (x : Bool) → is lettered b ≡ x → pick x (stands_for b) 256 ≡ 256 → is lettered (peek doc (p.at + 1)) ≡ false
-          by true y g =
-              let o : b ≡ 256 = lost (is (only 98) b) (is (only 102) b) (is (only 110) b) (is (only 114) b) (is (only 116) b) g in
-              let j : is lettered 256 ≡ true = rw o at y in
-              absurd (clash j refl)
-          by false y g = ap (is lettered) (sym e) ∙ y
-
-      pub letter_small : (v ≡ 256 → ⊥) → v < 256
-      letter_small n = omega (arith, z.most, n)
-
-      pub letter_next : (v ≡ 256 → ⊥) → Nexts doc room p room (given.Byte v (record { at = p.at + 2; quote = p.quote; from = 0; to = 0 }))
-      unfolding Nexts lettering
-      letter_next n = by (is lettered b) refl z.is
-        where
-          by : (x : Bool) → is lettered b ≡ x → v ≡ pick x (stands_for b) 256 → Gave doc room p room v (record { at = p.at + 2; quote = p.quote; from = 0; to = 0 })
-          by true y g =
-              let f = as_double (escaped (stands_for (peek doc (p.at + 1)) ∷ [])) (p.at + 2) (letter_is doc p.at h (ap (is lettered) (sym e) ∙ y)) in
-              let k : v ≡ stands_for (peek doc (p.at + 1)) = g ∙ ap stands_for e in
-              rw k
-              (record {
-                less = omega (arith, w.inside);
-                more = λ s r.
-                    let a = piece_more doc p.quote p.at w.quote s (left_of s r) w.special.other (escaped (stands_for (peek doc (p.at + 1)) ∷ [])) (p.at + 2) f in
-                    record { others = a.rest; is = a.is; rest = rest_fresh doc room p.quote (p.at + 2) a.rest a.left };
-              })
-          by false y g = absurd (n g)
+      pub letter_next : (v : ℕ) → r ≡ Some v → Nexts doc room p room (Some (v, record { at = p.at + 2; quote = p.quote; from = 0; to = 0 }))
+      unfolding Nexts
+      letter_next v g =
+          let l = letter_some b r z v g in
+          let f = as_double (escaped (stands_for (peek doc (p.at + 1)) ∷ [])) (p.at + 2) (letter_is doc p.at h (ap (is lettered) (sym e) ∙ l.0)) in
+          let k : v ≡ stands_for (peek doc (p.at + 1)) = l.1 ∙ ap stands_for e in
+          rw k
+          (record {
+            less = omega (arith, w.inside);
+            more = λ s r.
+                let a = piece_more doc p.quote p.at w.quote s (left_of s r) w.special.other (escaped (stands_for (peek doc (p.at + 1)) ∷ [])) (p.at + 2) f in
+                record { others = a.rest; is = a.is; rest = rest_fresh doc room p.quote (p.at + 2) a.rest a.left };
+          })
 
     -- .. of `u{..}`
     module _ (y : is lettered (peek doc (p.at + 1)) ≡ false) where
@@ -316,7 +296,7 @@ module _ (doc room : List ℕ) (p : Spelling) (w : Pieced doc room p) where
       as_piece = rw q (coded_is doc p.at h y)
 
       module _ (a : Ans) (room' : List ℕ) (t : Texts doc c (coded_r (p.at + 1) (drop (p.at + 1) doc)) a room room') where
-        pub coded_no : (i : ℕ) → a ≡ No i → Nexts doc room p room' given.End
+        pub coded_no : (i : ℕ) → a ≡ Err i → Nexts doc room p room' None
         unfolding Nexts Texts
         coded_no i e s r = absurd (piece_none doc p.quote p.at w.quote s (left_of s r) w.special.other i (as_piece ∙ (rw e at t)))
 
@@ -342,7 +322,7 @@ module _ (doc room : List ℕ) (p : Spelling) (w : Pieced doc room p) where
               let g = spot_low 0 (omega arith) in
               ap spot x.spelt.end ∙ (spot_on 0 (length x.value.bytes) x.value.escapes (omega (arith, few.few)) ∙ omega arith)
 
-          pub coded_yes : (to : ℕ) → to ≡ spot n.text → Nexts doc room p room' (given.Byte (get_or room' 0 0) (record { at = n.at; quote = p.quote; from = 1; to = to }))
+          pub coded_yes : (to : ℕ) → to ≡ spot n.text → Nexts doc room p room' (Some (get_or room' 0 0, record { at = n.at; quote = p.quote; from = 1; to = to }))
           unfolding Nexts
           coded_yes to z =
               roomed doc room p w x.value.bytes room' few room_is n.at to (z ∙ to_is) (omega (arith, x.spelt.ahead)) x.spelt.inside
@@ -353,7 +333,7 @@ module _ (doc room : List ℕ) (p : Spelling) (w : Pieced doc room p) where
     as_single : (s : List ℕ) → Rest doc room p s → Left doc 39 p.at s
     as_single s r = subst (λ (j : ℕ). Left doc j p.at s) q (left_of s r)
 
-    stands : (b n : ℕ) → p.at < n → n ≤ p.at + 2 → ((s : List ℕ) → Left doc 39 p.at s → After doc 39 n (b ∷ []) s) → Nexts doc room p room (given.Byte b (record { at = n; quote = p.quote; from = 0; to = 0 }))
+    stands : (b n : ℕ) → p.at < n → n ≤ p.at + 2 → ((s : List ℕ) → Left doc 39 p.at s → After doc 39 n (b ∷ []) s) → Nexts doc room p room (Some (b, record { at = n; quote = p.quote; from = 0; to = 0 }))
     unfolding Nexts
     stands b n l m f =
         record {
@@ -365,13 +345,13 @@ module _ (doc room : List ℕ) (p : Spelling) (w : Pieced doc room p) where
     single_fits = omega (arith, w.inside, w.able.short)
 
     module _ (b : ℕ) (e : b ≡ peek doc (p.at + 1)) where
-      pub single_quoted : b ≡ 39 → Nexts doc room p room (given.Byte 39 (record { at = p.at + 2; quote = p.quote; from = 0; to = 0 }))
+      pub single_quoted : b ≡ 39 → Nexts doc room p room (Some (39, record { at = p.at + 2; quote = p.quote; from = 0; to = 0 }))
       single_quoted f = stands 39 (p.at + 2) (omega arith) (omega arith) (λ s l. single_escape doc p.at s l h 39 (sym f ∙ e) refl (omega arith))
 
-      pub single_back : b ≡ 92 → Nexts doc room p room (given.Byte 92 (record { at = p.at + 2; quote = p.quote; from = 0; to = 0 }))
+      pub single_back : b ≡ 92 → Nexts doc room p room (Some (92, record { at = p.at + 2; quote = p.quote; from = 0; to = 0 }))
       single_back f = stands 92 (p.at + 2) (omega arith) (omega arith) (λ s l. single_escape doc p.at s l h 92 (sym f ∙ e) refl (omega arith))
 
-      pub single_stays : (b ≡ 39 → ⊥) → (b ≡ 92 → ⊥) → Nexts doc room p room (given.Byte 92 (record { at = p.at + 1; quote = p.quote; from = 0; to = 0 }))
+      pub single_stays : (b ≡ 39 → ⊥) → (b ≡ 92 → ⊥) → Nexts doc room p room (Some (92, record { at = p.at + 1; quote = p.quote; from = 0; to = 0 }))
       single_stays m n = stands 92 (p.at + 1) (omega arith) (omega arith) (λ s l. single_kept doc p.at s l h b e m n)
 
   -- a character of several bytes
@@ -379,13 +359,13 @@ module _ (doc room : List ℕ) (p : Spelling) (w : Pieced doc room p) where
     as_char : special_r p.quote p.at (drop p.at doc) ≡ map_r unescaped (char_r (plain_of p.quote)) p.at (drop p.at doc)
     as_char = alt_not doc p.at 92 (peek doc p.at) (omega arith) refl (escapes_r p.quote) (map_r unescaped (char_r (plain_of p.quote))) h
 
-    pub wide_no : (i : ℕ) → r ≡ Not i → Nexts doc room p room given.End
+    pub wide_no : (i : ℕ) → r ≡ Err i → Nexts doc room p room None
     unfolding Nexts ReadAt
     wide_no i e s x =
         let f = rw e at t in
         absurd (piece_none doc p.quote p.at w.quote s (left_of s x) w.special.other i (as_char ∙ ap (λ o. bind o (λ s. ret_r (unescaped s))) (f (plain_of p.quote))))
 
-    module _ (v : ℕ) (n : Reading) (e : r ≡ Scalar v n) where
+    module _ (v : ℕ) (n : Reading) (e : r ≡ Ok (v, n)) where
       here : Stands doc p.at v n.at
       unfolding ReadAt
       here = rw e at t
@@ -417,13 +397,13 @@ module _ (doc room : List ℕ) (p : Spelling) (w : Pieced doc room p) where
               rw here.bytes (piece_more doc p.quote p.at w.quote s (left_of s x) w.special.other (unescaped (utf8 v)) n.at
               (as_char ∙ rw (here.taken (plain_of p.quote), lt-leb v 127 g, here.allowed g) refl))
 
-      pub wide_yes : (room' : List ℕ) → room' ≡ sets room 0 (slice p.at n.at doc) → Nexts doc room p room' (given.Byte (get_or room' 0 0) (record { at = n.at; quote = p.quote; from = 1; to = n.at - p.at }))
+      pub wide_yes : (room' : List ℕ) → room' ≡ sets room 0 (slice p.at n.at doc) → Nexts doc room p room' (Some (get_or room' 0 0, record { at = n.at; quote = p.quote; from = 1; to = n.at - p.at }))
       unfolding Nexts
       wide_yes room' z = roomed doc room p w (slice p.at n.at doc) room' wide_few z n.at (n.at - p.at) (sym bytes_long) here.ahead here.inside read
 
 pub ruleset coding = (escaped_fits, coded_ready, coded_no, coded_room, coded_yes, rules)
 
-pub ruleset escaping = (escaped_fits, letter_none, letter_small, letter_next, rules)
+pub ruleset escaping = (escaped_fits, letter_coded, letter_next, rules)
 
 pub ruleset singling = (single_fits, single_quoted, single_back, single_stays, rules)
 

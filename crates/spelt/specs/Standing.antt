@@ -1,19 +1,18 @@
 -- BYTES OF A TEXT THAT STAND IN THE DOCUMENT AS THEY ARE: the next one (`Standing`), and those that two texts have in common (`Common`). No room is looked into. Assumes nothing.
-use Rattle.std.specs.Prelude.{◌≡◌, refl, List, [], ◌∷◌, ◌++◌, Bool, true, false, ℕ, ◌+◌, ◌≤◌, ◌<◌, length}
+use Rattle.std.specs.Prelude.{◌≡◌, refl, List, [], ◌∷◌, ◌++◌, Bool, true, ℕ, ◌+◌, ◌≤◌, ◌<◌, length}
 use Rattle.std.proofs.Common.{sym, ap, ◌∙◌, append_assoc, arith, rules}
 use Rattle.language.specs.Answered.{limit}
 use Rattle.language.specs.Strings.{keybyte}
 use Rattle.exact.specs.Class.{is}
 use Rattle.exact.specs.Place.{peek}
 use Rattle.characters.specs.declared.Reading.{Reading}
-use Rattle.characters.specs.declared.Took.{Took}
-use Rattle.characters.specs.declared.Took.TheVariants.{Byte, Over}
+use Rattle.characters.specs.Reads.{Took}
+use Rattle.std.specs.declared.option.Option.TheVariants.{Some}
 use Rattle.characters.specs.Reads.{ByteRead, byte_inside, byte_there}
 use Rattle.characters.specs.Plains.{Quote, plain_of}
 use Rattle.spelt.specs.declared.spelling.Spelling.{Spelling}
-use Rattle.spelt.specs.declared.spelling.Given.TheVariants as given
 use Rattle.spelt.specs.Left.{After, left_quote, key_more, plain_more}
-use Rattle.spelt.specs.Spelling.{Rest, Spellable, Then, Gave, Nexts, weight, rest_tail, step}
+use Rattle.spelt.specs.Spelling.{Rest, Spellable, Gave, Nexts, weight, rest_tail, step}
 
 -- the text behind a byte that stands as it is
 abbrev pub further : Spelling → Spelling
@@ -41,7 +40,7 @@ module _ (doc : List ℕ) (p : Spelling) (w : Spells doc p) (d : p.to ≤ p.from
   pub standing_quote : (p.quote ≡ 0 → ⊥) → Quote p.quote
   standing_quote n = left_quote doc p.quote p.at w.able.text (rest_tail doc w.room p w.able.text d w.able.rest) n
 
-  module _ (t : Took) (h : ByteRead doc p.at t) (b : ℕ) (m : Reading) (e : t ≡ Byte b m) where
+  module _ (t : Took) (h : ByteRead doc p.at t) (b : ℕ) (m : Reading) (e : t ≡ Some (b, m)) where
     there : b ≡ peek doc p.at
     there = byte_there doc p.at t h b m e
 
@@ -64,7 +63,7 @@ pub ruleset standing = (none_stands, standing_quote, standing_key, standing_plai
 -- ---- as the next byte
 
 module _ (doc : List ℕ) (p : Spelling) (b : ℕ) (x : Standing doc p b) (l : b < 256) where
-  pub standing_next : (room : List ℕ) → Nexts doc room p room (given.Byte b (further p))
+  pub standing_next : (room : List ℕ) → Nexts doc room p room (Some (b, further p))
   unfolding Nexts
   standing_next room = (x.stands l).gave room
 

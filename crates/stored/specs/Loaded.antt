@@ -1,7 +1,8 @@
 -- WHAT LOADING PROMISES (02, Ticket 4, mended by Ticket 11). Assumes nothing.
-use Rattle.std.specs.Prelude.{◌≡◌, List, ◌++◌, ℕ, ◌*◌, ◌≤◌, ◌<◌, length, drop}
-use Rattle.stored.specs.declared.Loading.{Loading}
-use Rattle.stored.specs.declared.Loading.TheVariants.{Done, BadForm, Rows, Text}
+use Rattle.std.specs.Prelude.{◌≡◌, List, ◌++◌, ℕ, ◌*◌, ◌≤◌, ◌<◌, length, drop, Result, Ok, Err}
+use Rattle.stored.specs.declared.Loaded.{Loaded}
+use Rattle.stored.specs.declared.LoadRefusal.{LoadRefusal}
+use Rattle.stored.specs.declared.LoadRefusal.TheVariants.{BadForm, Rows, Text}
 use Rattle.language.specs.Tree.{Tree, width, unlined, size, text_of, rows_of}
 use Rattle.language.specs.Answered.{ROWS, TEXT}
 use Rattle.language.specs.Lent.{lent, words_in, bytes_in}
@@ -13,23 +14,21 @@ abbrev pub BADFORM : ℕ
 BADFORM = 13
 
 -- the number and the values of each answer of `load`, "for each of its cases" (01): rows and text bytes; rows or text bytes needed, and 0; or the place 0, and 0
-abbrev pub loading_number : Loading → ℕ
-loading_number (Done rows bytes) = 0
-loading_number BadForm = BADFORM
-loading_number (Rows rows) = ROWS
-loading_number (Text bytes) = TEXT
+abbrev pub loading_number : Result Loaded LoadRefusal → ℕ
+loading_number (Ok d) = 0
+loading_number (Err BadForm) = BADFORM
+loading_number (Err (Rows rows)) = ROWS
+loading_number (Err (Text bytes)) = TEXT
 
-abbrev pub loading_value : Loading → ℕ
-loading_value (Done rows bytes) = rows.0
-loading_value BadForm = 0
-loading_value (Rows rows) = rows.0
-loading_value (Text bytes) = bytes
+abbrev pub loading_value : Result Loaded LoadRefusal → ℕ
+loading_value (Ok d) = d.rows.0
+loading_value (Err BadForm) = 0
+loading_value (Err (Rows rows)) = rows.0
+loading_value (Err (Text bytes)) = bytes
 
-abbrev pub loading_second : Loading → ℕ
-loading_second (Done rows bytes) = bytes
-loading_second BadForm = 0
-loading_second (Rows rows) = 0
-loading_second (Text bytes) = 0
+abbrev pub loading_second : Result Loaded LoadRefusal → ℕ
+loading_second (Ok d) = d.bytes
+loading_second (Err r) = 0
 
 -- the bytes are a "sound table's stored form": some table holds the tree, and it is stored as these bytes. "A stored file over 16,777,216 bytes is BADFORM" (Ticket 11)
 pub record Kept (stored : List ℕ) (t : Tree) : Type 0 where

@@ -1,7 +1,7 @@
 -- WHAT STORING PROMISES (02, Ticket 4, mended by Ticket 11). Assumes nothing.
-use Rattle.std.specs.Prelude.{List, ◌++◌, ℕ, ◌≤◌, ◌<◌, length, drop}
-use Rattle.stored.specs.declared.Storing.{Storing}
-use Rattle.stored.specs.declared.Storing.TheVariants.{Done, BadRow, TooShort}
+use Rattle.std.specs.Prelude.{List, ◌++◌, ℕ, ◌≤◌, ◌<◌, length, drop, Result, Ok, Err}
+use Rattle.stored.specs.declared.StoreRefusal.{StoreRefusal}
+use Rattle.stored.specs.declared.StoreRefusal.TheVariants.{BadRow, TooShort}
 use Rattle.language.specs.Tree.{Tree}
 use Rattle.language.specs.Answered.{TEXT, BADROW}
 use Rattle.language.specs.Lent.{bytes_in}
@@ -9,15 +9,15 @@ use Rattle.language.specs.Sound.{Holds, Sound}
 use Rattle.stored.specs.Form.{form}
 
 -- the number and the count of each answer of `store`: "a definition gives this paper's number and values for each of its cases" (01). "WIDE goes away": number 12 is not used
-abbrev pub storing_number : Storing → ℕ
-storing_number (Done n) = 0
-storing_number BadRow = BADROW
-storing_number (TooShort n) = TEXT
+abbrev pub storing_number : Result ℕ StoreRefusal → ℕ
+storing_number (Ok n) = 0
+storing_number (Err BadRow) = BADROW
+storing_number (Err (TooShort n)) = TEXT
 
-abbrev pub storing_count : Storing → ℕ
-storing_count (Done n) = n
-storing_count BadRow = 0
-storing_count (TooShort n) = n
+abbrev pub storing_count : Result ℕ StoreRefusal → ℕ
+storing_count (Ok n) = n
+storing_count (Err BadRow) = 0
+storing_count (Err (TooShort n)) = n
 
 -- THE PROMISE OF `store`: the rooms lent to be read; the output as it was lent; the number, the count beside it, and the output afterwards.
 -- "storing tests BADROW, then .. TEXT, and writes nothing on refusal"

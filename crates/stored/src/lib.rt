@@ -10,77 +10,82 @@ use language::Row;
 // What one field holds at most; a longer content is stored in parts of so many bytes.
 pub const WIDEST: usize = 65535;
 
-// The count of bytes stored; that the table is not sound; or how many bytes the output would need.
-#[derive(Clone, Copy)]
-pub enum Storing {
-    Done(usize),
+// What `store` refuses: a table that is not sound; or an output that is too short, with how many bytes it would need.
+#[derive(Clone, Copy, PartialEq, Eq, Debug)]
+pub enum StoreRefusal {
     BadRow,
     TooShort(usize),
 }
 
-// The rows and the count of text bytes loaded; that the bytes are no stored form; the rows or the count of text bytes that the rooms would need.
-#[derive(Clone, Copy)]
-pub enum Loading {
-    Done(Row, usize),
+// The count of bytes stored, or a refusal.
+pub type Storing = Result<usize, StoreRefusal>;
+
+// The rows and the count of text bytes that were loaded.
+#[derive(Clone, Copy, PartialEq, Eq, Debug)]
+pub struct Loaded {
+    pub rows: Row,
+    pub bytes: usize,
+}
+
+// What `load` refuses: bytes that are no stored form; or rooms that are too small, with the rows or the count of text bytes that they would need.
+#[derive(Clone, Copy, PartialEq, Eq, Debug)]
+pub enum LoadRefusal {
     BadForm,
     Rows(Row),
     Text(usize),
 }
 
-// The number of an answer and its values, as document 02 counts them.
-impl Storing {
-    pub fn number(self) -> u32
-        ensures { result ≡ S.storing_number self }
-    {
-        match self {
-            Storing::Done(_) => 0,
-            Storing::BadRow => 9,
-            Storing::TooShort(_) => 8,
-        }
-    }
+// What was loaded, or a refusal.
+pub type Loading = Result<Loaded, LoadRefusal>;
 
-    pub fn count(self) -> usize
-        ensures { result ≡ S.storing_count self }
-    {
-        match self {
-            Storing::Done(bytes) => bytes,
-            Storing::BadRow => 0,
-            Storing::TooShort(bytes) => bytes,
-        }
+// The number of an answer and its values, as document 02 counts them.
+pub fn storing_number(answer: Storing) -> u32
+    ensures { result ≡ S.storing_number answer }
+{
+    match answer {
+        Ok(_) => 0,
+        Err(StoreRefusal::BadRow) => 9,
+        Err(StoreRefusal::TooShort(_)) => 8,
     }
 }
 
-impl Loading {
-    pub fn number(self) -> u32
-        ensures { result ≡ L.loading_number self }
-    {
-        match self {
-            Loading::Done(_, _) => 0,
-            Loading::BadForm => 13,
-            Loading::Rows(_) => 7,
-            Loading::Text(_) => 8,
-        }
+pub fn storing_count(answer: Storing) -> usize
+    ensures { result ≡ S.storing_count answer }
+{
+    match answer {
+        Ok(bytes) | Err(StoreRefusal::TooShort(bytes)) => bytes,
+        Err(StoreRefusal::BadRow) => 0,
     }
+}
 
-    pub fn value(self) -> usize
-        ensures { result ≡ L.loading_value self }
-    {
-        match self {
-            Loading::Done(rows, _) => rows.0,
-            Loading::BadForm => 0,
-            Loading::Rows(rows) => rows.0,
-            Loading::Text(bytes) => bytes,
-        }
+pub fn loading_number(answer: Loading) -> u32
+    ensures { result ≡ L.loading_number answer }
+{
+    match answer {
+        Ok(_) => 0,
+        Err(LoadRefusal::BadForm) => 13,
+        Err(LoadRefusal::Rows(_)) => 7,
+        Err(LoadRefusal::Text(_)) => 8,
     }
+}
 
-    pub fn second(self) -> usize
-        ensures { result ≡ L.loading_second self }
-    {
-        match self {
-            Loading::Done(_, bytes) => bytes,
-            Loading::BadForm => 0,
-            Loading::Rows(_) => 0,
-            Loading::Text(_) => 0,
-        }
+pub fn loading_value(answer: Loading) -> usize
+    ensures { result ≡ L.loading_value answer }
+{
+    match answer {
+        Ok(loaded) => loaded.rows.0,
+        Err(LoadRefusal::BadForm) => 0,
+        Err(LoadRefusal::Rows(rows)) => rows.0,
+        Err(LoadRefusal::Text(bytes)) => bytes,
+    }
+}
+
+// Stays (point 2): a function for each definition that contracts name, here loading_second; overlay::overlay_second is of other answers.
+pub fn loading_second(answer: Loading) -> usize
+    ensures { result ≡ L.loading_second answer }
+{
+    match answer {
+        Ok(loaded) => loaded.bytes,
+        Err(_) => 0,
     }
 }

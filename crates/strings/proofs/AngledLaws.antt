@@ -2,7 +2,7 @@
 use mathlib.Core.Path.{◌≡◌, refl, sym, ap, ◌∙◌}
 use mathlib.Core.List.{List, []}
 use mathlib.Core.Bool.{Bool, true, false}
-use Prim.Native.Nat.{ℕ, ◌<◌}
+use Prim.Native.Nat.{ℕ}
 use native.Mathlib.Nat.{add-zero}
 use native.Mathlib.Omega.{arith}
 use lib.ListN.{drop}
@@ -18,10 +18,9 @@ use Rattle.language.specs.Kind.{BYTES}
 use Rattle.language.specs.Strings.{lowhex}
 use Rattle.language.specs.Tree.{Decoded, unescaped}
 use Rattle.rooms.specs.declared.Cursor.{Cursor}
-use Rattle.rooms.specs.declared.Ans.{Ans}
-use Rattle.rooms.specs.declared.Ans.TheVariants.{Ok, No}
-use Rattle.rooms.specs.declared.Far.{Far}
-use Rattle.rooms.specs.declared.Far.TheVariants.{Upto, Not}
+use Rattle.rooms.specs.Contract.{Ans}
+use Rattle.std.specs.declared.result.Result.TheVariants.{Err, Ok}
+use Rattle.rooms.specs.Contract.{Far}
 use Rattle.rooms.specs.Contract.{Takes, Ready, Answers}
 use Rattle.rooms.specs.Laws.{take_next, take_byte, take_other}
 use Rattle.strings.specs.Bytes.{inside_r, angled_r, inline_bytes_r, pairs_r}
@@ -40,7 +39,7 @@ module _ (doc : List ℕ) (n : Cursor) (far : ℕ) (t : Ans) (h : Takes doc n 62
   unfolding Closed
   closed_yes m e = (take_next doc n 62 t h m e, take_byte doc n 62 t h m e)
 
-  pub closed_no : (p : ℕ) → t ≡ No p → Closed doc n far (No far)
+  pub closed_no : (p : ℕ) → t ≡ Err p → Closed doc n far (Err far)
   unfolding Closed
   closed_no p e = (refl, take_other doc n 62 t h p e)
 
@@ -80,20 +79,20 @@ module _ (doc : List ℕ) (n : Cursor) (b : ℕ) (d : Bool) (look : b ≡ peek d
         is = opened ∙ rw (low_none doc n.at b d look a z, byte_is doc n.at 62 62 (omega arith) h.1 refl) refl;
         spelt = record { ahead = omega arith; inside = omega arith; row = refl; end = sym (add-zero n.text); few = omega arith; scant = omega arith; room = refl };
       })
-  inner_empty T (No p) z h = opened ∙ rw (low_none doc n.at b d look a z, byte_not doc n.at 62 (peek doc n.at) (omega arith) refl h.1, h.0) refl
+  inner_empty T (Err p) z h = opened ∙ rw (low_none doc n.at b d look a z, byte_not doc n.at 62 (peek doc n.at) (omega arith) refl h.1, h.0) refl
 
   -- pairs
   module _ (some : d ≡ true) (f : Far) (T T' : List ℕ) (k : PairsAt doc n f T T') where
     inner : inner_r n.at (drop n.at doc) ≡ bind (settled (pairs_r n.at (drop n.at doc))) close_r
     inner = opened ∙ rw (low_is doc n.at b d look a some, inside_settled n.at (drop n.at doc)) refl
 
-    pub inner_bad : (p : ℕ) → f ≡ Not p → Inner (No p) T T'
+    pub inner_bad : (p : ℕ) → f ≡ Err p → Inner (Err p) T T'
     unfolding PairsAt
     inner_bad p x =
         let h : pairs_r n.at (drop n.at doc) ≡ bad p = rw x at k in
         text_refused doc n _ T T' p (inner ∙ ap (λ o. bind (settled o) close_r) h)
 
-    module _ (m : Cursor) (far : ℕ) (x : f ≡ Upto m far) where
+    module _ (m : Cursor) (far : ℕ) (x : f ≡ Ok (m, far)) where
       paired : Paired doc n m far T T'
       unfolding PairsAt
       paired = rw x at k
@@ -129,7 +128,7 @@ module _ (doc : List ℕ) (n : Cursor) (b : ℕ) (d : Bool) (look : b ≡ peek d
                   room = s.room;
                 };
           })
-      inner_pairs (No p) h = by (is (only 32) (peek doc m.at)) refl
+      inner_pairs (Err p) h = by (is (only 32) (peek doc m.at)) refl
         where
           by : (x : Bool) → is (only 32) (peek doc m.at) ≡ x → inner_r n.at (drop n.at doc) ≡ bad p
           by true y = ended ∙ rw y (ap bad (sym h.0))
@@ -144,7 +143,7 @@ module _ (doc : List ℕ) (c : Cursor) (t : Ans) (h : Takes doc c 60 t) where
   abbrev Angled : Ans → List ℕ → List ℕ → Type 0
   Angled a T T' = Texts doc c (angled_r c.at (drop c.at doc)) a T T'
 
-  pub angle_not : (T : List ℕ) (p : ℕ) → t ≡ No p → Angled (No p) T T
+  pub angle_not : (T : List ℕ) (p : ℕ) → t ≡ Err p → Angled (Err p) T T
   unfolding angled_r
   angle_not T p e = front_not doc c 60 (omega arith) t h inner_r T p e
 
@@ -161,7 +160,7 @@ pub ruleset angles = (angle_not, angle_ready, angle_on, inner_empty, inner_bad, 
 -- ---- the row
 
 module _ (doc : List ℕ) (c : Cursor) (p : ℕ) (a : Ans) (T T' : List ℕ) (h : Texts doc c (angled_r c.at (drop c.at doc)) a T T') where
-  pub bytes_not : (R R' : List ℕ) (q : ℕ) → a ≡ No q → Answers doc c p (inline_bytes_r c.at (drop c.at doc)) (No q) R R' T T'
+  pub bytes_not : (R R' : List ℕ) (q : ℕ) → a ≡ Err q → Answers doc c p (inline_bytes_r c.at (drop c.at doc)) (Err q) R R' T T'
   unfolding inline_bytes_r
   bytes_not R R' q e = spanned_bad BYTES angled_r doc c p a T T' h R R' q e
 

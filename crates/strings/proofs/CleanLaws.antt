@@ -1,6 +1,6 @@
 -- What a string has as it stands: plain bytes, and characters of several bytes.
 use mathlib.Core.Path.{◌≡◌, refl, sym, ap, ◌∙◌}
-use mathlib.Core.List.{List, [], ◌∷◌, ◌++◌}
+use mathlib.Core.List.{List, [], ◌∷◌}
 use mathlib.Core.Bool.{Bool, true, false}
 use Prim.Native.Nat.{ℕ, suc, ◌-◌, ◌≤◌, ◌<◌}
 use native.Mathlib.Omega.{arith}
@@ -11,15 +11,14 @@ use borrow.Author.Rules.{rules}
 use borrow.Author.Tests.{le-leb, lt-leb}
 use Rattle.exact.specs.Class.{Class, is, only, sub, apart}
 use Rattle.exact.specs.Out.{ok, bad, bind, fmap, Tame}
-use Rattle.exact.specs.Answers.{fmap_none, fmap_join}
 use Rattle.exact.specs.Place.{peek, peek_cons, get_d_any, alt_not, slice_join}
 use Rattle.language.specs.Characters.{ascii, utf8, character}
 use Rattle.utf8.specs.Char.{char_r, char_s}
 use Rattle.characters.specs.declared.Reading.{Reading}
-use Rattle.characters.specs.declared.Took.{Took}
-use Rattle.characters.specs.declared.Took.TheVariants.{Byte, Over}
-use Rattle.characters.specs.declared.Read.{Read}
-use Rattle.characters.specs.declared.Read.TheVariants.{Scalar, Not}
+use Rattle.characters.specs.Reads.{Took}
+use Rattle.std.specs.declared.option.Option.TheVariants.{None, Some}
+use Rattle.std.specs.declared.result.Result.TheVariants.{Err, Ok}
+use Rattle.characters.specs.Reads.{Read}
 use Rattle.characters.specs.Reads.{ByteRead, byte_inside, byte_there, byte_next, Stands, ReadAt}
 use Rattle.characters.specs.Going.{low_stands}
 use Rattle.characters.specs.Plains.{Quote, double, single, plain_of, RunTo}
@@ -62,15 +61,15 @@ module _ (c : Class) (doc : List ℕ) (at v n : ℕ) (s : Stands doc at v n) whe
       by (no x) = let h : 127 < v = omega arith in stands_char (rw (lt-leb v 127 h) (s.allowed h))
 
 module _ (c : Class) (doc : List ℕ) (at : ℕ) (t : Took) (h : ByteRead doc at t) where
-  pub char_over : t ≡ Over → CharAt c doc at (Not at)
+  pub char_over : t ≡ None → CharAt c doc at (Err at)
   unfolding CharAt ByteRead
   char_over e = ap (char_r c at) (drop_of_length-le doc (rw e at h).0)
 
-  module _ (b : ℕ) (m : Reading) (e : t ≡ Byte b m) where
+  module _ (b : ℕ) (m : Reading) (e : t ≡ Some (b, m)) where
     pub char_wide : (r : Read) → 127 < b → ReadAt doc at r → CharAt c doc at r
     unfolding CharAt ReadAt
-    char_wide (Scalar v n) l s = wide_char c doc at v n.at s (rw (← byte_there doc at t h b m e) l)
-    char_wide (Not p) l k = k c
+    char_wide (Ok (v, n)) l s = wide_char c doc at v n.at s (rw (← byte_there doc at t h b m e) l)
+    char_wide (Err p) l k = k c
 
     -- a byte of ASCII
     module _ (low : b ≤ 127) (x : Bool) (k : x ≡ is c b) where
@@ -79,11 +78,11 @@ module _ (c : Class) (doc : List ℕ) (at : ℕ) (t : Took) (h : ByteRead doc at
           let i = byte_inside doc at t h b m e in
           rw (byte_next doc at t h b m e) (low_stands doc at b i (byte_there doc at t h b m e ∙ get_d_any doc at 256 0 i) (omega arith))
 
-      pub char_low : x ≡ true → CharAt c doc at (Scalar b m)
+      pub char_low : x ≡ true → CharAt c doc at (Ok (b, m))
       unfolding CharAt
       char_low z = stands_char c doc at b m.at here (rw (le-leb b 127 low) (sym k ∙ z))
 
-      pub char_other : x ≡ false → CharAt c doc at (Not at)
+      pub char_other : x ≡ false → CharAt c doc at (Err at)
       unfolding CharAt
       char_other z = stands_not c doc at b m.at here (rw (le-leb b 127 low) (sym k ∙ z))
 
@@ -156,7 +155,7 @@ module _ (q : ℕ) (doc : List ℕ) (quote : Quote q) where
 
   module _ (e : ℕ) (r : Read) (h : CharAt (plain_of q) doc e r) where
     -- behind a run of plain bytes from `at` on, which ends at f
-    pub clean_stop : (at f p : ℕ) → RunTo (plain_of q) doc at f → CleanUpto q doc f e → r ≡ Not p → CleanTo q doc at e
+    pub clean_stop : (at f p : ℕ) → RunTo (plain_of q) doc at f → CleanUpto q doc f e → r ≡ Err p → CleanTo q doc at e
     unfolding CharAt
     clean_stop at f p run c z =
         record {
@@ -166,7 +165,7 @@ module _ (q : ℕ) (doc : List ℕ) (quote : Quote q) where
           dark = plain_not e p (rw z at h);
         }
 
-    module _ (v : ℕ) (m : Reading) (z : r ≡ Scalar v m) where
+    module _ (v : ℕ) (m : Reading) (z : r ≡ Ok (v, m)) where
       standing_here : Char (plain_of q) doc e v m.at
       unfolding CharAt
       standing_here = rw z at h

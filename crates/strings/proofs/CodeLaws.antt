@@ -18,9 +18,9 @@ use Rattle.exact.specs.Place.{peek, There, byte_there, none_there, there}
 use Rattle.language.specs.Characters.{utf8}
 use Rattle.language.specs.Strings.{hexdigit, hexval, hex_number, scalar}
 use Rattle.characters.specs.declared.Reading.{Reading}
-use Rattle.strings.specs.declared.digits.Digit.{Digit}
-use Rattle.strings.specs.declared.digits.Digit.TheVariants.{Of, None}
-use Rattle.strings.specs.declared.escapes.Coded.TheVariants.{Named, Unnamed}
+use Rattle.strings.specs.Contract.{Digit}
+use Rattle.std.specs.declared.option.Option.TheVariants.{None, Some}
+use Rattle.std.specs.declared.result.Result.TheVariants.{Err, Ok}
 use Rattle.strings.specs.Code.{scalar_top, num, bust, grow, named, begins, code_r}
 use Rattle.strings.proofs.DigitLaws.{hexval_low, digited, undigited, class_in, scalar_high}
 use Rattle.strings.specs.Contract.{Digited, DigitRead, state, bound, Digits, Halts, CodeAt}
@@ -141,7 +141,7 @@ module _ (doc : List ℕ) (at : ℕ) where
         by (byte_there p) = rw p (run_halt (e - at) v (peek doc e) e (drop (suc e) doc) (no_grow (e - at) v (peek doc e) none))
         by (none_there p q) = rw p refl
 
-    module _ (d : ℕ) (m : Reading) (k : r ≡ Of d m) where
+    module _ (d : ℕ) (m : Reading) (k : r ≡ Some (d, m)) where
       x : Digited hexdigit doc e d m.at
       x = digited hexdigit doc e r there_is d m k
 
@@ -206,7 +206,7 @@ module _ (doc : List ℕ) (at : ℕ) where
             over true = refl
             over false = refl
 
-        pub code_sixth : (y : Bool) → y ≡ scalar (16 * v + d) → y ≡ true → CodeAt doc at (Named (16 * v + d) m)
+        pub code_sixth : (y : Bool) → y ≡ scalar (16 * v + d) → y ≡ true → CodeAt doc at (Ok (16 * v + d, m))
         unfolding CodeAt
         code_sixth y p q =
             let h = sym p ∙ q in
@@ -230,7 +230,7 @@ module _ (doc : List ℕ) (at : ℕ) (m : Reading) (v : ℕ) (g : Digits doc at 
   unfolding Halts
   halted = g.is ∙ ap (fmap (slice at m.at doc ++◌)) h
 
-  pub code_empty : m.at ≡ at → CodeAt doc at (Unnamed m.at)
+  pub code_empty : m.at ≡ at → CodeAt doc at (Err m.at)
   unfolding CodeAt state
   code_empty z = let y : m.at - at ≡ 0 = omega arith in halted ∙ rw y refl
 
@@ -238,11 +238,11 @@ module _ (doc : List ℕ) (at : ℕ) (m : Reading) (v : ℕ) (g : Digits doc at 
   unfolding state
   some_state n = let y : m.at - at ≡ suc (m.at - at - 1) = omega (arith, g.from, n) in rw y refl
 
-  pub code_unnamed : (m.at ≡ at → ⊥) → (x : Bool) → x ≡ scalar v → x ≡ false → CodeAt doc at (Unnamed m.at)
+  pub code_unnamed : (m.at ≡ at → ⊥) → (x : Bool) → x ≡ scalar v → x ≡ false → CodeAt doc at (Err m.at)
   unfolding CodeAt
   code_unnamed n x y z = halted ∙ rw (some_state n, ← y, z) refl
 
-  pub code_named : (m.at ≡ at → ⊥) → (x : Bool) → x ≡ scalar v → x ≡ true → CodeAt doc at (Named v m)
+  pub code_named : (m.at ≡ at → ⊥) → (x : Bool) → x ≡ scalar v → x ≡ true → CodeAt doc at (Ok (v, m))
   unfolding CodeAt
   code_named n x y z =
       record {

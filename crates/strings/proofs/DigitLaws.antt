@@ -12,15 +12,15 @@ use borrow.Author.Tests.{le-leb, lt-leb}
 use mathlib.Core.Logic.{◌⊎◌, inl, inr}
 use Rattle.exact.specs.Class.{pick, clash, Class, is, within, ◌to◌, sub, inside, and, or, or_of, range_of}
 use Rattle.exact.specs.Place.{peek, get_d_any}
-use Rattle.language.specs.Strings.{hexval, hexdigit, lowhex, scalar, lettered}
+use Rattle.language.specs.Strings.{hexval, hexdigit, lowhex, scalar}
 use Rattle.characters.specs.declared.Reading.{Reading}
-use Rattle.characters.specs.declared.Took.{Took}
-use Rattle.characters.specs.declared.Took.TheVariants.{Byte, Over}
+use Rattle.characters.specs.Reads.{Took}
+use Rattle.std.specs.declared.option.Option.{Option}
+use Rattle.std.specs.declared.option.Option.TheVariants.{None, Some}
 use Rattle.characters.specs.Reads.{ByteRead, byte_there, byte_next, byte_over}
 use Rattle.characters.specs.Plains.{other}
-use Rattle.strings.specs.declared.digits.Digit.{Digit}
-use Rattle.strings.specs.declared.digits.Digit.TheVariants.{Of, None}
-use Rattle.strings.specs.Contract.{digit_of, Digited, DigitRead, lettering, Letter}
+use Rattle.strings.specs.Contract.{Digit}
+use Rattle.strings.specs.Contract.{digit_of, Digited, DigitRead, Letter}
 
 -- ---- a digit at a place
 
@@ -39,19 +39,11 @@ hexval_low b e = by (or_of (within (48 to 57) b) (or (within (65 to 70) b) (or (
     by (inl x) = let h = range_of 48 57 b x in rw (le-leb b 57 h.1) (omega arith)
     by (inr x) = upper (or_of (within (65 to 70) b) (or (within (97 to 102) b) false) x)
 
-digit_most : (c : Class) (b : ℕ) → sub c hexdigit ≡ true → digit_of c b ≤ 16
-unfolding digit_of
-digit_most c b h = by (is c b) refl
-  where
-    by : (x : Bool) → is c b ≡ x → pick x (hexval b) 16 ≤ 16
-    by true e = let l = hexval_low b (inside c hexdigit b h e) in omega arith
-    by false e = omega arith
-
--- a byte of the class has its value, another one 16
+-- a byte of the class has its value, another one none
 module _ (c : Class) (b : ℕ) where
   data Valued : Type 0 where
-    valued : is c b ≡ true → digit_of c b ≡ hexval b → Valued
-    no_value : is c b ≡ false → digit_of c b ≡ 16 → Valued
+    valued : is c b ≡ true → digit_of c b ≡ Some (hexval b) → Valued
+    no_value : is c b ≡ false → digit_of c b ≡ None → Valued
 
   digit_of_lem : Valued
   unfolding digit_of
@@ -61,48 +53,48 @@ module _ (c : Class) (b : ℕ) where
       by true e = valued e (rw e refl)
       by false e = no_value e (rw e refl)
 
-  pub digit_is : (d : ℕ) → d ≡ digit_of c b → (d ≡ 16 → ⊥) → (is c b ≡ true) × (d ≡ hexval b)
-  digit_is d e n = by digit_of_lem
+  pub digit_is : (d : ℕ) → Some d ≡ digit_of c b → (is c b ≡ true) × (d ≡ hexval b)
+  digit_is d e = by digit_of_lem
     where
       by : Valued → (is c b ≡ true) × (d ≡ hexval b)
-      by (valued h k) = (h, e ∙ k)
-      by (no_value h k) = absurd (n (e ∙ k))
+      by (valued h k) = (h, cc)
+      by (no_value h k) = absurd (let z = e ∙ k in cc)
 
-  pub digit_none : sub c hexdigit ≡ true → (d : ℕ) → d ≡ digit_of c b → d ≡ 16 → is c b ≡ false
-  digit_none s d e m = by digit_of_lem
+  pub digit_none : None ≡ digit_of c b → is c b ≡ false
+  digit_none e = by digit_of_lem
     where
       by : Valued → is c b ≡ false
-      by (valued h k) = absurd (let l = hexval_low b (inside c hexdigit b s h) in omega arith)
+      by (valued h k) = absurd (let z = e ∙ k in cc)
       by (no_value h k) = h
 
 -- ---- a digit read
 
 module _ (c : Class) (doc : List ℕ) (at : ℕ) (within-hex : sub c hexdigit ≡ true) (t : Took) (h : ByteRead doc at t) where
-  pub digit_over : t ≡ Over → is c 256 ≡ false → DigitRead c doc at None
+  pub digit_over : t ≡ None → is c 256 ≡ false → DigitRead c doc at None
   unfolding DigitRead
   digit_over e n = rw (byte_over doc at t h e) n
 
-  module _ (b d : ℕ) (n : Reading) (e : t ≡ Byte b n) (k : d ≡ digit_of c b) where
+  module _ (b : ℕ) (n : Reading) (e : t ≡ Some (b, n)) (v : Option ℕ) (k : v ≡ digit_of c b) where
     here : b ≡ peek doc at
     here = byte_there doc at t h b n e
 
-    pub digit_other : d ≡ 16 → DigitRead c doc at None
+    pub digit_other : v ≡ None → DigitRead c doc at None
     unfolding DigitRead
-    digit_other z = rw (← here) (digit_none c b within-hex d k z)
+    digit_other z = rw (← here) (digit_none c b (sym z ∙ k))
 
-    pub digit_read : (d ≡ 16 → ⊥) → DigitRead c doc at (Of d n)
+    pub digit_read : (d : ℕ) → v ≡ Some d → DigitRead c doc at (Some (d, n))
     unfolding DigitRead
-    digit_read z =
-        let x = digit_is c b d k z in
+    digit_read d z =
+        let x = digit_is c b d (sym z ∙ k) in
         record {
           digit = rw (← here) x.0;
           value = rw (← here) x.1;
-          small = let l = digit_most c b within-hex in omega (arith, z);
+          small = rw x.1 (hexval_low b (inside c hexdigit b within-hex x.0));
           next = byte_next doc at t h b n e;
         }
 
   -- .. by the class and the value of its byte
-  module _ (b d : ℕ) (n : Reading) (e : t ≡ Byte b n) (x : Bool) (k : x ≡ is c b) where
+  module _ (b d : ℕ) (n : Reading) (e : t ≡ Some (b, n)) (x : Bool) (k : x ≡ is c b) where
     there : b ≡ peek doc at
     there = byte_there doc at t h b n e
 
@@ -110,13 +102,13 @@ module _ (c : Class) (doc : List ℕ) (at : ℕ) (within-hex : sub c hexdigit �
     unfolding DigitRead
     class_other z = rw (← there) (sym k ∙ z)
 
-    pub class_read : x ≡ true → d ≡ hexval b → d < 16 → DigitRead c doc at (Of d n)
+    pub class_read : x ≡ true → d ≡ hexval b → d < 16 → DigitRead c doc at (Some (d, n))
     unfolding DigitRead
     class_read z v l = record { digit = rw (← there) (sym k ∙ z); value = rw (← there) v; small = l; next = byte_next doc at t h b n e }
 
 -- .. and taken apart
 module _ (c : Class) (doc : List ℕ) (at : ℕ) (r : Digit) (h : DigitRead c doc at r) where
-  pub digited : (d : ℕ) (n : Reading) → r ≡ Of d n → Digited c doc at d n.at
+  pub digited : (d : ℕ) (n : Reading) → r ≡ Some (d, n) → Digited c doc at d n.at
   unfolding DigitRead
   digited d n e = rw e at h
 
@@ -158,31 +150,31 @@ module _ (doc : List ℕ) (at : ℕ) (h : is lowhex (peek doc at) ≡ true) wher
 -- ---- digits of either case
 
 module _ (b : ℕ) where
-  pub hex_below : b < 48 → 16 ≡ digit_of hexdigit b
+  pub hex_below : b < 48 → None ≡ digit_of hexdigit b
   unfolding digit_of
   hex_below h = rw (lt-leb 48 b h, lt-leb 65 b (omega arith), lt-leb 97 b (omega arith)) refl
 
-  pub hex_decimal : 48 ≤ b → b ≤ 57 → b - 48 ≡ digit_of hexdigit b
+  pub hex_decimal : 48 ≤ b → b ≤ 57 → Some (b - 48) ≡ digit_of hexdigit b
   unfolding digit_of
   hex_decimal h k = rw (le-leb 48 b h, le-leb b 57 k) refl
 
-  pub hex_middle : 57 < b → b < 65 → 16 ≡ digit_of hexdigit b
+  pub hex_middle : 57 < b → b < 65 → None ≡ digit_of hexdigit b
   unfolding digit_of
   hex_middle h k = rw (le-leb 48 b (omega arith), lt-leb b 57 h, lt-leb 65 b k, lt-leb 97 b (omega arith)) refl
 
-  pub hex_upper : 65 ≤ b → b ≤ 70 → b - 55 ≡ digit_of hexdigit b
+  pub hex_upper : 65 ≤ b → b ≤ 70 → Some (b - 55) ≡ digit_of hexdigit b
   unfolding digit_of
   hex_upper h k = rw (le-leb 48 b (omega arith), lt-leb b 57 (omega arith), le-leb 65 b h, le-leb b 70 k) refl
 
-  pub hex_between : 70 < b → b < 97 → 16 ≡ digit_of hexdigit b
+  pub hex_between : 70 < b → b < 97 → None ≡ digit_of hexdigit b
   unfolding digit_of
   hex_between h k = rw (le-leb 48 b (omega arith), lt-leb b 57 (omega arith), le-leb 65 b (omega arith), lt-leb b 70 h, lt-leb 97 b k) refl
 
-  pub hex_lower : 97 ≤ b → b ≤ 102 → b - 87 ≡ digit_of hexdigit b
+  pub hex_lower : 97 ≤ b → b ≤ 102 → Some (b - 87) ≡ digit_of hexdigit b
   unfolding digit_of
   hex_lower h k = rw (le-leb 48 b (omega arith), lt-leb b 57 (omega arith), le-leb 65 b (omega arith), lt-leb b 70 (omega arith), le-leb 97 b h, le-leb b 102 k) refl
 
-  pub hex_above : 102 < b → 16 ≡ digit_of hexdigit b
+  pub hex_above : 102 < b → None ≡ digit_of hexdigit b
   unfolding digit_of
   hex_above h = rw (le-leb 48 b (omega arith), lt-leb b 57 (omega arith), le-leb 65 b (omega arith), lt-leb b 70 (omega arith), le-leb 97 b (omega arith), lt-leb b 102 h) refl
 
@@ -292,43 +284,40 @@ pub ruleset scalars = (scalar_low, scalar_gap, scalar_high, rules)
 -- ---- letters
 
 module _ (b : ℕ) where
-  pub letter_quote : b ≡ 34 → Letter b 34
-  unfolding lettering
-  letter_quote e = record { is = rw e refl; most = omega arith }
+  pub letter_quote : b ≡ 34 → Letter b (Some 34)
+  unfolding Letter
+  letter_quote e = rw e (refl, refl)
 
-  pub letter_slash : b ≡ 47 → Letter b 47
-  unfolding lettering
-  letter_slash e = record { is = rw e refl; most = omega arith }
+  pub letter_slash : b ≡ 47 → Letter b (Some 47)
+  unfolding Letter
+  letter_slash e = rw e (refl, refl)
 
-  pub letter_back : b ≡ 92 → Letter b 92
-  unfolding lettering
-  letter_back e = record { is = rw e refl; most = omega arith }
+  pub letter_back : b ≡ 92 → Letter b (Some 92)
+  unfolding Letter
+  letter_back e = rw e (refl, refl)
 
-  pub letter_b : b ≡ 98 → Letter b 8
-  unfolding lettering
-  letter_b e = record { is = rw e refl; most = omega arith }
+  pub letter_b : b ≡ 98 → Letter b (Some 8)
+  unfolding Letter
+  letter_b e = rw e (refl, refl)
 
-  pub letter_f : b ≡ 102 → Letter b 12
-  unfolding lettering
-  letter_f e = record { is = rw e refl; most = omega arith }
+  pub letter_f : b ≡ 102 → Letter b (Some 12)
+  unfolding Letter
+  letter_f e = rw e (refl, refl)
 
-  pub letter_n : b ≡ 110 → Letter b 10
-  unfolding lettering
-  letter_n e = record { is = rw e refl; most = omega arith }
+  pub letter_n : b ≡ 110 → Letter b (Some 10)
+  unfolding Letter
+  letter_n e = rw e (refl, refl)
 
-  pub letter_13 : b ≡ 114 → Letter b 13
-  unfolding lettering
-  letter_13 e = record { is = rw e refl; most = omega arith }
+  pub letter_13 : b ≡ 114 → Letter b (Some 13)
+  unfolding Letter
+  letter_13 e = rw e (refl, refl)
 
-  pub letter_t : b ≡ 116 → Letter b 9
-  unfolding lettering
-  letter_t e = record { is = rw e refl; most = omega arith }
+  pub letter_t : b ≡ 116 → Letter b (Some 9)
+  unfolding Letter
+  letter_t e = rw e (refl, refl)
 
-  pub letter_none : (b ≡ 34 → ⊥) → (b ≡ 47 → ⊥) → (b ≡ 92 → ⊥) → (b ≡ 98 → ⊥) → (b ≡ 102 → ⊥) → (b ≡ 110 → ⊥) → (b ≡ 114 → ⊥) → (b ≡ 116 → ⊥) → Letter b 256
-  unfolding lettering
-  letter_none h₁ h₂ h₃ h₄ h₅ h₆ h₇ h₈ = record { is = rw none refl; most = omega arith }
-    where
-      none : is lettered b ≡ false
-      none = rw (other 34 b h₁, other 92 b h₃, other 47 b h₂, other 98 b h₄, other 102 b h₅, other 110 b h₆, other 114 b h₇, other 116 b h₈) refl
+  pub letter_other : (b ≡ 34 → ⊥) → (b ≡ 47 → ⊥) → (b ≡ 92 → ⊥) → (b ≡ 98 → ⊥) → (b ≡ 102 → ⊥) → (b ≡ 110 → ⊥) → (b ≡ 114 → ⊥) → (b ≡ 116 → ⊥) → Letter b None
+  unfolding Letter
+  letter_other h₁ h₂ h₃ h₄ h₅ h₆ h₇ h₈ = rw (other 34 b h₁, other 92 b h₃, other 47 b h₂, other 98 b h₄, other 102 b h₅, other 110 b h₆, other 114 b h₇, other 116 b h₈) refl
 
-pub ruleset letters = (letter_quote, letter_slash, letter_back, letter_b, letter_f, letter_n, letter_13, letter_t, letter_none, rules)
+pub ruleset letters = (letter_quote, letter_slash, letter_back, letter_b, letter_f, letter_n, letter_13, letter_t, letter_other, rules)

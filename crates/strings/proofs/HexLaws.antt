@@ -17,14 +17,13 @@ use Rattle.language.specs.Strings.{lowhex, hexval}
 use Rattle.language.specs.Tree.{unescaped}
 use Rattle.rooms.specs.Told.{spot}
 use Rattle.rooms.specs.declared.Cursor.{Cursor}
-use Rattle.rooms.specs.declared.Ans.{Ans}
-use Rattle.rooms.specs.declared.Ans.TheVariants.{Ok, No}
+use Rattle.rooms.specs.Contract.{Ans}
+use Rattle.std.specs.declared.option.Option.TheVariants.{None, Some}
+use Rattle.std.specs.declared.result.Result.TheVariants.{Err, Ok}
 use Rattle.rooms.specs.Contract.{onward, Takes}
 use Rattle.rooms.specs.Laws.{take_next, take_byte, take_place, take_other}
 use Rattle.characters.specs.declared.Reading.{Reading}
-use Rattle.strings.specs.declared.digits.Digit.{Digit}
-use Rattle.strings.specs.declared.digits.Digit.TheVariants.{Of, None}
-use Rattle.strings.specs.declared.hex.Next.TheVariants.{Begins, Stops}
+use Rattle.strings.specs.Contract.{Digit}
 use Rattle.strings.specs.Bytes.{pair_r, further_r, digit_next, pairs_on}
 use Rattle.strings.specs.Contract.{Digited, DigitRead, Texts}
 use Rattle.strings.specs.Hexes.{pair_text_r, Furthers}
@@ -54,10 +53,10 @@ module _ (doc : List ℕ) (c : Cursor) (h : ℕ) (x : Digited lowhex doc c.at h 
     unfolding pair_r
     first = rw (byte_peek doc c.at lowhex refl, x.digit, x.value, add-one) refl
 
-    pub pair_half : (T : List ℕ) → s ≡ None → Pair (No (c.at + 1)) T T
+    pub pair_half : (T : List ℕ) → s ≡ None → Pair (Err (c.at + 1)) T T
     pair_half T k = text_refused doc c _ T T (c.at + 1) (ap (fmap (λ p. unescaped (p ∷ []))) first ∙ rw (byte_peek doc (c.at + 1) lowhex refl, undigited lowhex doc (c.at + 1) s low k) refl)
 
-    module _ (l : ℕ) (n : Reading) (k : s ≡ Of l n) where
+    module _ (l : ℕ) (n : Reading) (k : s ≡ Some (l, n)) where
       y : Digited lowhex doc (c.at + 1) l n.at
       y = digited lowhex doc (c.at + 1) s low l n k
 
@@ -101,7 +100,7 @@ lead_peek doc at = by (there doc at)
     by (none_there p q) = ap (lead 1) p ∙ rw q refl
 
 module _ (doc : List ℕ) (c : Cursor) (b : ℕ) (v : Bool) (look : b ≡ peek doc c.at) (a : v ≡ is lowhex b) where
-  pub further_here : v ≡ true → Furthers doc c (Begins c)
+  pub further_here : v ≡ true → Furthers doc c (Ok c)
   unfolding Furthers further_r
   further_here l =
       let x = low_is doc c.at b v look a l in
@@ -115,7 +114,7 @@ module _ (doc : List ℕ) (c : Cursor) (b : ℕ) (v : Bool) (look : b ≡ peek d
         text = refl;
       }
 
-  pub stops_here : v ≡ false → (t : Ans) → Takes doc c 32 t → (p : ℕ) → t ≡ No p → Furthers doc c (Stops p)
+  pub stops_here : v ≡ false → (t : Ans) → Takes doc c 32 t → (p : ℕ) → t ≡ Err p → Furthers doc c (Err p)
   unfolding Furthers
   stops_here d t h p e =
       let x = low_none doc c.at b v look a d in
@@ -136,7 +135,7 @@ module _ (doc : List ℕ) (c : Cursor) (t : Ans) (h : Takes doc c 32 t) (n : Cur
   next_at : n.at ≡ c.at + 1
   next_at = ap (λ (z : Cursor). z.at) step
 
-  pub further_behind : f ≡ true → Furthers doc c (Begins n)
+  pub further_behind : f ≡ true → Furthers doc c (Ok n)
   unfolding Furthers further_r
   further_behind l =
       let x = low_is doc n.at g f look-behind k l in
@@ -153,7 +152,7 @@ module _ (doc : List ℕ) (c : Cursor) (t : Ans) (h : Takes doc c 32 t) (n : Cur
         text = ap (λ (z : Cursor). z.text) step;
       }
 
-  pub stops_behind : f ≡ false → Furthers doc c (Stops n.at)
+  pub stops_behind : f ≡ false → Furthers doc c (Err n.at)
   unfolding Furthers
   stops_behind l =
       let x = low_none doc n.at g f look-behind k l in

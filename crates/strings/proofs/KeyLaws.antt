@@ -17,8 +17,8 @@ use Rattle.language.specs.Tree.{unescaped}
 use Rattle.exact.specs.Lang.{ret_r}
 use Rattle.exact.specs.Comb.{map_r}
 use Rattle.rooms.specs.declared.Cursor.{Cursor}
-use Rattle.rooms.specs.declared.Ans.{Ans}
-use Rattle.rooms.specs.declared.Ans.TheVariants.{Ok, No}
+use Rattle.rooms.specs.Contract.{Ans}
+use Rattle.std.specs.declared.result.Result.TheVariants.{Err, Ok}
 use Rattle.rooms.specs.Contract.{Ready, Answers}
 use Rattle.characters.specs.Plains.{RunTo}
 use Rattle.strings.specs.Quoted.{quoted_r}
@@ -88,7 +88,7 @@ module _ (doc : List ℕ) (c m : Cursor) (same : m ≡ c) (a : Ans) (T T' : List
   pub key_close : (n : Cursor) → Ready doc c → a ≡ Ok n → Close c n
   key_close n ready e = text_close doc c n _ a T T' ready e name_text
 
-  pub key_not : (p : ℕ) (R R' : List ℕ) (q : ℕ) → a ≡ No q → Answers doc c p (key_r c.at (drop c.at doc)) (No q) R R' T T'
+  pub key_not : (p : ℕ) (R R' : List ℕ) (q : ℕ) → a ≡ Err q → Answers doc c p (key_r c.at (drop c.at doc)) (Err q) R R' T T'
   unfolding key_r
   key_not p R R' q e = spanned_bad KEY name_r doc c p a T T' name_text R R' q e
 

@@ -1,16 +1,12 @@
 -- The reader of keys, and that it is exact before what begins with no byte of a bare key.
-use Rattle.std.specs.Prelude.{refl, List, ◌∷◌, ◌++◌, ℕ}
+use Rattle.std.specs.Prelude.{refl}
 use Rattle.notation.specs.Lang.{Byte, Map, Plus, Alt}
 use Rattle.language.specs.Kind.{KEY}
-use Rattle.language.specs.Tree.{Decoded, unescaped, Tree}
+use Rattle.language.specs.Tree.{unescaped}
 use Rattle.language.specs.Strings.{keybyte, Key, Quoted}
 use Rattle.exact.specs.Class.{is}
-use Rattle.exact.specs.Out.{Reader}
-use Rattle.exact.specs.Lang.{ret_r, byte_r}
-use Rattle.exact.specs.Comb.{seq_r, map_r, alt_r, many_r}
-use Rattle.exact.specs.Ll.{Shape, Ll, ret_ll, byte_ll, seq_ll, alt_ll, star_ll, relax}
-use Rattle.strings.specs.Spans.{solid, spanned_r, spanned_ll}
-use Rattle.strings.specs.Quoted.{quoted_r, quoted_s}
+use Rattle.exact.specs.Ll.{Ll, ret_ll, seq_ll, alt_ll, relax}
+use Rattle.strings.specs.Spans.{spanned_ll}
 use Rattle.strings.proofs.QuotedLaws.{quoted_ll}
 use Rattle.strings.specs.Keys.{bare_ll, key_r, key_s, name_r}
 

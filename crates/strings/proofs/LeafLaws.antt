@@ -3,10 +3,9 @@ use mathlib.Core.Path.{◌≡◌, refl, ap, ◌∙◌}
 use mathlib.Core.List.{List}
 use Prim.Native.Nat.{ℕ, ◌+◌, ◌*◌, ◌<◌}
 use native.Mathlib.Omega.{arith}
-use lib.ListN.{length, drop}
+use lib.ListN.{drop}
 use lib.Seq.{sets}
 use borrow.Author.Rules.{rules}
-use Rattle.exact.specs.Class.{is}
 use Rattle.exact.specs.Out.{Out, bind, Reader}
 use Rattle.exact.specs.Lang.{ret_r}
 use Rattle.exact.specs.Place.{peek, alt_is, alt_not}
@@ -15,8 +14,8 @@ use Rattle.language.specs.Tree.{unlined, Decoded, leaf, width, row_list}
 use Rattle.rooms.specs.Told.{spot, told}
 use Rattle.rooms.specs.declared.Cursor.{Cursor}
 use Rattle.rooms.specs.declared.Words.{Words}
-use Rattle.rooms.specs.declared.Ans.{Ans}
-use Rattle.rooms.specs.declared.Ans.TheVariants.{Ok, No}
+use Rattle.rooms.specs.Contract.{Ans}
+use Rattle.std.specs.declared.result.Result.TheVariants.{Err, Ok}
 use Rattle.rooms.specs.Contract.{Ready, Answers}
 use Rattle.rooms.specs.Laws.{refused, took, leaf_text}
 use Rattle.characters.specs.Plains.{Quote, double, single}
@@ -69,7 +68,7 @@ text_close doc c n o a T T' ready e h =
     }
 
 module _ (k : ℕ) (r : Reader Decoded) (doc : List ℕ) (c : Cursor) (p : ℕ) (a : Ans) (T T' : List ℕ) (h : Texts doc c (r c.at (drop c.at doc)) a T T') where
-  pub spanned_bad : (R R' : List ℕ) (q : ℕ) → a ≡ No q → Answers doc c p (spanned_r k r c.at (drop c.at doc)) (No q) R R' T T'
+  pub spanned_bad : (R R' : List ℕ) (q : ℕ) → a ≡ Err q → Answers doc c p (spanned_r k r c.at (drop c.at doc)) (Err q) R R' T T'
   unfolding spanned_r
   spanned_bad R R' q e = refused doc c p _ R R' T T' q (ap (λ o. bind o (λ s e. ret_r (leaf k c.at e s) e)) (text_refusal doc c _ T T' a q e h))
 
@@ -85,7 +84,7 @@ module _ (k : ℕ) (r : Reader Decoded) (doc : List ℕ) (c : Cursor) (p : ℕ) 
       l t.spelt.few t.spelt.scant (rw (spelt_spot doc c n t.value T T' ready t.spelt) at f.table) t.spelt.room))
 
 module _ (doc : List ℕ) (c : Cursor) (p : ℕ) (a : Ans) (T T' : List ℕ) (h : Texts doc c (quoted_r c.at (drop c.at doc)) a T T') where
-  pub string_not : (R R' : List ℕ) (q : ℕ) → a ≡ No q → Answers doc c p (string_r c.at (drop c.at doc)) (No q) R R' T T'
+  pub string_not : (R R' : List ℕ) (q : ℕ) → a ≡ Err q → Answers doc c p (string_r c.at (drop c.at doc)) (Err q) R R' T T'
   unfolding string_r
   string_not R R' q e = spanned_bad STRING quoted_r doc c p a T T' h R R' q e
 

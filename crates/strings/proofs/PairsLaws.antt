@@ -2,7 +2,7 @@
 use mathlib.Core.Path.{◌≡◌, refl, sym, ap, ◌∙◌}
 use mathlib.Core.List.{List, [], ◌∷◌, ◌++◌}
 use mathlib.Core.Bool.{Bool, true, false}
-use Prim.Native.Nat.{ℕ, ◌+◌, ◌-◌, ◌<◌}
+use Prim.Native.Nat.{ℕ, ◌-◌, ◌<◌}
 use native.Mathlib.Omega.{arith}
 use lib.ListN.{length, drop, length-append}
 use borrow.Author.Rules.{rules}
@@ -17,12 +17,9 @@ use Rattle.language.specs.Tree.{Decoded, unescaped}
 use Rattle.strings.specs.Joining.{itself, lists}
 use Rattle.rooms.specs.Told.{spot}
 use Rattle.rooms.specs.declared.Cursor.{Cursor}
-use Rattle.rooms.specs.declared.Ans.{Ans}
-use Rattle.rooms.specs.declared.Ans.TheVariants.{Ok, No}
-use Rattle.rooms.specs.declared.Far.TheVariants.{Upto, Not}
+use Rattle.rooms.specs.Contract.{Ans}
+use Rattle.std.specs.declared.result.Result.TheVariants.{Err, Ok}
 use Rattle.rooms.specs.Contract.{Ready}
-use Rattle.strings.specs.declared.hex.Next.{Next}
-use Rattle.strings.specs.declared.hex.Next.TheVariants.{Begins, Stops}
 use Rattle.strings.specs.Bytes.{pair_r, further_r, further_ll, pairs_r, pairs_on}
 use Rattle.strings.specs.Turns.{many_g_turn, many_g_stop}
 use Rattle.strings.specs.Contract.{Texted, Texts, Spelt}
@@ -60,7 +57,7 @@ pub pairs_first : (doc : List ℕ) (c : Cursor) (T : List ℕ) → Ready doc c �
 pairs_first doc c T ready = within_none unescaped ◌++◌ [] refl pairs_r doc c T (sym (fmap_none (pairs_r c.at (drop c.at doc)))) ready
 
 module _ (doc : List ℕ) (s n : Cursor) (T₀ T : List ℕ) (w : Pairing doc s n T₀ T) (a : Ans) (T₁ : List ℕ) (h : Texts doc n (pair_text_r n.at (drop n.at doc)) a T T₁) where
-  pub pairs_not : (q : ℕ) → a ≡ No q → PairsAt doc s (Not q) T₀ T₁
+  pub pairs_not : (q : ℕ) → a ≡ Err q → PairsAt doc s (Err q) T₀ T₁
   unfolding PairsAt
   pairs_not q e =
       let b = unbad (pair_r n.at (drop n.at doc)) q (text_refusal doc n _ T T₁ a q e h) in
@@ -76,8 +73,8 @@ module _ (doc : List ℕ) (s n : Cursor) (T₀ T : List ℕ) (w : Pairing doc s 
     pairs_by : pairs_r n.at (drop n.at doc) ≡ fmap (got.0 ∷◌) (many_p m.at (drop m.at doc))
     pairs_by = pairs_as n.at (drop n.at doc) ∙ ap (λ o. bind o (λ v a t. fmap (v ∷◌) (many_p a t))) got.2
 
-    module _ (f : Next) (k : Furthers doc m f) where
-      module _ (i : Cursor) (b : f ≡ Begins i) where
+    module _ (f : Ans) (k : Furthers doc m f) where
+      module _ (i : Cursor) (b : f ≡ Ok i) where
         further : Further doc m i
         unfolding Furthers
         further = rw b at k
@@ -101,7 +98,7 @@ module _ (doc : List ℕ) (s n : Cursor) (T₀ T : List ℕ) (w : Pairing doc s 
         pub pairs_less : length doc - i.at < length doc - n.at
         pairs_less = let x = text.spelt.ahead in let y = further.from in let z = further.inside in omega arith
 
-      pub pairs_upto : (far : ℕ) → f ≡ Stops far → PairsAt doc s (Upto m far) T₀ T₁
+      pub pairs_upto : (far : ℕ) → f ≡ Err far → PairsAt doc s (Ok (m, far)) T₀ T₁
       unfolding PairsAt Furthers
       pairs_upto far b =
           let g : Stopped doc m.at far = rw b at k in
@@ -130,7 +127,7 @@ module _ (doc : List ℕ) (s n : Cursor) (T₀ T : List ℕ) (w : Pairing doc s 
           }
 
 -- no digit
-pub pairs_none : (doc : List ℕ) (c : Cursor) (T : List ℕ) (b : ℕ) (x : Bool) → b ≡ peek doc c.at → x ≡ is lowhex b → x ≡ false → PairsAt doc c (Not c.at) T T
+pub pairs_none : (doc : List ℕ) (c : Cursor) (T : List ℕ) (b : ℕ) (x : Bool) → b ≡ peek doc c.at → x ≡ is lowhex b → x ≡ false → PairsAt doc c (Err c.at) T T
 unfolding PairsAt pair_r
 pairs_none doc c T b x look k e =
     pairs_as c.at (drop c.at doc) ∙ rw (byte_peek doc c.at lowhex refl, low_none doc c.at b x look k e) refl

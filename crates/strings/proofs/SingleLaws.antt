@@ -2,62 +2,32 @@
 use mathlib.Core.Path.{◌≡◌, refl, sym, ap, ◌∙◌}
 use mathlib.Core.List.{List, [], ◌∷◌}
 use mathlib.Core.Logic.{◌⊎◌, inl, inr, ⊎_elim}
-use mathlib.Core.Bool.{Bool, true, false}
+use mathlib.Core.Bool.{true}
 use Prim.Native.Nat.{ℕ, suc, ◌+◌, ◌-◌, ◌≤◌, ◌<◌}
 use native.Mathlib.Numerals.{add-one}
 use native.Mathlib.Omega.{arith}
 use lib.ListN.{length, drop, drop_of_length-le, set}
 use lib.Seq.{sets, slice, slice-cons, length-slice}
 use borrow.Author.Rules.{rules}
-use borrow.Author.Tests.{le-leb, lt-leb}
-use Rattle.exact.specs.Class.{Class, is}
+use Rattle.exact.specs.Class.{is}
 use Rattle.exact.specs.Place.{peek, byte_peek, alt_peek}
 use Rattle.language.specs.Characters.{utf8}
 use Rattle.characters.specs.declared.Reading.{Reading}
-use Rattle.characters.specs.declared.Read.{Read}
-use Rattle.characters.specs.declared.Read.TheVariants.{Scalar, Not}
-use Rattle.characters.specs.Reads.{Stands, ReadAt, read_stands}
+use Rattle.characters.specs.Reads.{Read}
+use Rattle.std.specs.declared.option.Option.TheVariants.{None, Some}
+use Rattle.std.specs.declared.result.Result.TheVariants.{Err, Ok}
 use Rattle.characters.specs.Plains.{single, plain_of, other}
 use Rattle.language.specs.Tree.{unescaped, escaped}
 use Rattle.rooms.specs.Told.{ESCAPE, spot}
 use Rattle.rooms.specs.declared.Cursor.{Cursor}
-use Rattle.rooms.specs.declared.Step.{Step}
-use Rattle.rooms.specs.declared.Step.TheVariants.{Byte, Over}
-use Rattle.rooms.specs.declared.Ans.{Ans}
-use Rattle.rooms.specs.declared.Ans.TheVariants.{Ok, No}
+use Rattle.rooms.specs.Contract.{Step}
+use Rattle.rooms.specs.Contract.{Ans}
 use Rattle.rooms.specs.Contract.{ample, Stepped, Takes, Ready}
 use Rattle.rooms.specs.Laws.{step_byte, step_next, step_inside, take_next, take_byte}
 use Rattle.strings.specs.Quoted.{singled, itself_r, unescaped_r, kept_r, singled_r, single_escape_r}
 use Rattle.strings.specs.Inside.{Char, CharAt}
 use Rattle.strings.specs.Contract.{Texts}
-use Rattle.strings.proofs.CleanLaws.{stands_char, stands_not}
 use Rattle.strings.proofs.TextLaws.{text_fits, escape_fits, escape_adds, text_refused, spelling, front_not, front_is}
-
--- ---- a character of a class, read whole
-
-module _ (c : Class) (doc : List ℕ) (at : ℕ) (r : Read) (read : ReadAt doc at r) where
-  pub whole_not : (p : ℕ) → r ≡ Not p → CharAt c doc at (Not p)
-  unfolding CharAt ReadAt
-  whole_not p e = (rw e at read) c
-
-  module _ (v : ℕ) (m : Reading) (e : r ≡ Scalar v m) where
-    stands : Stands doc at v m.at
-    stands = read_stands doc at r read v m e
-
-    pub whole_wide : 127 < v → CharAt c doc at (Scalar v m)
-    unfolding CharAt
-    whole_wide l = stands_char c doc at v m.at stands (rw (lt-leb v 127 l) (stands.allowed l))
-
-    module _ (low : v ≤ 127) (x : Bool) (k : x ≡ is c v) where
-      pub whole_low : x ≡ true → CharAt c doc at (Scalar v m)
-      unfolding CharAt
-      whole_low z = stands_char c doc at v m.at stands (rw (le-leb v 127 low) (sym k ∙ z))
-
-      pub whole_other : x ≡ false → CharAt c doc at (Not at)
-      unfolding CharAt
-      whole_other z = stands_not c doc at v m.at stands (rw (le-leb v 127 low) (sym k ∙ z))
-
-pub ruleset wholes = (whole_not, whole_wide, whole_low, whole_other, single, rules)
 
 -- ---- a backslash, taken
 
@@ -68,10 +38,10 @@ module _ (doc : List ℕ) (c : Cursor) (t : Ans) (h : Takes doc c 92 t) where
   abbrev Single : Ans → List ℕ → List ℕ → Type 0
   Single a T T' = Texts doc c (single_escape_r c.at (drop c.at doc)) a T T'
 
-  pub kept_back : (T : List ℕ) (p : ℕ) → t ≡ No p → Kept (No p) T T
+  pub kept_back : (T : List ℕ) (p : ℕ) → t ≡ Err p → Kept (Err p) T T
   kept_back T p e = front_not doc c 92 (omega arith) t h unescaped_r T p e
 
-  pub single_back : (T : List ℕ) (p : ℕ) → t ≡ No p → Single (No p) T T
+  pub single_back : (T : List ℕ) (p : ℕ) → t ≡ Err p → Single (Err p) T T
   unfolding single_escape_r
   single_back T p e = front_not doc c 92 (omega arith) t h singled_r T p e
 
@@ -88,11 +58,11 @@ module _ (doc : List ℕ) (c : Cursor) (t : Ans) (h : Takes doc c 92 t) where
 
     -- ---- it stays as itself, with the character behind it
     module _ (r : Read) (read : CharAt (plain_of 39) doc n.at r) where
-      pub kept_none : (T : List ℕ) (p : ℕ) → r ≡ Not p → Kept (No p) T T
+      pub kept_none : (T : List ℕ) (p : ℕ) → r ≡ Err p → Kept (Err p) T T
       unfolding CharAt
       kept_none T p z = text_refused doc c _ T T p (kept_is ∙ rw (rw z at read) refl)
 
-      module _ (v : ℕ) (m : Reading) (z : r ≡ Scalar v m) where
+      module _ (v : ℕ) (m : Reading) (z : r ≡ Ok (v, m)) where
         here : Char (plain_of 39) doc n.at v m.at
         unfolding CharAt
         here = rw z at read
@@ -125,11 +95,11 @@ module _ (doc : List ℕ) (c : Cursor) (t : Ans) (h : Takes doc c 92 t) where
 
     -- ---- the byte behind it decides
     module _ (s : Step) (k : Stepped doc n s) where
-      pub single_over : (T : List ℕ) → s ≡ Over → Single (No n.at) T T
+      pub single_over : (T : List ℕ) → s ≡ None → Single (Err n.at) T T
       unfolding Stepped
       single_over T z = text_refused doc c _ T T n.at (single_is ∙ ap (singled_r n.at) (drop_of_length-le doc (rw z at k).0))
 
-      module _ (b : ℕ) (m : Cursor) (z : s ≡ Byte b m) where
+      module _ (b : ℕ) (m : Cursor) (z : s ≡ Some (b, m)) where
         byte : b ≡ peek doc n.at
         byte = step_byte doc n s k b m z
 
@@ -149,6 +119,6 @@ module _ (doc : List ℕ) (c : Cursor) (t : Ans) (h : Takes doc c 92 t) where
             alt_peek doc n.at singled refl itself_r unescaped_r ∙ rw (← byte, other 39 b (λ y. x (inl y)), other 92 b (λ y. x (inr y))) refl in
             rw (single_is ∙ (y ∙ sym kept_is)) w
 
-pub ruleset keeping = (kept_back, kept_none, kept_from, kept_inside, kept_small, kept_read, text_fits, rules)
+pub ruleset keeping = (single, kept_back, kept_none, kept_from, kept_inside, kept_small, kept_read, text_fits, rules)
 
 pub ruleset singles = (single_back, single_over, single_itself, single_kept, escape_fits, escape_adds, rules)

@@ -16,16 +16,15 @@ use Rattle.utf8.specs.Char.{char_r}
 use Rattle.characters.specs.Reads.{Stands, ReadAt}
 use Rattle.characters.specs.Plains.{Quote, double, single, plain_of}
 use Rattle.characters.specs.declared.Reading.{Reading}
-use Rattle.characters.specs.declared.Read.{Read}
-use Rattle.characters.specs.declared.Read.TheVariants.{Scalar, Not}
+use Rattle.characters.specs.Reads.{Read}
+use Rattle.std.specs.declared.result.Result.TheVariants.{Err, Ok}
 use Rattle.language.specs.Tree.{unescaped}
 use Rattle.exact.specs.Out.{bind}
 use Rattle.exact.specs.Lang.{ret_r}
 use Rattle.exact.specs.Comb.{map_r}
 use Rattle.rooms.specs.Told.{spot}
 use Rattle.rooms.specs.declared.Cursor.{Cursor}
-use Rattle.rooms.specs.declared.Ans.{Ans}
-use Rattle.rooms.specs.declared.Ans.TheVariants.{Ok, No}
+use Rattle.rooms.specs.Contract.{Ans}
 use Rattle.rooms.specs.Contract.{ample, Ready}
 use Rattle.strings.specs.Quoted.{escape_r, single_escape_r}
 use Rattle.strings.specs.Inside.{escapes_r, special_r, Special}
@@ -35,7 +34,7 @@ use Rattle.strings.proofs.TextLaws.{text_fits, text_refused, spelling}
 
 -- ---- a character of several bytes
 
-module _ (doc : List ℕ) (at : ℕ) (r : Read) (v : ℕ) (n : Reading) (is-scalar : r ≡ Scalar v n) (read : ReadAt doc at r) where
+module _ (doc : List ℕ) (at : ℕ) (r : Read) (v : ℕ) (n : Reading) (is-scalar : r ≡ Ok (v, n)) (read : ReadAt doc at r) where
   stands : Stands doc at v n.at
   unfolding ReadAt
   stands = rw is-scalar at read
@@ -57,16 +56,16 @@ module _ (q : ℕ) (doc : List ℕ) (c : Cursor) (ready : Ready doc c) (place : 
   as_char = alt_not doc c.at 92 (peek doc c.at) (omega arith) refl (escapes_r q) (map_r unescaped (char_r (plain_of q))) other
 
   module _ (r : Read) (read : ReadAt doc c.at r) where
-    pub wide_not : (p : ℕ) (T : List ℕ) → r ≡ Not p → Piece (No p) T T
+    pub wide_not : (p : ℕ) (T : List ℕ) → r ≡ Err p → Piece (Err p) T T
     unfolding ReadAt
     wide_not p T e = let h = rw e at read in text_refused doc c _ T T p (as_char ∙ ap (λ o. bind o (λ s. ret_r (unescaped s))) (h (plain_of q)))
 
-    module _ (v : ℕ) (n : Reading) (is-scalar : r ≡ Scalar v n) where
+    module _ (v : ℕ) (n : Reading) (is-scalar : r ≡ Ok (v, n)) where
       here : Stands doc c.at v n.at
       unfolding ReadAt
       here = rw is-scalar at read
 
-      pub wide_low : (T : List ℕ) → v < 128 → Piece (No c.at) T T
+      pub wide_low : (T : List ℕ) → v < 128 → Piece (Err c.at) T T
       wide_low T l =
           let e : is (plain_of q) v ≡ false = rw (← first_byte doc c.at v n.at here (omega arith)) place.dark in
           text_refused doc c _ T T c.at (as_char ∙ rw (here.taken (plain_of q), le-leb v 127 (omega arith), e) refl)

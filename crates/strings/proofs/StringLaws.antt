@@ -1,6 +1,6 @@
 -- The loop over the pieces of a string: laws for each turn and each return.
 use mathlib.Core.Path.{◌≡◌, refl, sym, ap, ◌∙◌}
-use mathlib.Core.List.{List, [], ◌++◌, append-nil}
+use mathlib.Core.List.{List, [], ◌++◌}
 use Prim.Native.Nat.{ℕ, ◌+◌, ◌-◌, ◌≤◌, ◌<◌}
 use native.Mathlib.Nat.{add-zero}
 use native.Mathlib.Omega.{arith}
@@ -8,13 +8,12 @@ use lib.ListN.{length, drop, length-append}
 use lib.Seq.{sets, slice, length-slice}
 use borrow.Author.Rules.{rules}
 use Rattle.exact.specs.Out.{ok, bind, fmap, Reader}
-use Rattle.exact.specs.Answers.{fmap_none, fmap_join}
 use Rattle.exact.specs.Place.{peek_in}
 use Rattle.language.specs.Tree.{Decoded, unescaped, ◌then◌}
 use Rattle.rooms.specs.Told.{ESCAPE, spot, tally, told, spot_on, tally_on}
 use Rattle.rooms.specs.declared.Cursor.{Cursor}
-use Rattle.rooms.specs.declared.Ans.{Ans}
-use Rattle.rooms.specs.declared.Ans.TheVariants.{Ok, No}
+use Rattle.rooms.specs.Contract.{Ans}
+use Rattle.std.specs.declared.result.Result.TheVariants.{Err, Ok}
 use Rattle.rooms.specs.Contract.{Takes, Ready}
 use Rattle.rooms.specs.Laws.{take_next, take_byte, take_other}
 use Rattle.characters.specs.Plains.{Quote, plain_of}
@@ -96,7 +95,7 @@ module _ (q : ℕ) (doc : List ℕ) (quote : Quote q) where
             spelt = record { ahead = omega (arith, here.few); inside = omega arith; row = here.row; end = here.end; few = omega (arith, here.few); scant = omega (arith, here.scant); room = here.room };
           })
 
-      module _ (p : ℕ) (x : t ≡ No p) where
+      module _ (p : ℕ) (x : t ≡ Err p) where
         -- a piece, and the next turn
         module _ (a : Ans) (T₂ : List ℕ) (y : Texts doc e (special_r q e.at (drop e.at doc)) a T₁ T₂) where
           piece_at : left_r q e.at (drop e.at doc) ≡ bind (special_r q e.at (drop e.at doc)) (λ v a t. fmap (v then◌) (left_r q a t))
@@ -108,7 +107,7 @@ module _ (q : ℕ) (doc : List ℕ) (quote : Quote q) where
               extend itself ◌then◌ texts (left_r q) doc s e T₀ T₁ within_clean i t.value T₂ (piece_at ∙ ap (λ o. bind o (λ v a t. fmap (v then◌) (left_r q a t))) t.is) t.spelt.inside t.spelt.row t.spelt.end
               t.spelt.few t.spelt.scant t.spelt.room
 
-          pub string_bad : (r : ℕ) → a ≡ No r → Left (No r) T₂
+          pub string_bad : (r : ℕ) → a ≡ Err r → Left (Err r) T₂
           string_bad r z =
               let here = within_clean in
               let f = text_refusal doc e _ T₁ T₂ a r z y in
@@ -116,7 +115,7 @@ module _ (q : ℕ) (doc : List ℕ) (quote : Quote q) where
 
 -- behind the bytes that stand for themselves: neither a plain byte nor the quote, and a piece brings the end nearer
 module _ (q : ℕ) (doc : List ℕ) (n e : Cursor) (T T₁ : List ℕ) (k : Copied (CleanTo q) doc n e T T₁) where
-  pub special_at : (t : Ans) → Takes doc e q t → (p : ℕ) → t ≡ No p → Special q doc e.at
+  pub special_at : (t : Ans) → Takes doc e q t → (p : ℕ) → t ≡ Err p → Special q doc e.at
   special_at t h p x = record { dark = k.run.dark; other = take_other doc e q t h p x }
 
   pub turn_less : (a : Ans) (T₂ : List ℕ) (i : Cursor) → Texts doc e (special_r q e.at (drop e.at doc)) a T₁ T₂ → a ≡ Ok i → length doc - i.at < length doc - n.at
@@ -127,7 +126,7 @@ module _ (q : ℕ) (doc : List ℕ) (quote : Quote q) (c : Cursor) (t : Ans) (h 
   abbrev String : Ans → List ℕ → List ℕ → Type 0
   String a T T' = Texts doc c (text_r q c.at (drop c.at doc)) a T T'
 
-  pub quote_not : (T : List ℕ) (p : ℕ) → t ≡ No p → String (No p) T T
+  pub quote_not : (T : List ℕ) (p : ℕ) → t ≡ Err p → String (Err p) T T
   unfolding between_r rest_r
   quote_not T p e = front_not doc c q (sides quote).small t h (left_r q) T p e
 

@@ -14,12 +14,12 @@ use Rattle.exact.specs.Lang.{byte_r}
 use Rattle.exact.specs.Comb.{seq_r}
 use Rattle.exact.specs.Place.{peek, peek_in, byte_is, byte_not}
 use Rattle.language.specs.Characters.{utf8}
-use Rattle.language.specs.Tree.{Decoded, ◌then◌}
+use Rattle.language.specs.Tree.{Decoded}
 use Rattle.rooms.specs.Told.{ESCAPE, spot, tally, told, spot_on, tally_on, word_is}
 use Rattle.rooms.specs.declared.Cursor.{Cursor}
-use Rattle.rooms.specs.declared.Ans.{Ans}
-use Rattle.rooms.specs.declared.Ans.TheVariants.{Ok, No}
-use Rattle.rooms.specs.Contract.{ample, onward, Takes, Ready}
+use Rattle.rooms.specs.Contract.{Ans}
+use Rattle.std.specs.declared.result.Result.TheVariants.{Err, Ok}
+use Rattle.rooms.specs.Contract.{onward, Takes, Ready}
 use Rattle.language.specs.Answered.{limit}
 use Rattle.rooms.specs.Laws.{take_next, take_byte, take_place, take_other}
 use Rattle.rooms.specs.Stores.{sets_append, sets_past}
@@ -127,7 +127,7 @@ pub ruleset stores = (scalar_one, scalar_two, scalar_three, scalar_four, scalar_
 -- ---- answers, made and taken apart
 
 module _ (doc : List ℕ) (c : Cursor) (o : Out Decoded) (T T' : List ℕ) where
-  pub text_refused : (q : ℕ) → o ≡ bad q → Texts doc c o (No q) T T'
+  pub text_refused : (q : ℕ) → o ≡ bad q → Texts doc c o (Err q) T T'
   unfolding Texts
   text_refused q h = h
 
@@ -139,7 +139,7 @@ module _ (doc : List ℕ) (c : Cursor) (o : Out Decoded) (T T' : List ℕ) where
   unfolding Texts
   text_taken a n e h = rw e at h
 
-  pub text_refusal : (a : Ans) (q : ℕ) → a ≡ No q → Texts doc c o a T T' → o ≡ bad q
+  pub text_refusal : (a : Ans) (q : ℕ) → a ≡ Err q → Texts doc c o a T T' → o ≡ bad q
   unfolding Texts
   text_refusal a q e h = rw e at h
 
@@ -152,7 +152,7 @@ module _ (doc : List ℕ) (c : Cursor) (o : Out Decoded) (T T' : List ℕ) where
 -- ---- a byte taken, and what stands behind it
 
 module _ (doc : List ℕ) (c : Cursor) (b : ℕ) (small : b < 256) (t : Ans) (h : Takes doc c b t) where
-  pub front_not : (q : Reader Decoded) (T : List ℕ) (p : ℕ) → t ≡ No p → Texts doc c (seq_r (byte_r (is (only b))) (λ _. q) c.at (drop c.at doc)) (No p) T T
+  pub front_not : (q : Reader Decoded) (T : List ℕ) (p : ℕ) → t ≡ Err p → Texts doc c (seq_r (byte_r (is (only b))) (λ _. q) c.at (drop c.at doc)) (Err p) T T
   front_not q T p e =
       text_refused doc c _ T T p
       (rw (byte_not doc c.at b (peek doc c.at) small refl (take_other doc c b t h p e)) (ap bad (sym (take_place doc c b t h p e))))
@@ -170,7 +170,7 @@ module _ (doc : List ℕ) (c : Cursor) (b : ℕ) (small : b < 256) (t : Ans) (h 
     pub front_read : (q : Reader Decoded) (a : Ans) (T T' : List ℕ) → Texts doc n (q n.at (drop n.at doc)) a T T'
         → Texts doc c (seq_r (byte_r (is (only b))) (λ _. q) c.at (drop c.at doc)) a T T'
     unfolding Texts
-    front_read q (No p) T T' x = front_is q ∙ x
+    front_read q (Err p) T T' x = front_is q ∙ x
     front_read q (Ok m) T T' x =
         let k : n ≡ onward c 1 = take_next doc c b t h n e in
         let s = x.spelt in

@@ -1,5 +1,5 @@
 -- Strings, keys and hex pairs are whole allowed characters.
-use Rattle.std.specs.Prelude.{◌≡◌, refl, List, [], ◌∷◌, true, ℕ, ◌+◌, ◌*◌}
+use Rattle.std.specs.Prelude.{◌≡◌, refl, [], ◌∷◌, true, ℕ, ◌+◌, ◌*◌}
 use Rattle.notation.specs.Lang.{Lang}
 use Rattle.language.specs.Kind.{STRING, BYTES, KEY}
 use Rattle.language.specs.Tree.{Decoded, unescaped, escaped, together, leaf}

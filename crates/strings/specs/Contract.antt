@@ -12,12 +12,12 @@ use Rattle.language.specs.Tree.{Decoded}
 use Rattle.language.specs.Strings.{hexval, hex_number, lettered, stands_for}
 use Rattle.rooms.specs.Told.{spot, told}
 use Rattle.rooms.specs.declared.Cursor.{Cursor}
-use Rattle.rooms.specs.declared.Ans.{Ans}
-use Rattle.rooms.specs.declared.Ans.TheVariants.{Ok, No}
-use Rattle.strings.specs.declared.digits.Digit.{Digit}
-use Rattle.strings.specs.declared.digits.Digit.TheVariants.{Of, None}
-use Rattle.strings.specs.declared.escapes.Coded.{Coded}
-use Rattle.strings.specs.declared.escapes.Coded.TheVariants.{Named, Unnamed}
+use Rattle.rooms.specs.Contract.{Ans}
+use Rattle.characters.specs.declared.Reading.{Reading}
+use Rattle.characters.specs.Reads.{Read}
+use Rattle.std.specs.declared.option.Option.{Option}
+use Rattle.std.specs.declared.option.Option.TheVariants.{None, Some}
+use Rattle.std.specs.declared.result.Result.TheVariants.{Err, Ok}
 use Rattle.strings.specs.Joining.{itself}
 use Rattle.strings.specs.Code.{Num, empty, num, grow, named, begins, code_r}
 
@@ -40,11 +40,15 @@ pub record Texted {X : Type 0} (reads : X → Decoded) (doc : List ℕ) (c : Cur
 -- THE CONTRACT: the answer is o's
 unfoldable pub Texts : List ℕ → Cursor → Out Decoded → Ans → List ℕ → List ℕ → Type 0
 Texts doc c o (Ok n) text text' = Texted itself doc c o n 0 text text'
-Texts doc c o (No p) text text' = o ≡ bad p
+Texts doc c o (Err p) text text' = o ≡ bad p
 
--- THE DIGITS of a hex number: the value of a digit of the class, 16 for another byte
-unfoldable pub digit_of : Class → ℕ → ℕ
-digit_of c b = pick (is c b) (hexval b) 16
+-- THE DIGITS of a hex number: the value of a digit of the class, none for another byte
+unfoldable pub digit_of : Class → ℕ → Option ℕ
+digit_of c b = pick (is c b) (Some (hexval b)) None
+
+-- a digit's value and the place behind it, or none
+abbrev pub Digit : Type 0
+Digit = Option (ℕ × Reading)
 
 -- the digit d of the class stands at a place, and n behind it; or none does
 pub record Digited (c : Class) (doc : List ℕ) (at d n : ℕ) : Type 0 where
@@ -54,16 +58,22 @@ pub record Digited (c : Class) (doc : List ℕ) (at d n : ℕ) : Type 0 where
   pub next : n ≡ at + 1
 
 unfoldable pub DigitRead : Class → List ℕ → ℕ → Digit → Type 0
-DigitRead c doc at (Of d n) = Digited c doc at d n.at
+DigitRead c doc at (Some (d, n)) = Digited c doc at d n.at
 DigitRead c doc at None = is c (peek doc at) ≡ false
 
--- what a letter behind a backslash stands for, 256 for nothing
-unfoldable pub lettering : ℕ → ℕ
-lettering b = pick (is lettered b) (stands_for b) 256
+-- what a letter behind a backslash stands for, if it stands for something
+unfoldable pub Letter : ℕ → Option ℕ → Type 0
+Letter b (Some v) = (is lettered b ≡ true) × (v ≡ stands_for b)
+Letter b None = is lettered b ≡ false
 
-pub record Letter (b r : ℕ) : Type 0 where
-  pub is : r ≡ lettering b
-  pub most : r ≤ 256
+module _ (b : ℕ) (r : Option ℕ) (l : Letter b r) where
+  pub letter_some : (v : ℕ) → r ≡ Some v → (is lettered b ≡ true) × (v ≡ stands_for b)
+  unfolding Letter
+  letter_some v e = rw e at l
+
+  pub letter_none : r ≡ None → is lettered b ≡ false
+  unfolding Letter
+  letter_none e = rw e at l
 
 -- the state of the machine behind n digits that make v, which is below the bound of n digits
 unfoldable pub state : ℕ → ℕ → Num
@@ -98,9 +108,9 @@ pub record Naming (doc : List ℕ) (at v e : ℕ) : Type 0 where
   pub inside : e ≤ length doc
   pub few : at + length (utf8 v) ≤ e
 
-unfoldable pub CodeAt : List ℕ → ℕ → Coded → Type 0
-CodeAt doc at (Named v e) = Naming doc at v e.at
-CodeAt doc at (Unnamed p) = code_r at (drop at doc) ≡ bad p
+unfoldable pub CodeAt : List ℕ → ℕ → Read → Type 0
+CodeAt doc at (Ok (v, e)) = Naming doc at v e.at
+CodeAt doc at (Err p) = code_r at (drop at doc) ≡ bad p
 
 -- the bytes of a scalar value v stand in the room from x to r, as far as it reaches
 pub record Stored (text text' : List ℕ) (x v r : ℕ) : Type 0 where

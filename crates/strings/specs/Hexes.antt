@@ -7,13 +7,10 @@ use Rattle.exact.specs.Place.{peek}
 use Rattle.language.specs.Strings.{lowhex}
 use Rattle.language.specs.Tree.{Decoded, unescaped}
 use Rattle.rooms.specs.declared.Cursor.{Cursor}
-use Rattle.rooms.specs.declared.Ans.{Ans}
-use Rattle.rooms.specs.declared.Ans.TheVariants.{Ok, No}
-use Rattle.rooms.specs.declared.Far.{Far}
-use Rattle.rooms.specs.declared.Far.TheVariants.{Upto, Not}
+use Rattle.rooms.specs.Contract.{Ans}
+use Rattle.std.specs.declared.result.Result.TheVariants.{Err, Ok}
+use Rattle.rooms.specs.Contract.{Far}
 use Rattle.rooms.specs.Contract.{onward}
-use Rattle.strings.specs.declared.hex.Next.{Next}
-use Rattle.strings.specs.declared.hex.Next.TheVariants.{Begins, Stops}
 use Rattle.strings.specs.Bytes.{pair_r, further_r, pairs_r, pairs_on}
 use Rattle.strings.specs.Contract.{Texted}
 
@@ -36,9 +33,9 @@ pub record Stopped (doc : List ℕ) (at far : ℕ) : Type 0 where
   pub off : pairs_on (drop at doc) ≡ false
   pub is : far ≡ at + lead 1 (drop at doc)
 
-unfoldable pub Furthers : List ℕ → Cursor → Next → Type 0
-Furthers doc c (Begins n) = Further doc c n
-Furthers doc c (Stops far) = Stopped doc c.at far
+unfoldable pub Furthers : List ℕ → Cursor → Ans → Type 0
+Furthers doc c (Ok n) = Further doc c n
+Furthers doc c (Err far) = Stopped doc c.at far
 
 -- the pairs from c to n, behind which no further one begins
 pub record Paired (doc : List ℕ) (c n : Cursor) (far : ℕ) (text text' : List ℕ) : Type 0 where
@@ -46,10 +43,10 @@ pub record Paired (doc : List ℕ) (c n : Cursor) (far : ℕ) (text text' : List
   pub far_is : far ≡ n.at + lead 1 (drop n.at doc)
 
 unfoldable pub PairsAt : List ℕ → Cursor → Far → List ℕ → List ℕ → Type 0
-PairsAt doc c (Upto n far) text text' = Paired doc c n far text text'
-PairsAt doc c (Not p) text text' = pairs_r c.at (drop c.at doc) ≡ bad p
+PairsAt doc c (Ok (n, far)) text text' = Paired doc c n far text text'
+PairsAt doc c (Err p) text text' = pairs_r c.at (drop c.at doc) ≡ bad p
 
 -- `>` stands at n, and the cursor behind it; or it does not
 unfoldable pub Closed : List ℕ → Cursor → ℕ → Ans → Type 0
 Closed doc n far (Ok m) = (m ≡ onward n 1) × (62 ≡ peek doc n.at)
-Closed doc n far (No p) = (p ≡ far) × (peek doc n.at ≡ 62 → ⊥)
+Closed doc n far (Err p) = (p ≡ far) × (peek doc n.at ≡ 62 → ⊥)

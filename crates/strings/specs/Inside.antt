@@ -8,8 +8,8 @@ use Rattle.exact.specs.Place.{peek}
 use Rattle.language.specs.Characters.{utf8}
 use Rattle.language.specs.Tree.{unlined, Decoded, unescaped, ◌then◌, width, row_list}
 use Rattle.utf8.specs.Utf8.{char_r}
-use Rattle.characters.specs.declared.Read.{Read}
-use Rattle.characters.specs.declared.Read.TheVariants.{Scalar, Not}
+use Rattle.characters.specs.Reads.{Read}
+use Rattle.std.specs.declared.result.Result.TheVariants.{Err, Ok}
 use Rattle.characters.specs.Plains.{plain_of}
 use Rattle.rooms.specs.Told.{spot, told}
 use Rattle.rooms.specs.declared.Cursor.{Cursor}
@@ -39,8 +39,8 @@ pub record Char (c : Class) (doc : List ℕ) (at v n : ℕ) : Type 0 where
   pub inside : n ≤ length doc
 
 unfoldable pub CharAt : Class → List ℕ → ℕ → Read → Type 0
-CharAt c doc at (Scalar v n) = Char c doc at v n.at
-CharAt c doc at (Not p) = char_r c at (drop at doc) ≡ bad p
+CharAt c doc at (Ok (v, n)) = Char c doc at v n.at
+CharAt c doc at (Err p) = char_r c at (drop at doc) ≡ bad p
 
 -- what is left of a string from `at` on is the bytes up to e, and what is left from e on
 pub record CleanUpto (q : ℕ) (doc : List ℕ) (at e : ℕ) : Type 0 where

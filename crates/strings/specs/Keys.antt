@@ -1,15 +1,15 @@
 -- The reader of keys, and that it is exact before what begins with no byte of a bare key.
 use Rattle.std.specs.Prelude.{refl, List, ◌∷◌, ◌++◌, ℕ}
-use Rattle.notation.specs.Lang.{Byte, Map, Plus, Alt}
+use Rattle.notation.specs.Lang.{Byte, Plus}
 use Rattle.language.specs.Kind.{KEY}
 use Rattle.language.specs.Tree.{Decoded, unescaped, Tree}
-use Rattle.language.specs.Strings.{keybyte, Key, Quoted}
+use Rattle.language.specs.Strings.{keybyte}
 use Rattle.exact.specs.Class.{is}
 use Rattle.exact.specs.Out.{Reader}
 use Rattle.exact.specs.Lang.{ret_r, byte_r}
 use Rattle.exact.specs.Comb.{seq_r, map_r, alt_r, many_r}
-use Rattle.exact.specs.Ll.{Shape, Ll, ret_ll, byte_ll, seq_ll, alt_ll, star_ll, relax}
-use Rattle.strings.specs.Spans.{solid, spanned_r, spanned_ll}
+use Rattle.exact.specs.Ll.{Shape, Ll, ret_ll, byte_ll, seq_ll, star_ll, relax}
+use Rattle.strings.specs.Spans.{solid, spanned_r}
 use Rattle.strings.specs.Quoted.{quoted_r, quoted_s}
 
 -- a bare key

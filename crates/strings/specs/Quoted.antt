@@ -1,9 +1,9 @@
 -- The readers of quoted strings, and that they are exact.
-use Rattle.std.specs.Prelude.{◌≡◌, refl, List, [], ◌∷◌, ◌++◌, true, ℕ}
+use Rattle.std.specs.Prelude.{◌≡◌, refl, [], ◌∷◌, ◌++◌, true, ℕ}
 use Rattle.language.specs.Kind.{STRING}
 use Rattle.language.specs.Tree.{Decoded, unescaped, escaped, together, Tree}
 use Rattle.language.specs.Characters.{utf8}
-use Rattle.language.specs.Strings.{hex_number, lettered, stands_for, Escape, SingleEscape, Between, Double, Single, Quoted, String}
+use Rattle.language.specs.Strings.{hex_number, lettered, stands_for, Escape, SingleEscape, Between, Double}
 use Rattle.std.proofs.Common.{arith}
 use Rattle.exact.specs.Class.{Class, is, only, apart, apart_nil, leb_yes, ◌to◌}
 use Rattle.exact.specs.Out.{Reader}
@@ -13,7 +13,7 @@ use Rattle.exact.specs.Ll.{Shape, Ll, ret_ll, byte_ll, seq_ll, alt_ll, star_ll, 
 use Rattle.utf8.specs.Char.{char_r, char_s}
 use Rattle.utf8.proofs.CharLaws.{char_ll}
 use Rattle.strings.specs.Code.{code_r, code_ll}
-use Rattle.strings.specs.Spans.{sub_self, solid, spanned_r, spanned_ll}
+use Rattle.strings.specs.Spans.{sub_self, solid, spanned_r}
 
 -- ESCAPES: a backslash, and what stands behind it: a letter, or `u{..}`, read as `u{`, the digits and `}`
 abbrev pub letter_r : Reader Decoded

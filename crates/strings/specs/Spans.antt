@@ -1,5 +1,5 @@
 -- A text with its span: the reader of it is exact, with the shape of the text.
-use Rattle.std.specs.Prelude.{◌≡◌, refl, List, [], ◌∷◌, ◌++◌, true, false, ℕ}
+use Rattle.std.specs.Prelude.{◌≡◌, refl, [], ◌∷◌, ◌++◌, true, false, ℕ}
 use Rattle.std.proofs.Common.{append-nil, append_assoc, arith}
 use Rattle.language.specs.Tree.{Decoded, Tree, leaf}
 use Rattle.language.specs.Strings.{Spanned}

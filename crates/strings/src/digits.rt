@@ -5,38 +5,22 @@ ghost use Rattle.exact.specs.Place.{peek};
 ghost use Rattle.language.specs.Strings.{hexdigit, lowhex, hexval};
 ghost use Rattle.strings.specs.Contract.{digit_of, Digited, DigitRead};
 
-use characters::{Reading, Took};
+use characters::Reading;
 
-// What reading a digit gives: its value and the place behind it, or that none stands here.
-#[derive(Clone, Copy)]
-pub enum Digit {
-    Of(u32, Reading),
-    None,
-}
+// What reading a digit gives: its value and the place behind it; none where no digit stands.
+pub type Digit = Option<(u32, Reading)>;
 
-// The value of a hex digit of either case, 16 for another byte. Digits are the most, and the brace behind them comes next.
-fn hex_digit(b: u32) -> u32
+// The value of a hex digit of either case, none for another byte.
+#[tactic(auto, using(crate::proofs::DigitLaws::digits))]
+fn hex_digit(b: u32) -> Option<u32>
     ensures { result ≡ digit_of hexdigit b }
 {
-    if b < 48 {
-        return 16;
+    match b {
+        48..=57 => Some(b - 48),
+        65..=70 => Some(b - 55),
+        97..=102 => Some(b - 87),
+        _ => None,
     }
-    if b <= 57 {
-        return b - 48;
-    }
-    if 102 < b {
-        return 16;
-    }
-    if 97 <= b {
-        return b - 87;
-    }
-    if b < 65 {
-        return 16;
-    }
-    if b <= 70 {
-        return b - 55;
-    }
-    16
 }
 
 // The lowercase hex digits from 48 on, a bit for each.
@@ -46,16 +30,11 @@ const LOWS: u64 = 0x7E0000000003FF;
 pub fn is_low(b: u32) -> bool
     ensures { result ≡ is lowhex b }
 {
-    if b < 48 {
-        return false;
-    }
-    if 102 < b {
-        return false;
-    }
-    (LOWS >> (b - 48)) % 2 == 1
+    48 <= b && b <= 102 && (LOWS >> (b - 48)) % 2 == 1
 }
 
 // The value of a lowercase hex digit. Digits and letters come in no order that a processor could guess: so they are told apart by a sum, and not by a branch.
+#[tactic(auto, using(crate::proofs::DigitLaws::lows))]
 fn low_value(b: u32) -> u32
     requires { is lowhex b ≡ true }
     ensures { (result ≡ hexval b) × (result < 16) }
@@ -73,33 +52,22 @@ pub fn low_here(doc: &[u8], n: Reading) -> u32
 }
 
 // The hex digit of either case that stands here.
+#[tactic(auto, using(crate::proofs::DigitLaws::digit_reads))]
 pub fn hex(doc: &[u8], n: Reading) -> Digit
     ensures { DigitRead hexdigit doc.now n.at result }
 {
-    match n.byte(&*doc) {
-        Took::Over => Digit::None,
-        Took::Byte(b, m) => {
-            let d = hex_digit(b as u32);
-            if d == 16 {
-                return Digit::None;
-            }
-            Digit::Of(d, m)
-        }
-    }
+    let (b, m) = n.byte(doc)?;
+    let d = hex_digit(b as u32)?;
+    Some((d, m))
 }
 
 // The lowercase hex digit that stands here.
+#[tactic(auto, using(crate::proofs::DigitLaws::digit_reads))]
 pub fn low(doc: &[u8], n: Reading) -> Digit
     ensures { DigitRead lowhex doc.now n.at result }
 {
-    match n.byte(&*doc) {
-        Took::Over => Digit::None,
-        Took::Byte(b, m) => {
-            let v = b as u32;
-            if is_low(v) {
-                return Digit::Of(low_value(v), m);
-            }
-            Digit::None
-        }
+    match n.byte(doc) {
+        Some((b, m)) if is_low(b as u32) => Some((low_value(b as u32), m)),
+        _ => None,
     }
 }

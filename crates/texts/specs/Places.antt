@@ -1,9 +1,9 @@
 -- A FLOAT'S TEXT, FROM PLACE TO PLACE: what an answer at one place tells of the place before it. Assumes nothing.
-use Rattle.std.specs.Prelude.{◌≡◌, refl, Bool, true, false, List, [], ◌∷◌, ℕ, suc, ◌+◌, ◌-◌, ◌≤◌, ◌<◌, eqb, length, get_or, drop}
-use Rattle.std.proofs.Common.{sym, ap, subst, ◌∙◌, arith, length-drop, drop_of_length-le, get_or-drop, drop-drop, eqb-true, eq-eqb}
-use Rattle.notation.specs.Class.{pick, is}
+use Rattle.std.specs.Prelude.{◌≡◌, refl, Bool, true, false, List, [], ◌∷◌, ℕ, suc, ◌+◌, ◌-◌, ◌≤◌, ◌<◌, length, get_or, drop}
+use Rattle.std.proofs.Common.{sym, ap, subst, ◌∙◌, arith, length-drop, drop_of_length-le, get_or-drop, drop-drop, ext_get_or}
+use Rattle.std.proofs.Math.Decide.{dec_le}
+use Rattle.notation.specs.Class.{is}
 use Rattle.exact.specs.Class.{clash}
-use Rattle.exact.specs.Place.{common}
 use Rattle.exact.specs.Tells.{Tells, tells_map, tells_yes, tells_no}
 use Rattle.language.specs.Scalars.{digit, nan_word, infinity_word}
 use Rattle.shaped.specs.Shaped.{Number, Power, Powers, no_power, Decimal, FloatText, no_number}
@@ -98,32 +98,31 @@ module _ (s : List ℕ) (at : ℕ) where
 
 -- ---- a word
 
-common_self : (w : List ℕ) → common w w ≡ length w
-unfolding common
-common_self [] = refl
-common_self (b ∷ w) = rw (eq-eqb b b refl) (ap suc (common_self w))
-
-common_whole : (w x : List ℕ) → length w ≤ common w x → length x ≡ length w → x ≡ w
-unfolding common
-common_whole [] [] l e = refl
-common_whole [] (b ∷ x) l e = absurd (omega arith)
-common_whole (c ∷ w) [] l e = absurd (omega arith)
-common_whole (c ∷ w) (b ∷ x) l e = by (eqb b c) refl l (common_whole w x)
-  where
-    by : (t : Bool) → eqb b c ≡ t → suc (length w) ≤ pick t (suc (common w x)) 0 → (length w ≤ common w x → length x ≡ length w → x ≡ w) → ◌≡◌ {A = List ℕ} (b ∷ x) (c ∷ w)
-    by true f l ih = let g = eqb-true b c f in let h = ih (omega arith) (omega arith) in cc
-    by false f l ih = absurd (omega arith)
+-- the first i bytes are those of the word
+pub record Alike (s : List ℕ) (at : ℕ) (w : List ℕ) (i : ℕ) : Type 0 where
+  pub few : i ≤ length w
+  pub same : (j : ℕ) → j < i → get_or s (at + j) 0 ≡ get_or w j 0
 
 module _ (s : List ℕ) (at : ℕ) (w : List ℕ) where
+  pub alike_start : Alike s at w 0
+  alike_start = record { few = omega arith; same = λ j l. absurd (omega arith) }
+
   pub word_longer : (length s - at ≡ length w → ⊥) → drop at s ≡ w → ⊥
   word_longer n e = n (sym (length-drop at s) ∙ ap length e)
 
-  module _ (n : ℕ) (e : n ≡ common w (drop at s)) where
-    pub word_less : n < length w → drop at s ≡ w → ⊥
-    word_less l f = omega (arith, common_self w, e ∙ ap (common w) f)
+  module _ (i : ℕ) (come : Alike s at w i) where
+    pub alike_more : i < length w → get_or s (at + i) 0 ≡ get_or w i 0 → Alike s at w (i + 1)
+    alike_more l e = record { few = omega arith; same = λ j m. by j m (dec_le i j) }
+      where
+        by : (j : ℕ) → j < i + 1 → Dec (i ≤ j) → get_or s (at + j) 0 ≡ get_or w j 0
+        by j m (yes o) = let z : j ≡ i = omega arith in rw z e
+        by j m (no o) = come.same j (omega arith)
 
-    pub word_whole : length s - at ≡ length w → length w ≤ n → drop at s ≡ w
-    word_whole f l = common_whole w (drop at s) (omega arith) (length-drop at s ∙ f)
+    pub alike_not : (get_or s (at + i) 0 ≡ get_or w i 0 → ⊥) → drop at s ≡ w → ⊥
+    alike_not f z = f (sym (get_or-drop at s i 0) ∙ ap (λ x. get_or x i 0) z)
+
+    pub alike_whole : length s - at ≡ length w → length w ≤ i → drop at s ≡ w
+    alike_whole e l = ext_get_or 0 (drop at s) w (length-drop at s ∙ e) (λ j m. get_or-drop at s j 0 ∙ come.same j (omega (arith, length-drop at s)))
 
 -- ---- a float
 

@@ -1,9 +1,10 @@
 -- RUNS OF DIGITS: all the digits that begin a text are passed, and what is left is one text only. Assumes nothing.
-use Rattle.std.specs.Prelude.{◌≡◌, refl, true, false, List, [], ◌∷◌, ◌++◌, ℕ, ◌+◌, max, ◌≤◌, ◌<◌, length, get_or, drop}
-use Rattle.std.proofs.Common.{ap, subst, arith, add-one, length-drop, drop_of_length-le, drop-cons, rules, le-leb}
+use Rattle.std.specs.Prelude.{◌≡◌, refl, Bool, true, false, List, [], ◌∷◌, ◌++◌, ℕ, ◌+◌, max, ◌≤◌, ◌<◌, leb, length, get_or, drop}
+use Rattle.std.proofs.Common.{ap, subst, arith, add-one, length-drop, drop_of_length-le, drop-cons, rules, le-leb, leb-true, leb-false}
 use Rattle.std.proofs.lemmas.Bool.{lt-leb}
 use Rattle.notation.specs.Class.{is}
 use Rattle.exact.specs.Class.{clash}
+use Rattle.exact.specs.Tells.{Tells}
 use Rattle.language.specs.Scalars.{digit}
 use Rattle.shaped.specs.Shaped.{Digits, digits_none, digits_more, Number, number}
 use Rattle.texts.specs.Float.{Past, past_none, past_more, Digited}
@@ -118,5 +119,12 @@ module _ (s : List ℕ) (a n : ℕ) (d : Digited s a n) where
 
   pub number_all : (n ≡ a → ⊥) → length s ≤ n → Number (drop a s)
   number_all h l = past_number d.past (drop_of_length-le s l) (omega (arith, length-drop a s, d.onward, d.inside))
+
+  pub number_told : (n ≡ a → ⊥) → (m : ℕ) → m ≡ length s → Tells (Number (drop a s)) (leb m n)
+  number_told h m e = by (leb m n) refl
+    where
+      by : (r : Bool) → leb m n ≡ r → Tells (Number (drop a s)) r
+      by true f = let l = leb-true m n f in number_all h (omega arith)
+      by false f = let l = leb-false m n f in number_less (omega arith)
 
 pub ruleset runs = (coming_start, coming_over, coming_more, coming_low, coming_high, number_none, number_less, number_all, rules)

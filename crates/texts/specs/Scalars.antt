@@ -1,7 +1,7 @@
 -- THE TEXT OF A SCALAR OF A KIND: what each kind asks of its text. Assumes nothing.
 use Rattle.std.specs.Prelude.{◌≡◌, refl, Bool, true, false, List, [], ◌∷◌, ℕ, zero, suc, ◌+◌, ◌-◌, ◌≤◌, ◌<◌, eqb, length, get_or, take, drop}
 use Rattle.std.proofs.Common.{sym, ap, ◌∙◌, arith, eqb-true}
-use Rattle.std.proofs.Math.Seq.{slice, slice_empty, length-slice}
+use Rattle.std.proofs.Math.Seq.{slice}
 use Rattle.std.proofs.lemmas.Bool.{eqb-false}
 use Rattle.exact.specs.Class.{clash}
 use Rattle.exact.specs.Place.{slice_at}
@@ -42,24 +42,14 @@ module _ (k : ℕ) (s : List ℕ) (r : Bool) where
       back : {s : List ℕ} → Scalar 6 s → Scripted s
       back (is_string x) = x
 
--- ---- bytes: those of a room are below 256
+-- ---- bytes
 
 octets : (l : List ℕ) → ((i : ℕ) → get_or l i 0 < 256) → Octets l
 octets [] h = octets_none
 octets (b ∷ l) h = octets_more (h 0) (octets l (λ i. h (suc i)))
 
-octets_take : (n : ℕ) {l : List ℕ} → Octets l → Octets (take n l)
-octets_take zero x = octets_none
-octets_take (suc n) octets_none = octets_none
-octets_take (suc n) (octets_more b x) = octets_more b (octets_take n x)
-
-octets_drop : (n : ℕ) {l : List ℕ} → Octets l → Octets (drop n l)
-octets_drop zero x = x
-octets_drop (suc n) octets_none = octets_none
-octets_drop (suc n) (octets_more b x) = octets_drop n x
-
-pub scalar_bytes : (k a e : ℕ) (l : List ℕ) → k ≡ 7 → ((i : ℕ) → get_or l i 0 < 256) → Scalar k (slice a e l)
-scalar_bytes k a e l z h = rw z (is_bytes (octets_drop a (octets_take e (octets l h))))
+pub scalar_bytes : (k : ℕ) (s : List ℕ) → k ≡ 7 → ((i : ℕ) → get_or s i 0 < 256) → Scalar k s
+scalar_bytes k s z h = rw z (is_bytes (octets s h))
 
 -- ---- kinds that have no text, and those that are no scalar's
 
@@ -79,12 +69,13 @@ bare_empty (is_float x) h = absurd (omega arith)
 bare_empty (is_string x) h = absurd (omega arith)
 bare_empty (is_bytes x) h = absurd (omega arith)
 
-pub scalar_bare : (k a e : ℕ) (l : List ℕ) → 1 ≤ k → k < 4 → a ≤ e → e ≤ length l → Tells (Scalar k (slice a e l)) (eqb a e)
-scalar_bare k a e l p q h i = by (eqb a e) refl
+pub scalar_bare : (k : ℕ) (s : List ℕ) (n : ℕ) → 1 ≤ k → k < 4 → n ≡ length s → Tells (Scalar k s) (eqb n 0)
+scalar_bare k s n p q e = by s (eqb n 0) refl e
   where
-    by : (r : Bool) → eqb a e ≡ r → Tells (Scalar k (slice a e l)) r
-    by true f = rw (eqb-true a e f, slice_empty e l) (bare k p q)
-    by false f = λ x. eqb-false a e f (omega (arith, length-slice a e l i, bare_empty x q))
+    by : (s : List ℕ) (r : Bool) → eqb n 0 ≡ r → n ≡ length s → Tells (Scalar k s) r
+    by [] true f l = bare k p q
+    by (b ∷ s) true f l = absurd (omega (arith, eqb-true n 0 f))
+    by s false f l = λ x. eqb-false n 0 f (omega (arith, bare_empty x q))
 
 pub scalar_low : {k : ℕ} {s : List ℕ} → k < 1 → Scalar k s → ⊥
 scalar_low h is_null = omega arith

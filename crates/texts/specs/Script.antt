@@ -46,7 +46,7 @@ pub record Behind (s : List ℕ) (a b : ℕ) : Type 0 where
   pub back : Scripted (drop b s) → Scripted (drop a s)
 
 -- a character of n bytes begins at a place; and what the four bytes there tell
-abbrev OpensAt : List ℕ → ℕ → ℕ → Type 0
+abbrev pub OpensAt : List ℕ → ℕ → ℕ → Type 0
 OpensAt s at n = Opens (get_or s at 0) (get_or s (at + 1) 0) (get_or s (at + 2) 0) (get_or s (at + 3) 0) n
 
 abbrev pub LedAt : List ℕ → ℕ → ℕ → Type 0

@@ -1,8 +1,8 @@
-// Whether a part of the text room is the text of a scalar: "the UTF-8 of scalar values", a float of the grammar, an integer, bytes.
+// Whether a text is that of a scalar: "the UTF-8 of scalar values", a float of the grammar, an integer, bytes. The tests are over any text, whole or in runs; a part of the text room is one.
 #![tactic(auto)]
 
 mod float;
-mod reading;
+mod integer;
 mod script;
 
 ghost use Rattle.std.specs.Prelude.{◌≡◌, true, ◌≤◌, length};
@@ -11,11 +11,26 @@ ghost use Rattle.exact.specs.Tells.{Tells};
 ghost use Rattle.integers.specs.Integer.{is_integer};
 ghost use Rattle.shaped.specs.Shaped.{Scripted, FloatText, Scalar};
 
-use float::is_float;
-use integers::is_integer;
+pub use float::is_float;
+pub use integer::is_integer;
+use integers::Text;
 use language::Kind;
-use script::is_script;
-pub use script::size;
+pub use script::is_script;
+
+// Whether the text is that of a scalar of this kind. `null`, `false` and `true` have the empty text; bytes are any; a kind that is no scalar's has none.
+pub fn is_scalar<S: Text>(s: S, kind: usize) -> bool
+    ensures { Tells (Scalar kind (S.bytes s)) result }
+{
+    let n = s.count();
+    match kind {
+        1..=3 => n == 0,
+        4 => is_integer(s),
+        5 => is_float(s),
+        6 => is_script(s),
+        7 => true,
+        _ => false,
+    }
+}
 
 // Whether the part is UTF-8 of scalar values.
 pub fn scripted(text: &[u8], a: usize, e: usize) -> bool
@@ -41,18 +56,10 @@ pub fn integer_text(text: &[u8], a: usize, e: usize) -> bool
     is_integer(&text[a..e])
 }
 
-// Whether the part is the text of a scalar of this kind. `null`, `false` and `true` have the empty text; bytes are any; a kind that is no scalar's has none.
+// The same of a part.
 pub fn scalar_text(text: &[u8], kind: Kind, a: usize, e: usize) -> bool
     requires { (a ≤ e) × (e ≤ length text.now) }
     ensures { Tells (Scalar kind.0 (slice a e text.now)) result }
 {
-    let k = kind.0;
-    match k {
-        4 => integer_text(&*text, a, e),
-        5 => float_text(&*text, a, e),
-        6 => scripted(&*text, a, e),
-        7 => true,
-        1..=3 => a == e,
-        _ => false,
-    }
+    is_scalar(&text[a..e], kind.0 as usize)
 }

@@ -1,12 +1,13 @@
 -- THE THEOREMS OF OVERLAYS (02, Ticket 7), by name. What they say stands in `overlay` (Overlay, Overlaid; Profiles, Promise, Clash, Keys, Finds, FindsIn).
-use Rattle.std.specs.Prelude.{◌≡◌, refl, ◌↔◌, true, List, ◌++◌, ℕ}
+use Rattle.std.specs.Prelude.{◌≡◌, refl, ◌↔◌, true, List, ◌++◌, ℕ, Result}
 use Rattle.std.proofs.Common.{subst}
 use Rattle.language.specs.Tree.{Tree}
 use Rattle.language.specs.Alike.{unspan}
 use Rattle.language.specs.Answered.{deepest, Reads, Answered}
 use Rattle.language.specs.Sound.{Holds, Sound}
 use Rattle.shaped.specs.Holds.{accepted_holds}
-use Rattle.overlay.specs.declared.Gave.{Gave}
+use Rattle.overlay.specs.declared.Filled.{Filled}
+use Rattle.overlay.specs.declared.OverlayRefusal.{OverlayRefusal}
 use Rattle.overlay.specs.Overlay.{is_object, laid, clash, overlay}
 use Rattle.overlay.specs.Overlaid.{gave_number, gave_first, gave_second, Given, Overlaid}
 use Rattle.overlay.specs.Profiles.{ProfileTree}
@@ -35,7 +36,7 @@ module _ (lower : List ℕ) (m : ℕ) (lowerText upper : List ℕ) (n : ℕ) (up
       → Overlaid lower m lowerText upper n upperText table text c₂ v₂ s₂ table'' text'' → (c ≡ c₂) × (v ≡ v₂) × (s ≡ s₂) × (table' ≡ table'') × (text' ≡ text'')
   one_overlay c v s c₂ v₂ s₂ table' text' table'' text'' x y = promise_laws.one_overlay x y
 
-  pub one_gave : (a b : Gave) (table' text' table'' text'' : List ℕ) → Overlaid lower m lowerText upper n upperText table text (gave_number a) (gave_first a) (gave_second a) table' text'
+  pub one_gave : (a b : Result Filled OverlayRefusal) (table' text' table'' text'' : List ℕ) → Overlaid lower m lowerText upper n upperText table text (gave_number a) (gave_first a) (gave_second a) table' text'
       → Overlaid lower m lowerText upper n upperText table text (gave_number b) (gave_first b) (gave_second b) table'' text'' → a ≡ b
   one_gave a b table' text' table'' text'' x y = let e = promise_laws.one_overlay x y in promise.one_case a b e.0 e.1 e.2
 

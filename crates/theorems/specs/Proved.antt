@@ -1,16 +1,13 @@
 -- THE THEOREMS, by name, of every document and of every reader that meets the promise. What they say that is not in `language` stands in `spans` (Keys, Placed, Rising), `found`
 -- (Objects, Once, Kinds, Spans, Read) and `exports` (Exports).
 use Rattle.std.specs.Prelude.{◌≡◌, List, ◌++◌, ℕ, suc, ◌*◌, ◌≤◌, ◌<◌, length, take, get_or, ℤ}
-use Rattle.language.specs.declared.Answer.{Answer}
 use Rattle.language.specs.Tree.{Tree, first, after, size, text_of, escapes_of}
 use Rattle.language.specs.Document.{Document}
-use Rattle.language.specs.Answered.{limit, deepest, CHAR, DEEP, END, REPEAT, number, value, second, third, Viable, Answered, Totals}
-use Rattle.questions.specs.declared.Found.{Found}
+use Rattle.language.specs.Answered.{limit, deepest, CHAR, DEEP, END, REPEAT, Answer, number, value, second, third, Viable, Answered, Totals}
 use Rattle.questions.specs.Text as texts
-use Rattle.questions.specs.Walk.{found_reply, Finds}
+use Rattle.questions.specs.Walk.{Found, found_reply, Finds}
 use Rattle.questions.specs.Unique as questions
-use Rattle.integers.specs.declared.Compared.{Compared}
-use Rattle.integers.specs.Order.{compared, compared_verdict}
+use Rattle.integers.specs.Order.{Compared, compared, compared_verdict}
 use Rattle.integers.specs.Unique as integers
 use Rattle.exports.specs.Exports.{FoundAt, ComparedTo, TextAt}
 use Rattle.exports.specs.Unique as exports

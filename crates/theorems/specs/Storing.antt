@@ -1,5 +1,5 @@
 -- THE THEOREMS OF THE STORED FORM (02, Tickets 4 and 11), by name. What they say stands in `stored` (Form, Stored, Loaded; Back, Fields, Old) and `spans` (Placed).
-use Rattle.std.specs.Prelude.{◌≡◌, ◌↔◌, List, ◌++◌, ℕ, ◌+◌, ◌*◌, ◌≤◌, ◌<◌, length, get_or, take, drop}
+use Rattle.std.specs.Prelude.{◌≡◌, ◌↔◌, List, ◌++◌, ℕ, ◌+◌, ◌*◌, ◌≤◌, ◌<◌, length, get_or, take, drop, Result}
 use Rattle.std.proofs.Common.{sym, ◌∙◌}
 use Rattle.language.specs.Tree.{Tree, width, text_of}
 use Rattle.language.specs.Lent.{words_in, bytes_in}
@@ -7,8 +7,9 @@ use Rattle.language.specs.Alike.{Alike}
 use Rattle.language.specs.Sound.{Profile, Holds, Sound}
 use Rattle.shaped.specs.Holds.{profile_shaped}
 use Rattle.spans.specs.Placed.{Within}
-use Rattle.stored.specs.declared.Storing.{Storing}
-use Rattle.stored.specs.declared.Loading.{Loading}
+use Rattle.stored.specs.declared.StoreRefusal.{StoreRefusal}
+use Rattle.stored.specs.declared.Loaded.{Loaded}
+use Rattle.stored.specs.declared.LoadRefusal.{LoadRefusal}
 use Rattle.stored.specs.Form.{tagged, head, widest, PART, cut, form, inside, loaded}
 use Rattle.stored.specs.Stored.{storing_number, storing_count, Stores}
 use Rattle.stored.specs.Loaded.{loading_number, loading_value, loading_second, Kept, Loads}
@@ -44,7 +45,7 @@ pub one_store : (table : List ℕ) (rows : ℕ) (text out : List ℕ) (n c n₂ 
     → (n ≡ n₂) × (c ≡ c₂) × (out' ≡ out'')
 one_store table rows text out n c n₂ c₂ out' out'' x y = unique.one_store x y
 
-pub one_storing : (table : List ℕ) (rows : ℕ) (text out : List ℕ) (a b : Storing) (out' out'' : List ℕ) → Stores table rows text out (storing_number a) (storing_count a) out'
+pub one_storing : (table : List ℕ) (rows : ℕ) (text out : List ℕ) (a b : Result ℕ StoreRefusal) (out' out'' : List ℕ) → Stores table rows text out (storing_number a) (storing_count a) out'
     → Stores table rows text out (storing_number b) (storing_count b) out'' → (a ≡ b) × (out' ≡ out'')
 one_storing table rows text out a b out' out'' x y = cases.one_storing a b x y
 
@@ -52,7 +53,7 @@ pub one_load : (stored table text : List ℕ) (n v s n₂ v₂ s₂ : ℕ) (tabl
     → Loads stored table text n₂ v₂ s₂ table'' text'' → (n ≡ n₂) × (v ≡ v₂) × (s ≡ s₂) × (table' ≡ table'') × (text' ≡ text'')
 one_load stored table text n v s n₂ v₂ s₂ table' text' table'' text'' x y = unique_laws.one_load x y
 
-pub one_loading : (stored table text : List ℕ) (a b : Loading) (table' text' table'' text'' : List ℕ) → Loads stored table text (loading_number a) (loading_value a) (loading_second a) table' text'
+pub one_loading : (stored table text : List ℕ) (a b : Result Loaded LoadRefusal) (table' text' table'' text'' : List ℕ) → Loads stored table text (loading_number a) (loading_value a) (loading_second a) table' text'
     → Loads stored table text (loading_number b) (loading_value b) (loading_second b) table'' text'' → (a ≡ b) × (table' ≡ table'') × (text' ≡ text'')
 one_loading stored table text a b table' text' table'' text'' x y = cases_laws.one_loading a b x y
 

@@ -7,10 +7,9 @@ use Rattle.shaped.specs.Holds.{accepted_holds}
 use Rattle.language.specs.Scalars.{signed}
 use Rattle.integers.specs.Integer.{natural, integer}
 use Rattle.shaped.specs.Shaped.{Number}
-use Rattle.upgrade.specs.declared.Decision.{Decision}
 use Rattle.upgrade.specs.Version.{Version, Above}
 use Rattle.upgrade.specs.Sheet.{Sheet}
-use Rattle.upgrade.specs.Decides.{INSTALL, number, value, Answers, Decides}
+use Rattle.upgrade.specs.Decides.{INSTALL, Answer, number, value, Answers, Decides}
 use Rattle.upgrade.specs.Order as order
 use Rattle.upgrade.specs.Unique as unique
 use Rattle.upgrade.specs.Written as written
@@ -30,7 +29,7 @@ pub one_decision : (sheet : List ℕ) (rows : ℕ) (text installed : List ℕ) (
     → Decides sheet rows text installed rows' text' n d → Decides sheet rows text installed rows' text' n₂ d₂ → (n ≡ n₂) × (d ≡ d₂)
 one_decision sheet rows text installed rows' text' n d n₂ d₂ x y = unique.one_decision x y
 
-pub one_decide : (sheet : List ℕ) (rows : ℕ) (text installed : List ℕ) (rows' : ℕ) (text' : List ℕ) (a b : Decision)
+pub one_decide : (sheet : List ℕ) (rows : ℕ) (text installed : List ℕ) (rows' : ℕ) (text' : List ℕ) (a b : Answer)
     → Decides sheet rows text installed rows' text' (number a) (value a) → Decides sheet rows text installed rows' text' (number b) (value b) → a ≡ b
 one_decide sheet rows text installed rows' text' a b x y = let e = unique.one_decision x y in unique.one_case a b e.0 e.1
 

@@ -1,16 +1,14 @@
 -- THE SIX WRONG READERS of document 01 (What each statement has to settle), and one that counts no escape (02, Ticket 2): none of them meets the promise, each by a witness.
-use Rattle.std.specs.Prelude.{◌≡◌, refl, ℕ, suc, ◌-◌, ◌*◌, ◌≤◌, ◌<◌, length, drop}
+use Rattle.std.specs.Prelude.{◌≡◌, refl, ℕ, suc, ◌-◌, ◌*◌, ◌≤◌, ◌<◌, length, drop, Ok}
 use Rattle.std.proofs.Common.{sym, ◌∙◌}
 use Rattle.std.proofs.Math.Path.{ap}
 use mathlib.Core.List.{List, [], ◌∷◌, ◌++◌}
 use native.Mathlib.Omega.{arith}
 use Rattle.std.proofs.Math.ListN.{get_or}
-use Rattle.language.specs.declared.Answer.{Answer}
-use Rattle.language.specs.declared.Answer.TheVariants.{Accepted}
 use Rattle.language.specs.Kind.{INTEGER, STRING}
 use Rattle.language.specs.Tree.{unescaped, escaped, Tree, leaf, width, size, text_of, escapes_of, rows_of}
 use Rattle.language.specs.Lines.{line_of, column_of, feeds, characters, last_line}
-use Rattle.language.specs.Answered.{CHAR, SYNTAX, END, ROWS, number, value, second, third, Reads, Answered, accepted, rows, Totals, total}
+use Rattle.language.specs.Answered.{CHAR, SYNTAX, END, ROWS, Answer, number, value, second, third, Reads, Answered, accepted, rows, Totals, total}
 use Rattle.utf8.specs.Told.{given, refused_syntax, refused_end}
 use Rattle.repeats.specs.Flat.{flat, Twice}
 use Rattle.repeats.specs.Repeating.{repeats_twice}
@@ -108,7 +106,7 @@ module _ (r : Reader) (m : Meets r) where
   not_refuses_all w = w one nine (0 ∷ []) (must one_given).0
 
   -- "one that always answers the tree of `1`", whatever it says where the rooms are too small for that: ROWS and TEXT too
-  pub not_always_one : ((doc table text : List ℕ) → width ≤ length table → 1 ≤ length text → (r doc table text).answer ≡ Accepted (record { 0 = 1 }) 1 0) → ⊥
+  pub not_always_one : ((doc table text : List ℕ) → width ≤ length table → 1 ≤ length text → (r doc table text).answer ≡ Ok (record { rows = record { 0 = 1 }; text = 1; escapes = 0 })) → ⊥
   unfolding nine
   not_always_one w = omega (arith, ap number (w (49 ∷ []) nine (0 ∷ []) (omega arith) (omega arith)), (must (cut nine (0 ∷ []))).0)
 

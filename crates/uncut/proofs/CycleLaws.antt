@@ -15,10 +15,12 @@ use Rattle.shaped.specs.Shaped.{Scripted, Scalar}
 use Rattle.uncut.specs.Short.{longest}
 use Rattle.sound.specs.Distinct.{Distinct}
 use Rattle.sound.specs.Members.{Sane, One, IsKey, Member, container_kind, Many, many_pairs, some_member, few_members}
+use Rattle.std.specs.declared.option.Option.{Option}
+use Rattle.std.specs.declared.option.Option.TheVariants.{Some, None}
 use Rattle.uncut.specs.declared.tested.Tested.{Tested}
-use Rattle.uncut.specs.declared.tested.Tested.TheVariants.{Good, Bad}
+use Rattle.uncut.specs.declared.tested.Several.{Several}
 use Rattle.uncut.specs.Heads.{Behind, Lies, Whole, Field}
-use Rattle.uncut.specs.Tested.{NoContainer, few_forms, Stand, Tests, none_alone, whole_field, no_field, field_tests, key_stands, key_other, key_none, scalar_stands, scalar_none, element_tests, keyless_tests, pair_good, pair_bad}
+use Rattle.uncut.specs.Tested.{Good, NoContainer, few_forms, Stand, Tests, none_alone, whole_field, no_field, field_tests, key_stands, key_other, key_none, scalar_stands, scalar_none, element_tests, keyless_tests, pair_good, pair_bad}
 use Rattle.uncut.specs.Walk.{Passed, passed_none, passed_more, passed_bad, Went}
 use Rattle.uncut.specs.Containers.{Closing, container_has, closed_good, closed_bad, closed_array}
 use Rattle.uncut.specs.Keys.{Keys, Counted, ApartTold}
@@ -26,7 +28,7 @@ use Rattle.uncut.specs.Keys.{Keys, Counted, ApartTold}
 -- ---- a whole field before `stop`, or none
 
 module _ (stored : List ℕ) (a stop : ℕ) (w : Lies stored a stop) (b : Bool) (t : Tells (Whole stored a stop) b) where
-  pub field_none : (P : Tree → Type 0) → b ≡ false → Tests stored (One P) a stop Bad
+  pub field_none : (P : Tree → Type 0) → b ≡ false → Tests stored (One P) a stop None
   field_none P e = no_field stored w (tells_no b e t)
 
   module _ (h : b ≡ true) where
@@ -43,7 +45,7 @@ module _ (stored : List ℕ) (a stop : ℕ) (w : Lies stored a stop) (b : Bool) 
       pub field_whole : Field stored a e
       field_whole = whole_field stored w (tells_yes b h t) f
 
-      pub field_told : (P : Tree → Type 0) (q : Tested) → Tests stored (One P) a e q → Tests stored (One P) a stop q
+      pub field_told : (P : Tree → Type 0) (q : Option Tested) → Tests stored (One P) a e q → Tests stored (One P) a stop q
       field_told P q z = field_tests stored P a e stop f.is (let y = tells_yes b h t in omega (arith, f.is, y.ends)) q z
 
 -- a scalar's tag
@@ -67,14 +69,14 @@ module _ (stored : List ℕ) (a e : ℕ) (f : Field stored a e) where
   pub text_within : e ≤ length stored
   text_within = f.inside
 
-  pub named_other : (get_or stored a 0 ≡ 10 → ⊥) → Tests stored (One IsKey) a e Bad
+  pub named_other : (get_or stored a 0 ≡ 10 → ⊥) → Tests stored (One IsKey) a e None
   named_other n = key_other stored f n
 
   module _ (b : Bool) (t : Tells (Scripted (slice (a + 3) e stored)) b) where
     pub named_good : get_or stored a 0 ≡ 10 → b ≡ true → Tests stored (One IsKey) a e (Good e 1)
     named_good g h = key_stands stored f g (tells_yes b h t)
 
-    pub named_bad : b ≡ false → Tests stored (One IsKey) a e Bad
+    pub named_bad : b ≡ false → Tests stored (One IsKey) a e None
     named_bad h = key_none stored f (tells_no b h t)
 
   module _ (k c : ℕ) (d : c ≡ get_or stored a 0) (b : Bool) (u : Tells (Scalar c (slice (a + 3) e stored)) b) where
@@ -84,7 +86,7 @@ module _ (stored : List ℕ) (a e : ℕ) (f : Field stored a e) where
     pub scalar_good : b ≡ true → Tests stored (One (Sane k)) a e (Good e 1)
     scalar_good h = scalar_stands stored f (tells_yes b h t)
 
-    pub scalar_bad : NoContainer stored a → b ≡ false → Tests stored (One (Sane k)) a e Bad
+    pub scalar_bad : NoContainer stored a → b ≡ false → Tests stored (One (Sane k)) a e None
     scalar_bad n h = scalar_none stored f n (tells_no b h t)
 
 pub ruleset leafing = (tag_inside, text_fits, text_order, text_within, named_other, named_good, named_bad, scalar_good, scalar_bad, rules)
@@ -106,35 +108,35 @@ pub ruleset tagging = (tag_inside, tag_array, tag_object, tag_other, rules)
 -- ---- a member: an element, or a key and a value
 
 module _ (stored : List ℕ) (a stop k : ℕ) where
-  pub child_element : (o : Bool) → o ≡ false → (q : Tested) → Tests stored (One (Sane k)) a stop q → Tests stored (Member o k) a stop q
+  pub child_element : (o : Bool) → o ≡ false → (q : Option Tested) → Tests stored (One (Sane k)) a stop q → Tests stored (Member o k) a stop q
   child_element o e q t = rw e (element_tests stored k a stop q t)
 
-  pub child_pair : (o : Bool) → o ≡ true → (q : Tested) → Tests stored (Member true k) a stop q → Tests stored (Member o k) a stop q
+  pub child_pair : (o : Bool) → o ≡ true → (q : Option Tested) → Tests stored (Member true k) a stop q → Tests stored (Member o k) a stop q
   child_pair o e q t = rw e t
 
   -- what is asked behind what was good
-  pub lies_on : (Q : Forest → Type 0) (e n : ℕ) (q : Tested) → Tests stored Q a stop q → q ≡ Good e n → Lies stored a stop → Lies stored e stop
-  lies_on Q e n q t h w = let z : Tests stored Q a stop (Good e n) = rw h at t in record { order = z.below; inside = w.inside; few = w.few }
+  pub lies_on : (Q : Forest → Type 0) (v : Tested) (q : Option Tested) → Tests stored Q a stop q → q ≡ Some v → Lies stored a stop → Lies stored v.to stop
+  lies_on Q v q t h w = let z : Tests stored Q a stop (Some v) = rw h at t in record { order = z.below; inside = w.inside; few = w.few }
 
-  module _ (c : Tested) (t : Tests stored (One IsKey) a stop c) where
-    pub pair_keyless : c ≡ Bad → Tests stored (Member true k) a stop Bad
-    pair_keyless h = let z : Tests stored (One IsKey) a stop Bad = rw h at t in keyless_tests stored k a stop z
+  module _ (c : Option Tested) (t : Tests stored (One IsKey) a stop c) where
+    pub pair_keyless : c ≡ None → Tests stored (Member true k) a stop None
+    pair_keyless h = let z : Tests stored (One IsKey) a stop None = rw h at t in keyless_tests stored k a stop z
 
-    module _ (e n : ℕ) (h : c ≡ Good e n) (q : Tested) (s : Tests stored (One (Sane k)) e stop q) where
-      key_stand : Stand stored (One IsKey) a stop e n
-      key_stand = let z : Tests stored (One IsKey) a stop (Good e n) = rw h at t in z
+    module _ (x : Tested) (h : c ≡ Some x) (q : Option Tested) (s : Tests stored (One (Sane k)) x.to stop q) where
+      key_stand : Stand stored (One IsKey) a stop x.to x.rows
+      key_stand = let z : Tests stored (One IsKey) a stop (Some x) = rw h at t in z
 
-      pub pair_valueless : q ≡ Bad → Tests stored (Member true k) a stop Bad
-      pair_valueless g = let z : Tests stored (One (Sane k)) e stop Bad = rw g at s in pair_bad stored k a stop key_stand z
+      pub pair_valueless : q ≡ None → Tests stored (Member true k) a stop None
+      pair_valueless g = let z : Tests stored (One (Sane k)) x.to stop None = rw g at s in pair_bad stored k a stop key_stand z
 
-      module _ (i m : ℕ) (g : q ≡ Good i m) where
-        value_stand : Stand stored (One (Sane k)) e stop i m
-        value_stand = let z : Tests stored (One (Sane k)) e stop (Good i m) = rw g at s in z
+      module _ (y : Tested) (g : q ≡ Some y) where
+        value_stand : Stand stored (One (Sane k)) x.to stop y.to y.rows
+        value_stand = let z : Tests stored (One (Sane k)) x.to stop (Some y) = rw g at s in z
 
-        pub pair_both : Tests stored (Member true k) a stop (Good i (m + 1))
-        pair_both = pair_good stored k a stop key_stand i m value_stand
+        pub pair_both : Tests stored (Member true k) a stop (Good y.to (y.rows + 1))
+        pair_both = pair_good stored k a stop key_stand y.to y.rows value_stand
 
-        pub pair_rows : Lies stored a stop → Fits w64 (m + 1)
+        pub pair_rows : Lies stored a stop → Fits w64 (y.rows + 1)
         pair_rows w = let v = value_stand in omega (arith, v.rows, v.end, v.below, few_forms v.members, w.few)
 
 pub ruleset childing = (child_element, child_pair, rules)
@@ -156,24 +158,24 @@ module _ (stored : List ℕ) (o : Bool) (k from end : ℕ) where
     pub going_lies : Lies stored at end
     going_lies = w.lies
 
-    pub going_done : end ≤ at → Went stored o k from end (Good n rows)
+    pub going_done : end ≤ at → Went stored o k from end (Some (record { count = n; rows = rows }))
     going_done l = let e : at ≡ end = omega (arith, w.lies.order) in subst (λ (i : ℕ). Passed stored o k from end i n rows) e w.passed
 
-    module _ (l : at < end) (q : Tested) (t : Tests stored (Member o k) at end q) where
-      pub going_bad : q ≡ Bad → Went stored o k from end Bad
-      going_bad e = let z : Tests stored (Member o k) at end Bad = rw e at t in passed_bad stored o w.passed l z
+    module _ (l : at < end) (q : Option Tested) (t : Tests stored (Member o k) at end q) where
+      pub going_bad : q ≡ None → Went stored o k from end None
+      going_bad e = let z : Tests stored (Member o k) at end None = rw e at t in passed_bad stored o w.passed l z
 
-      module _ (i m : ℕ) (e : q ≡ Good i m) where
-        stands : Stand stored (Member o k) at end i m
-        stands = let z : Tests stored (Member o k) at end (Good i m) = rw e at t in z
+      module _ (m : Tested) (e : q ≡ Some m) where
+        stands : Stand stored (Member o k) at end m.to m.rows
+        stands = let z : Tests stored (Member o k) at end (Some m) = rw e at t in z
 
-        pub going_more : Going stored o k from end i (n + 1) (rows + m)
-        going_more = record { lies = lies_on stored at end k (Member o k) i m q t e w.lies; passed = passed_more stored o w.passed stands }
+        pub going_more : Going stored o k from end m.to (n + 1) (rows + m.rows)
+        going_more = record { lies = lies_on stored at end k (Member o k) m q t e w.lies; passed = passed_more stored o w.passed stands }
 
-        pub going_less : end - i < end - at
+        pub going_less : end - m.to < end - at
         going_less = let s = stands in omega (arith, s.end, s.below, few_forms s.members, some_member s.good)
 
-        pub going_rows : Fits w64 (rows + m)
+        pub going_rows : Fits w64 (rows + m.rows)
         going_rows = let g = going_more in let p = g.passed in omega (arith, p.count, few_forms p.front, p.place, p.inside, w.lies.few)
 
         pub going_count : Fits w64 (n + 1)
@@ -188,23 +190,23 @@ module _ (stored : List ℕ) (a e : ℕ) (o : Bool) (f : Field stored a e) (g : 
   container_lies = record { order = f.begins; inside = f.inside; few = f.few }
 
   module _ (allow : ℕ) where
-    pub no_allowance : allow ≡ 0 → Tests stored (One (Sane allow)) a e Bad
+    pub no_allowance : allow ≡ 0 → Tests stored (One (Sane allow)) a e None
     no_allowance h = none_alone stored (λ t s i l. let z = container_has stored o t f g s i in omega (arith, z.one_less))
 
-    module _ (n : allow ≡ 0 → ⊥) (q : Tested) (t : Went stored o (allow - 1) (a + 3) e q) where
-      pub no_members : q ≡ Bad → Tests stored (One (Sane allow)) a e Bad
+    module _ (n : allow ≡ 0 → ⊥) (q : Option Several) (t : Went stored o (allow - 1) (a + 3) e q) where
+      pub no_members : q ≡ None → Tests stored (One (Sane allow)) a e None
       no_members h =
-          let z : Went stored o (allow - 1) (a + 3) e Bad = rw h at t in
+          let z : Went stored o (allow - 1) (a + 3) e None = rw h at t in
           none_alone stored
           (λ u s i l.
           let y = container_has stored o u f g s i in
           let v : y.allow ≡ allow - 1 = omega (arith, y.one_less) in
           z y.count y.children (subst (λ (c : ℕ). Many (Member o c) y.count y.children) v y.many) y.here y.total)
 
-      pub now_closing : (m rows : ℕ) → q ≡ Good m rows → Closing stored a e (allow - 1) o m rows
-      now_closing m rows h = let z : Went stored o (allow - 1) (a + 3) e (Good m rows) = rw h at t in record { field = f; kind = g; passed = z }
+      pub now_closing : (m : Several) → q ≡ Some m → Closing stored a e (allow - 1) o m.count m.rows
+      now_closing m h = let z : Went stored o (allow - 1) (a + 3) e (Some m) = rw h at t in record { field = f; kind = g; passed = z }
 
-  pub one_more : (allow : ℕ) → (allow ≡ 0 → ⊥) → (c : Tested) → Tests stored (One (Sane (suc (allow - 1)))) a e c → Tests stored (One (Sane allow)) a e c
+  pub one_more : (allow : ℕ) → (allow ≡ 0 → ⊥) → (c : Option Tested) → Tests stored (One (Sane (suc (allow - 1)))) a e c → Tests stored (One (Sane allow)) a e c
   one_more allow n c z = subst (λ (k : ℕ). Tests stored (One (Sane k)) a e c) (let v : suc (allow - 1) ≡ allow = omega arith in v) z
 
 pub ruleset containing = (text_fits, container_lies, no_allowance, no_members, now_closing, one_more, rules)
@@ -248,7 +250,7 @@ module _ (stored : List ℕ) (a e k : ℕ) (o : Bool) (n rows : ℕ) (w : Closin
       pub closing_object : b ≡ true → Tests stored (One (Sane (suc k))) a e (Good e (rows + 1))
       closing_object g = closed_good stored w (tells_yes b g told)
 
-      pub closing_twice : b ≡ false → Tests stored (One (Sane (suc k))) a e Bad
+      pub closing_twice : b ≡ false → Tests stored (One (Sane (suc k))) a e None
       closing_twice g = closed_bad stored w h (tells_no b g told)
 
 pub ruleset closing = (closing_from, closing_rows, closing_array, closing_keys, closing_object, closing_twice, rules)

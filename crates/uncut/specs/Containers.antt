@@ -15,9 +15,9 @@ use Rattle.stored.proofs.OldApartLaws.{form_apart}
 use Rattle.sound.specs.Distinct.{Distinct, once_distinct}
 use Rattle.sound.specs.Members.{Sane, One, Member, container_kind, Many, many_pairs, contained, array_many, object_many, array_distinct}
 use Rattle.fields.specs.Rows.{scalar_low}
-use Rattle.uncut.specs.declared.tested.Tested.TheVariants.{Good, Bad}
+use Rattle.std.specs.declared.option.Option.TheVariants.{None}
 use Rattle.uncut.specs.Heads.{end_at, Field, at_as, at_slice, field_tag, field_end, field_content, field_at}
-use Rattle.uncut.specs.Tested.{Tests, alone, none_alone}
+use Rattle.uncut.specs.Tested.{Good, Tests, alone, none_alone}
 use Rattle.uncut.specs.Walk.{Passed}
 
 kind_low : (o : Bool) → 8 ≤ container_kind o
@@ -69,7 +69,7 @@ module _ (stored : List ℕ) where
         alone stored made (contained o w.passed.many d) made_here e (rows + 1) (w.field.is ∙ field_end made made_here) (omega (arith, w.passed.count)) (omega arith)
 
     -- an object's keys are not distinct, so no tree without repeated keys stands here
-    pub closed_bad : o ≡ true → (Distinct w.passed.front → ⊥) → Tests stored (One (Sane (suc k))) a e Bad
+    pub closed_bad : o ≡ true → (Distinct w.passed.front → ⊥) → Tests stored (One (Sane (suc k))) a e None
     closed_bad g d =
         none_alone stored
         (λ u s h l.

@@ -13,8 +13,9 @@ use Rattle.stored.specs.OldLengths.{scalar_content}
 use Rattle.stored.specs.Bytes.{At, at_left, at_right}
 use Rattle.sound.specs.Distinct.{leaf_once}
 use Rattle.sound.specs.Members.{Sane, One, one, IsKey, is_a_key, Member, pair, element}
+use Rattle.std.specs.declared.option.Option.{Option}
+use Rattle.std.specs.declared.option.Option.TheVariants.{Some, None}
 use Rattle.uncut.specs.declared.tested.Tested.{Tested}
-use Rattle.uncut.specs.declared.tested.Tested.TheVariants.{Good, Bad}
 use Rattle.uncut.specs.Heads.{end_at, Behind, Lies, Whole, Field, end_after, at_join, at_as, at_place, field_tag, field_end, field_slice, field_at}
 
 -- the field at a place is no container's
@@ -51,6 +52,10 @@ mutual
   few_forms none = omega arith
   few_forms (more t ts) = let h = few_rows t in let i = few_forms ts in omega (arith, length-append (form t) (forms ts))
 
+-- the place behind what was tested, and so many rows
+abbrev pub Good : ℕ → ℕ → Option Tested
+Good e n = Some (record { to = e; rows = n })
+
 module _ (stored : List ℕ) where
   -- members stand from a up to e, before `stop`, and have n rows
   pub record Stand (Q : Forest → Type 0) (a stop e n : ℕ) : Type 0 where
@@ -61,9 +66,9 @@ module _ (stored : List ℕ) where
     pub rows : n ≡ sizes members
     pub below : e ≤ stop
 
-  abbrev pub Tests : (Forest → Type 0) → ℕ → ℕ → Tested → Type 0
-  Tests Q a stop (Good e n) = Stand Q a stop e n
-  Tests Q a stop Bad = (ts : Forest) → Q ts → At stored a (forms ts) → a + length (forms ts) ≤ stop → ⊥
+  abbrev pub Tests : (Forest → Type 0) → ℕ → ℕ → Option Tested → Type 0
+  Tests Q a stop (Some t) = Stand Q a stop t.to t.rows
+  Tests Q a stop None = (ts : Forest) → Q ts → At stored a (forms ts) → a + length (forms ts) ≤ stop → ⊥
 
   -- a tree out of its forest
   pub record Lone (P : Tree → Type 0) (a stop e n : ℕ) : Type 0 where
@@ -87,7 +92,7 @@ module _ (stored : List ℕ) where
           below = l;
         }
 
-    pub none_alone : ((t : Tree) → P t → At stored a (form t) → a + length (form t) ≤ stop → ⊥) → Tests (One P) a stop Bad
+    pub none_alone : ((t : Tree) → P t → At stored a (form t) → a + length (form t) ≤ stop → ⊥) → Tests (One P) a stop None
     none_alone f ts (one {t = t} q) h l = f t q (at_as (one_form t) h) (omega (arith, ap length (one_form t)))
 
     pub lone : {e n : ℕ} → Stand (One P) a stop e n → Lone P a stop e n
@@ -105,13 +110,13 @@ module _ (stored : List ℕ) where
     whole_field h f =
         record { is = f.is; low = f.low; begins = omega (arith, f.is, end_after stored a); inside = omega (arith, h.ends, f.is, w.inside); few = omega (arith, h.ends, f.is, w.few) }
 
-    pub no_field : {P : Tree → Type 0} → (Whole stored a stop → ⊥) → Tests (One P) a stop Bad
+    pub no_field : {P : Tree → Type 0} → (Whole stored a stop → ⊥) → Tests (One P) a stop None
     no_field f = none_alone (λ t q h l. f (record { begins = omega (arith, end_after stored a, field_end t h); ends = omega (arith, field_end t h) }))
 
   -- it is the same to ask up to where the field ends
-  pub field_tests : (P : Tree → Type 0) (a e stop : ℕ) → e ≡ end_at stored a → e ≤ stop → (q : Tested) → Tests (One P) a e q → Tests (One P) a stop q
-  field_tests P a e stop f l (Good i n) s = record { members = s.members; good = s.good; here = s.here; end = s.end; rows = s.rows; below = omega (arith, s.below) }
-  field_tests P a e stop f l Bad z = none_alone (λ t q h m. z (more t none) (one q) (at_as (sym (one_form t)) h) (omega (arith, field_end t h, ap length (one_form t))))
+  pub field_tests : (P : Tree → Type 0) (a e stop : ℕ) → e ≡ end_at stored a → e ≤ stop → (q : Option Tested) → Tests (One P) a e q → Tests (One P) a stop q
+  field_tests P a e stop f l (Some t) s = record { members = s.members; good = s.good; here = s.here; end = s.end; rows = s.rows; below = omega (arith, s.below) }
+  field_tests P a e stop f l None z = none_alone (λ t q h m. z (more t none) (one q) (at_as (sym (one_form t)) h) (omega (arith, field_end t h, ap length (one_form t))))
 
   -- ---- a key, and a scalar
 
@@ -135,13 +140,13 @@ module _ (stored : List ℕ) where
     unfolding content
     key_stands g s = leaf_stands KEY (is_a_key s) g refl
 
-    pub key_other : (get_or stored a 0 ≡ 10 → ⊥) → Tests (One IsKey) a e Bad
+    pub key_other : (get_or stored a 0 ≡ 10 → ⊥) → Tests (One IsKey) a e None
     key_other n = none_alone (λ t q h l. n (field_tag t h ∙ by q))
       where
         by : {t : Tree} → IsKey t → tag t ≡ 10
         by (is_a_key s) = refl
 
-    pub key_none : (Scripted text → ⊥) → Tests (One IsKey) a e Bad
+    pub key_none : (Scripted text → ⊥) → Tests (One IsKey) a e None
     unfolding content
     key_none n = none_alone (λ t q h l. by t q h)
       where
@@ -152,7 +157,7 @@ module _ (stored : List ℕ) where
     pub scalar_stands : {k : ℕ} → Scalar (get_or stored a 0) text → Tests (One (Sane k)) a e (Good e 1)
     scalar_stands s = leaf_stands (get_or stored a 0) (record { shaped = shaped_leaf s; once = leaf_once }) refl (scalar_content (get_or stored a 0) 0 0 (unescaped text) s)
 
-    pub scalar_none : {k : ℕ} → NoContainer stored a → (Scalar (get_or stored a 0) text → ⊥) → Tests (One (Sane k)) a e Bad
+    pub scalar_none : {k : ℕ} → NoContainer stored a → (Scalar (get_or stored a 0) text → ⊥) → Tests (One (Sane k)) a e None
     scalar_none {k} c n = none_alone (λ t q h l. by t q.shaped h)
       where
         by : {l : ℕ} (t : Tree) → Shaped l t → At stored a (form t) → ⊥
@@ -182,17 +187,17 @@ module _ (stored : List ℕ) where
       }
 
   module _ (k a stop : ℕ) where
-    pub element_tests : (q : Tested) → Tests (One (Sane k)) a stop q → Tests (Member false k) a stop q
-    element_tests (Good e n) z = record { members = z.members; good = go z.good; here = z.here; end = z.end; rows = z.rows; below = z.below }
+    pub element_tests : (q : Option Tested) → Tests (One (Sane k)) a stop q → Tests (Member false k) a stop q
+    element_tests (Some t) z = record { members = z.members; good = go z.good; here = z.here; end = z.end; rows = z.rows; below = z.below }
       where
         go : {ts : Forest} → One (Sane k) ts → Member false k ts
         go (one s) = element s
-    element_tests Bad z = λ ts m h l. z ts (back m) h l
+    element_tests None z = λ ts m h l. z ts (back m) h l
       where
         back : {ts : Forest} → Member false k ts → One (Sane k) ts
         back (element s) = one s
 
-    pub keyless_tests : Tests (One IsKey) a stop Bad → Tests (Member true k) a stop Bad
+    pub keyless_tests : Tests (One IsKey) a stop None → Tests (Member true k) a stop None
     keyless_tests z ts m h l = by m h l
       where
         by : {ts : Forest} → Member true k ts → At stored a (forms ts) → a + length (forms ts) ≤ stop → ⊥
@@ -224,7 +229,7 @@ module _ (stored : List ℕ) where
           key_row : {t : Tree} → IsKey t → size t ≡ 1
           key_row (is_a_key x) = refl
 
-      pub pair_bad : Tests (One (Sane k)) e stop Bad → Tests (Member true k) a stop Bad
+      pub pair_bad : Tests (One (Sane k)) e stop None → Tests (Member true k) a stop None
       pair_bad z ts m h l = by m h l
         where
           by : {ts : Forest} → Member true k ts → At stored a (forms ts) → a + length (forms ts) ≤ stop → ⊥

@@ -9,8 +9,9 @@ use Rattle.shaped.specs.Beside.{beside, beside_size}
 use Rattle.stored.specs.Old.{content, forms, form}
 use Rattle.stored.specs.Bytes.{At, at_left, at_right}
 use Rattle.sound.specs.Members.{Member, pair, element, Many, many_none, many_more, many_last, some_member}
-use Rattle.uncut.specs.declared.tested.Tested.{Tested}
-use Rattle.uncut.specs.declared.tested.Tested.TheVariants.{Good, Bad}
+use Rattle.std.specs.declared.option.Option.{Option}
+use Rattle.std.specs.declared.option.Option.TheVariants.{Some, None}
+use Rattle.uncut.specs.declared.tested.Several.{Several}
 use Rattle.uncut.specs.Heads.{end_at, at_join, at_as, at_place, field_end}
 use Rattle.uncut.specs.Tested.{one_form, two_forms, few_forms, Stand, Tests}
 
@@ -102,7 +103,7 @@ module _ (stored : List ℕ) where
           }
 
       -- no member stands here: so none in all
-      pub passed_bad : at < end → Tests stored (Member o k) at end Bad → (m : ℕ) (ts : Forest) → Many (Member o k) m ts → At stored from (forms ts) → from + length (forms ts) ≡ end → ⊥
+      pub passed_bad : at < end → Tests stored (Member o k) at end None → (m : ℕ) (ts : Forest) → Many (Member o k) m ts → At stored from (forms ts) → from + length (forms ts) ≡ end → ⊥
       unfolding content
       passed_bad l f m ts x h t = by z.members z.many z.here z.total
         where
@@ -114,6 +115,6 @@ module _ (stored : List ℕ) where
           by us (many_more {ts = fs} {us = vs} q y i) g e = f fs q (front_at fs vs i g) (omega (arith, whole_length fs vs i g))
 
   -- WHAT A WALK OVER ALL MEMBERS TELLS
-  abbrev pub Went : Bool → ℕ → ℕ → ℕ → Tested → Type 0
-  Went o k from end (Good n rows) = Passed o k from end end n rows
-  Went o k from end Bad = (m : ℕ) (ts : Forest) → Many (Member o k) m ts → At stored from (forms ts) → from + length (forms ts) ≡ end → ⊥
+  abbrev pub Went : Bool → ℕ → ℕ → ℕ → Option Several → Type 0
+  Went o k from end (Some m) = Passed o k from end end m.count m.rows
+  Went o k from end None = (m : ℕ) (ts : Forest) → Many (Member o k) m ts → At stored from (forms ts) → from + length (forms ts) ≡ end → ⊥

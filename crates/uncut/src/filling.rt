@@ -1,4 +1,5 @@
 // The rooms are filled from stored bytes that are a stored form, or stand from a place on in those of one: a row for each field, in the order of their tags.
+// Stays (point 5): the rooms go as parameters, since they are lent to each call in turn: a struct that holds `&mut` slices would need a clause in every contract that it still holds the same ones.
 ghost use Rattle.std.specs.Prelude.{◌≡◌, ◌+◌, ◌*◌, ◌<◌, length, get_or};
 ghost use Rattle.std.proofs.lemmas.List.Edits.{sets};
 ghost use Rattle.exact.specs.Tells.{Tells};
@@ -25,6 +26,7 @@ pub struct FilledAll {
 }
 
 // The row r of the field at a place.
+#[tactic(auto, using(crate::proofs::FillLaws::placing))]
 fn place(
     stored: &[u8],
     base: usize,
@@ -41,7 +43,7 @@ fn place(
     ensures { table.new ≡ sets table.old (width * r) (row_list unlined (get_or stored.now at 0) (base + at) (base + end) from to parent next) }
 {
     let w = row_of(
-        tag(&*stored, at),
+        tag(stored, at),
         base + at,
         base + end,
         from,
@@ -53,6 +55,7 @@ fn place(
 }
 
 // A scalar or a key, whose field ends at `end`; the text byte behind it. Kinds 1 to 3 have no text.
+#[tactic(auto, using(crate::proofs::FillLaws::leaf_filling))]
 fn leaf(
     stored: &[u8],
     base: usize,
@@ -68,38 +71,31 @@ fn leaf(
     ensures { (h : FillAt stored.now base at r parent x) → Fills h.tree (base + at) r parent x (r + 1) result table.old table.new text.old text.new }
 {
     if stored[at] < 4 {
-        place(&*stored, base, at, end, table, r, parent, 0, 0, r + 1);
+        place(stored, base, at, end, table, r, parent, 0, 0, r + 1);
         return x;
     }
     let y = x + (end - (at + 3));
-    place(&*stored, base, at, end, table, r, parent, x, y, r + 1);
-    part(&*stored, at + 3, end, text, x);
+    place(stored, base, at, end, table, r, parent, x, y, r + 1);
+    part(stored, at + 3, end, text, x);
     y
 }
 
 // Whether the field at a place is a container's.
+#[tactic(auto, using(crate::proofs::FillLaws::telling_containers))]
 fn is_container(stored: &[u8], at: usize) -> bool
     requires { at < length stored.now }
     ensures { Tells (Container stored.now at) result }
 {
-    if stored[at] < 8 {
-        return false;
-    }
-    if 9 < stored[at] {
-        return false;
-    }
-    true
+    matches!(stored[at], 8 | 9)
 }
 
 // The count of a container's members: an object's are two children each.
+#[tactic(auto, using(crate::proofs::FillLaws::membering))]
 fn members(stored: &[u8], at: usize, n: usize) -> usize
     requires { at < length stored.now }
     ensures { result ≡ members_of (get_or stored.now at 0) n }
 {
-    if stored[at] == 9 {
-        return n / 2;
-    }
-    n
+    if stored[at] == 9 { n / 2 } else { n }
 }
 
 // The cycle. A container, whose field ends at `end`: its children, and then its own row.
@@ -118,9 +114,9 @@ fn container(
     requires { FillNode stored.now (length text.old) base at end r parent x }
     ensures { (h : FillAt stored.now base at r parent x) → Fills h.tree (base + at) r parent x result.row result.text table.old table.new text.old text.new }
 {
-    let f = children(&*stored, base, at + 3, end, table, text, r + 1, r, x);
-    let n = members(&*stored, at, f.count);
-    place(&*stored, base, at, end, table, r, parent, 0, n, f.row);
+    let f = children(stored, base, at + 3, end, table, text, r + 1, r, x);
+    let n = members(stored, at, f.count);
+    place(stored, base, at, end, table, r, parent, 0, n, f.row);
     Filled {
         row: f.row,
         text: f.text,
@@ -148,13 +144,13 @@ pub fn children(
     let mut y = x;
     let mut n = 0;
     while at < stop {
-        let end = behind(&*stored, at);
-        if is_container(&*stored, at) {
-            let f = container(&*stored, base, at, end, table, text, row, parent, y);
+        let end = behind(stored, at);
+        if is_container(stored, at) {
+            let f = container(stored, base, at, end, table, text, row, parent, y);
             row = f.row;
             y = f.text;
         } else {
-            y = leaf(&*stored, base, at, end, table, text, row, parent, y);
+            y = leaf(stored, base, at, end, table, text, row, parent, y);
             row += 1;
         }
         at = end;
@@ -172,5 +168,5 @@ pub fn fill(stored: &[u8], table: &mut [u32], text: &mut [u8])
     requires { FillRoot stored.now (length text.old) }
     ensures { (h : Fill stored.now 0 0 0 0) → FilledRooms h.tree table.old table.new text.old text.new }
 {
-    children(&*stored, 0, 0, stored.len(), table, text, 0, 0, 0);
+    children(stored, 0, 0, stored.len(), table, text, 0, 0, 0);
 }

@@ -1,7 +1,9 @@
 -- WHAT THE DECISION PROMISES (02, Ticket 6). Assumes nothing.
-use Rattle.std.specs.Prelude.{List, ℕ}
+use Rattle.std.specs.Prelude.{List, ℕ, Result, Ok, Err}
 use Rattle.upgrade.specs.declared.Decision.{Decision}
-use Rattle.upgrade.specs.declared.Decision.TheVariants.{Install, Keep, Blocked, BadSheet, BadInstalled}
+use Rattle.upgrade.specs.declared.Decision.TheVariants.{Install, Keep, Blocked}
+use Rattle.upgrade.specs.declared.Undecided.{Undecided}
+use Rattle.upgrade.specs.declared.Undecided.TheVariants.{BadSheet, BadInstalled}
 use Rattle.language.specs.Tree.{Tree}
 use Rattle.language.specs.Sound.{Holds}
 use Rattle.upgrade.specs.Version.{Version, Above}
@@ -24,20 +26,21 @@ KEEP = 2
 abbrev pub BLOCKED : ℕ
 BLOCKED = 3
 
--- the number and the value, a decision or a place, of each answer of `decide`
-abbrev pub number : Decision → ℕ
-number Install = 0
-number Keep = 0
-number Blocked = 0
-number BadSheet = BADSHEET
-number BadInstalled = BADINST
+-- what `decide` answers
+abbrev pub Answer : Type 0
+Answer = Result Decision Undecided
 
-abbrev pub value : Decision → ℕ
-value Install = INSTALL
-value Keep = KEEP
-value Blocked = BLOCKED
-value BadSheet = 0
-value BadInstalled = 0
+-- the number and the value, a decision or a place, of each answer of `decide`
+abbrev pub number : Answer → ℕ
+number (Ok d) = 0
+number (Err BadSheet) = BADSHEET
+number (Err BadInstalled) = BADINST
+
+abbrev pub value : Answer → ℕ
+value (Ok Install) = INSTALL
+value (Ok Keep) = KEEP
+value (Ok Blocked) = BLOCKED
+value (Err e) = 0
 
 -- "install exactly if version is above installed and installed is not below floor; keep if version is not above installed; else blocked"
 pub data Decided (version floor installed : List ℕ) : ℕ → Type 0 where

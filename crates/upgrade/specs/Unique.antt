@@ -9,9 +9,10 @@ use Rattle.language.specs.Sound.{Holds}
 use Rattle.shaped.specs.Holds.{sound_tree}
 use Rattle.upgrade.specs.Version.{Numbers, no_number, one_number, Version, version, Above}
 use Rattle.upgrade.specs.Sheet.{VERSION, FLOOR, Under, under_here, under_later, Sheet, sheet}
-use Rattle.upgrade.specs.declared.Decision.{Decision}
-use Rattle.upgrade.specs.declared.Decision.TheVariants.{Install, Keep, Blocked, BadSheet, BadInstalled}
-use Rattle.upgrade.specs.Decides.{number, value, BADSHEET, BADINST, INSTALL, KEEP, BLOCKED, Decided, installs, keeps, blocks, Answers, decides, bad_sheet, bad_installed, SheetIn, InstalledIn, Decides}
+use Rattle.std.specs.Prelude.{Ok, Err}
+use Rattle.upgrade.specs.declared.Decision.TheVariants.{Install, Keep, Blocked}
+use Rattle.upgrade.specs.declared.Undecided.TheVariants.{BadSheet, BadInstalled}
+use Rattle.upgrade.specs.Decides.{Answer, number, value, BADSHEET, BADINST, INSTALL, KEEP, BLOCKED, Decided, installs, keeps, blocks, Answers, decides, bad_sheet, bad_installed, SheetIn, InstalledIn, Decides}
 use Rattle.upgrade.specs.Spans.{alike_version, alike_sheet}
 
 -- ---- numbers
@@ -163,29 +164,29 @@ pub never_back : {sheet text installed text' : List ℕ} {rows rows' n d : ℕ} 
 never_back x e = installed x e (λ v f i s j. upward (λ v f w g x y. one_sheet x y) (λ i j x y. one_installed x y) x e s j)
 
 -- number and value tell the case of the enum
-pub one_case : (a b : Decision) → number a ≡ number b → value a ≡ value b → a ≡ b
-one_case Install Install e f = refl
-one_case Install Keep e f = absurd (omega arith)
-one_case Install Blocked e f = absurd (omega arith)
-one_case Install BadSheet e f = absurd (omega arith)
-one_case Install BadInstalled e f = absurd (omega arith)
-one_case Keep Install e f = absurd (omega arith)
-one_case Keep Keep e f = refl
-one_case Keep Blocked e f = absurd (omega arith)
-one_case Keep BadSheet e f = absurd (omega arith)
-one_case Keep BadInstalled e f = absurd (omega arith)
-one_case Blocked Install e f = absurd (omega arith)
-one_case Blocked Keep e f = absurd (omega arith)
-one_case Blocked Blocked e f = refl
-one_case Blocked BadSheet e f = absurd (omega arith)
-one_case Blocked BadInstalled e f = absurd (omega arith)
-one_case BadSheet Install e f = absurd (omega arith)
-one_case BadSheet Keep e f = absurd (omega arith)
-one_case BadSheet Blocked e f = absurd (omega arith)
-one_case BadSheet BadSheet e f = refl
-one_case BadSheet BadInstalled e f = absurd (omega arith)
-one_case BadInstalled Install e f = absurd (omega arith)
-one_case BadInstalled Keep e f = absurd (omega arith)
-one_case BadInstalled Blocked e f = absurd (omega arith)
-one_case BadInstalled BadSheet e f = absurd (omega arith)
-one_case BadInstalled BadInstalled e f = refl
+pub one_case : (a b : Answer) → number a ≡ number b → value a ≡ value b → a ≡ b
+one_case (Ok Install) (Ok Install) e f = refl
+one_case (Ok Install) (Ok Keep) e f = absurd (omega arith)
+one_case (Ok Install) (Ok Blocked) e f = absurd (omega arith)
+one_case (Ok Install) (Err BadSheet) e f = absurd (omega arith)
+one_case (Ok Install) (Err BadInstalled) e f = absurd (omega arith)
+one_case (Ok Keep) (Ok Install) e f = absurd (omega arith)
+one_case (Ok Keep) (Ok Keep) e f = refl
+one_case (Ok Keep) (Ok Blocked) e f = absurd (omega arith)
+one_case (Ok Keep) (Err BadSheet) e f = absurd (omega arith)
+one_case (Ok Keep) (Err BadInstalled) e f = absurd (omega arith)
+one_case (Ok Blocked) (Ok Install) e f = absurd (omega arith)
+one_case (Ok Blocked) (Ok Keep) e f = absurd (omega arith)
+one_case (Ok Blocked) (Ok Blocked) e f = refl
+one_case (Ok Blocked) (Err BadSheet) e f = absurd (omega arith)
+one_case (Ok Blocked) (Err BadInstalled) e f = absurd (omega arith)
+one_case (Err BadSheet) (Ok Install) e f = absurd (omega arith)
+one_case (Err BadSheet) (Ok Keep) e f = absurd (omega arith)
+one_case (Err BadSheet) (Ok Blocked) e f = absurd (omega arith)
+one_case (Err BadSheet) (Err BadSheet) e f = refl
+one_case (Err BadSheet) (Err BadInstalled) e f = absurd (omega arith)
+one_case (Err BadInstalled) (Ok Install) e f = absurd (omega arith)
+one_case (Err BadInstalled) (Ok Keep) e f = absurd (omega arith)
+one_case (Err BadInstalled) (Ok Blocked) e f = absurd (omega arith)
+one_case (Err BadInstalled) (Err BadSheet) e f = absurd (omega arith)
+one_case (Err BadInstalled) (Err BadInstalled) e f = refl

@@ -1,4 +1,4 @@
--- A FIELD IN A CONTENT BY THE HEADS OF ITS PARTS: parts are passed one behind another (`Passed`), until an end stands there (`extent_of`) or what no field has (`Nothing`). Assumes nothing.
+-- A FIELD IN A CONTENT BY THE HEADS OF ITS PARTS: parts are passed one behind another (`Passed`), until an end stands there (`extent_of`) or what no field has (`None`). Assumes nothing.
 use Rattle.std.specs.Prelude.{◌≡◌, refl, List, [], ◌++◌, ℕ, suc, ◌+◌, ◌-◌, ◌*◌, ◌/◌, ◌%◌, ◌≤◌, ◌<◌, length, get_or, take, drop}
 use Rattle.std.proofs.Common.{sym, ap, ap₂, subst, ◌∙◌, append_assoc, arith, length-append, length-drop, take-append-drop, drop-cons, take_at, drop_at, length-take-le}
 use Rattle.std.proofs.Math.Decide.{dec_le}
@@ -7,8 +7,9 @@ use Rattle.stored.specs.Form.{tagged, head, widest, PART, cut}
 use Rattle.stored.specs.Parts.{widest_is, Fields, field_apart}
 use Rattle.stored.proofs.PartsLaws.{cut_short, cut_long, cut_length}
 use Rattle.stored.specs.Bytes.{At, at_left, at_right, at_byte, at_join, at_as, slice_at}
+use Rattle.std.specs.declared.option.Option.{Option}
+use Rattle.std.specs.declared.option.Option.TheVariants.{Some, None}
 use Rattle.views.specs.declared.parts.Span.{Span}
-use Rattle.views.specs.declared.parts.Span.TheVariants.{Of, Nothing}
 
 module _ (v : List ℕ) where
   -- the length that the head at a place tells
@@ -30,9 +31,9 @@ module _ (v : List ℕ) where
     pub below : end ≤ stop
     pub true_tag : tag ≡ PART → ⊥
 
-  abbrev pub Told : ℕ → ℕ → Span → Type 0
-  Told a stop (Of tag n end) = Whole a stop tag n end
-  Told a stop Nothing = (k : ℕ) (c : List ℕ) → (k ≡ PART → ⊥) → At v a (cut k c) → a + length (cut k c) ≤ stop → ⊥
+  abbrev pub Told : ℕ → ℕ → Option Span → Type 0
+  Told a stop (Some s) = Whole a stop s.tag s.bytes s.end
+  Told a stop None = (k : ℕ) (c : List ℕ) → (k ≡ PART → ⊥) → At v a (cut k c) → a + length (cut k c) ≤ stop → ⊥
 
   -- ---- one field
 
@@ -107,17 +108,17 @@ module _ (v : List ℕ) where
   -- ---- no field stands there
 
   module _ {a p n : ℕ} (w : Passed a p n) where
-    none_by : (stop : ℕ) → ((k : ℕ) (s : List ℕ) → (k ≡ PART → ⊥) → (0 < n → 0 < length s) → First p k s → p + length (cut k s) ≤ stop → ⊥) → Told a stop Nothing
+    none_by : (stop : ℕ) → ((k : ℕ) (s : List ℕ) → (k ≡ PART → ⊥) → (0 < n → 0 < length s) → First p k s → p + length (cut k s) ≤ stop → ⊥) → Told a stop None
     none_by stop f k c g x l =
         let o = w.only k c g x in
         f k o.0 g o.3 (first_of k o.0 o.2) (omega (arith, o.4))
 
     -- less is left than a head
-    pub none_over : {stop : ℕ} → stop < p + 3 → Told a stop Nothing
+    pub none_over : {stop : ℕ} → stop < p + 3 → Told a stop None
     none_over {stop} l = none_by stop (λ k s g f x m. omega (arith, cut_length k s))
 
     -- .. or than the length that it tells
-    pub none_long : {stop m : ℕ} → Headed p m → stop - (p + 3) < m → p + 3 ≤ stop → Told a stop Nothing
+    pub none_long : {stop m : ℕ} → Headed p m → stop - (p + 3) < m → p + 3 ≤ stop → Told a stop None
     none_long {stop} {m} h l o = none_by stop (λ k s g f x b. by k s x b)
       where
         by : (k : ℕ) (s : List ℕ) → First p k s → p + length (cut k s) ≤ stop → ⊥
@@ -128,7 +129,7 @@ module _ (v : List ℕ) where
             omega (arith, t.1, h.is)
 
     -- a part that is not full
-    pub none_part : {stop m : ℕ} → Headed p m → get_or v p 0 ≡ 11 → (m ≡ 65535 → ⊥) → Told a stop Nothing
+    pub none_part : {stop m : ℕ} → Headed p m → get_or v p 0 ≡ 11 → (m ≡ 65535 → ⊥) → Told a stop None
     none_part {stop} {m} h t f = none_by stop (λ k s g i x b. by k s g x)
       where
         by : (k : ℕ) (s : List ℕ) → (k ≡ PART → ⊥) → First p k s → ⊥
@@ -139,7 +140,7 @@ module _ (v : List ℕ) where
             f (omega (arith, u.1, h.is, widest_is))
 
     -- an empty end behind a part
-    pub none_empty : {stop m : ℕ} → Headed p m → (get_or v p 0 ≡ 11 → ⊥) → 0 < n → m ≡ 0 → Told a stop Nothing
+    pub none_empty : {stop m : ℕ} → Headed p m → (get_or v p 0 ≡ 11 → ⊥) → 0 < n → m ≡ 0 → Told a stop None
     none_empty {stop} {m} h t l e = none_by stop (λ k s g i x b. by k s (i l) x)
       where
         by : (k : ℕ) (s : List ℕ) → 0 < length s → First p k s → ⊥
@@ -222,13 +223,13 @@ module _ (v : List ℕ) where
           }
 
 -- what `ended` gives behind parts with n bytes
-abbrev pub Ended : ℕ → ℕ → ℕ → ℕ → Span → Type 0
-Ended tag n m end (Of t k e) = (t ≡ tag) × (k ≡ n + m) × (e ≡ end) × (0 < n → 0 < m)
-Ended tag n m end Nothing = (0 < n) × (m ≡ 0)
+abbrev pub Ended : ℕ → ℕ → ℕ → ℕ → Option Span → Type 0
+Ended tag n m end (Some s) = (s.tag ≡ tag) × (s.bytes ≡ n + m) × (s.end ≡ end) × (0 < n → 0 < m)
+Ended tag n m end None = (0 < n) × (m ≡ 0)
 
-pub ended_told : (v : List ℕ) (a p n stop m tag end : ℕ) (q : Span) → Passed v a p n → Headed v p m → tag ≡ get_or v p 0 → (tag ≡ 11 → ⊥) → p + 3 ≤ stop → m ≤ stop - (p + 3) → stop ≤ length v → end ≡ p + 3 + m → Ended tag n m end q
+pub ended_told : (v : List ℕ) (a p n stop m tag end : ℕ) (q : Option Span) → Passed v a p n → Headed v p m → tag ≡ get_or v p 0 → (tag ≡ 11 → ⊥) → p + 3 ≤ stop → m ≤ stop - (p + 3) → stop ≤ length v → end ≡ p + 3 + m → Ended tag n m end q
     → Told v a stop q
-ended_told v a p n stop m tag end (Of t k e) w h g f l i o z (b, c, d, j) =
+ended_told v a p n stop m tag end (Some s) w h g f l i o z (b, c, d, j) =
     let x = extent_of v w h (λ y. f (g ∙ y)) j (omega arith) o in
-    subst (λ r. Whole v a stop r k e) (sym (b ∙ g)) (subst (λ r. Whole v a stop (get_or v p 0) r e) (sym c) (subst (λ r. Whole v a stop (get_or v p 0) (n + m) r) (sym (d ∙ z)) x))
-ended_told v a p n stop m tag end Nothing w h g f l i o z (b, c) = none_empty v w h (λ y. f (g ∙ y)) b c
+    subst (λ r. Whole v a stop r s.bytes s.end) (sym (b ∙ g)) (subst (λ r. Whole v a stop (get_or v p 0) r s.end) (sym c) (subst (λ r. Whole v a stop (get_or v p 0) (n + m) r) (sym (d ∙ z)) x))
+ended_told v a p n stop m tag end None w h g f l i o z (b, c) = none_empty v w h (λ y. f (g ∙ y)) b c

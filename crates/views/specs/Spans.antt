@@ -2,8 +2,9 @@
 use Rattle.std.specs.Prelude.{◌≡◌, List, ℕ, ◌+◌, ◌-◌, ◌≤◌, ◌<◌, length, get_or}
 use Rattle.std.proofs.Common.{sym, subst, ◌∙◌, arith}
 use Rattle.language.specs.Lent.{lent}
+use Rattle.std.specs.declared.option.Option.{Option}
+use Rattle.std.specs.declared.option.Option.TheVariants.{None}
 use Rattle.views.specs.declared.parts.Span.{Span}
-use Rattle.views.specs.declared.parts.Span.TheVariants.{Nothing}
 use Rattle.views.specs.Views.{viewed, view_less, ByteAsked}
 use Rattle.views.specs.Extents.{Headed, Passed, passed_none, passed_more, Told, Ended, ended_told, none_over, none_long, none_part}
 
@@ -44,7 +45,7 @@ module _ (stored starts : List ℕ) (d : ℕ) where
   going_start h = record { lies = h; passed = passed_none view _; below = h.order; small = let l = view_less stored starts d in omega (arith, h.few, h.inside_view); bytes = omega arith }
 
   module _ {at stop p n : ℕ} (w : Going at stop p n) where
-    pub going_over : stop < p + 3 → Told view at stop Nothing
+    pub going_over : stop < p + 3 → Told view at stop None
     going_over l = none_over view w.passed l
 
     module _ (l : p + 3 ≤ stop) where
@@ -55,7 +56,7 @@ module _ (stored starts : List ℕ) (d : ℕ) where
       going_tag = record { low = w.lies.low; few = w.lies.few; inside_view = omega (arith, w.lies.inside_view) }
 
       module _ {m : ℕ} (h : Headed view p m) where
-        pub going_long : stop - (p + 3) < m → Told view at stop Nothing
+        pub going_long : stop - (p + 3) < m → Told view at stop None
         going_long i = none_long view w.passed h i l
 
         module _ (i : m ≤ stop - (p + 3)) where
@@ -63,10 +64,10 @@ module _ (stored starts : List ℕ) (d : ℕ) where
           going_sum = omega (arith, w.bytes, w.small)
 
           module _ {tag : ℕ} (e : tag ≡ get_or view p 0) where
-            pub going_ended : {end : ℕ} (q : Span) → (tag ≡ 11 → ⊥) → end ≡ p + 3 + m → Ended tag n m end q → Told view at stop q
+            pub going_ended : {end : ℕ} (q : Option Span) → (tag ≡ 11 → ⊥) → end ≡ p + 3 + m → Ended tag n m end q → Told view at stop q
             going_ended {end} q f z y = ended_told view at p n stop m tag end q w.passed h e f l i w.lies.inside_view z y
 
-            pub going_part : tag ≡ 11 → (m ≡ 65535 → ⊥) → Told view at stop Nothing
+            pub going_part : tag ≡ 11 → (m ≡ 65535 → ⊥) → Told view at stop None
             going_part f g = none_part view w.passed h (sym e ∙ f) g
 
             pub going_more : {q k : ℕ} → tag ≡ 11 → m ≡ 65535 → q ≡ p + 65538 → k ≡ n + 65535 → Going at stop q k

@@ -18,9 +18,8 @@ use Rattle.sound.specs.Members.{Sane, One, IsKey, is_a_key, Member, container_ki
 use Rattle.fields.specs.Rows.{scalar_low}
 use Rattle.views.specs.Joined.{within, within_content}
 use Rattle.views.specs.Extents.{Whole, Told}
-use Rattle.views.specs.declared.parts.Span.TheVariants.{Nothing}
-use Rattle.wide.specs.declared.Walked.TheVariants.{Good, Bad}
-use Rattle.wide.specs.Tests.{Tests, alone, none_alone}
+use Rattle.std.specs.declared.option.Option.TheVariants.{None}
+use Rattle.wide.specs.Tests.{Good, Tests, alone, none_alone}
 use Rattle.wide.specs.Walk.{Passed, Went}
 
 -- a tree's tag is no part's
@@ -37,11 +36,11 @@ key_true (is_a_key x) e = omega arith
 
 module _ (v : List ℕ) where
   -- no field stands there
-  module _ {a stop : ℕ} (f : Told v a stop Nothing) where
-    pub nothing_key : Tests v (One IsKey) a stop Bad
+  module _ {a stop : ℕ} (f : Told v a stop None) where
+    pub nothing_key : Tests v (One IsKey) a stop None
     nothing_key = none_alone v (λ t q h l. f (tag t) (content t) (key_true q) h l)
 
-    pub nothing_value : {k : ℕ} → Tests v (One (Sane k)) a stop Bad
+    pub nothing_value : {k : ℕ} → Tests v (One (Sane k)) a stop None
     nothing_value = none_alone v (λ t q h l. f (tag t) (content t) (sane_true q.shaped) h l)
 
   module _ {a stop kind n end : ℕ} (w : Whole v a stop kind n end) where
@@ -78,13 +77,13 @@ module _ (v : List ℕ) where
     unfolding content
     key_stands e s = leaf_stands (subst (λ (k : ℕ). IsKey (leaf k 0 0 (unescaped w.content))) (sym e) (is_a_key (subst Scripted content_is s))) (subst (λ (k : ℕ). content (leaf k 0 0 (unescaped w.content)) ≡ w.content) (sym e) refl)
 
-    pub key_other : (kind ≡ 10 → ⊥) → Tests v (One IsKey) a stop Bad
+    pub key_other : (kind ≡ 10 → ⊥) → Tests v (One IsKey) a stop None
     key_other f = none_alone v (λ t q h l. f (sym (one_tree t (key_true q) h).0 ∙ by q))
       where
         by : {t : Tree} → IsKey t → tag t ≡ 10
         by (is_a_key s) = refl
 
-    pub key_none : (Scripted (take n inner) → ⊥) → Tests v (One IsKey) a stop Bad
+    pub key_none : (Scripted (take n inner) → ⊥) → Tests v (One IsKey) a stop None
     unfolding content
     key_none f = none_alone v (λ t q h l. by t q h)
       where
@@ -97,7 +96,7 @@ module _ (v : List ℕ) where
         let x = subst (Scalar kind) content_is s in
         leaf_stands (record { shaped = shaped_leaf x; once = leaf_once }) (scalar_content kind 0 0 (unescaped w.content) x)
 
-    pub scalar_none : {k : ℕ} → (kind ≡ 8 → ⊥) → (kind ≡ 9 → ⊥) → (Scalar kind (take n inner) → ⊥) → Tests v (One (Sane k)) a stop Bad
+    pub scalar_none : {k : ℕ} → (kind ≡ 8 → ⊥) → (kind ≡ 9 → ⊥) → (Scalar kind (take n inner) → ⊥) → Tests v (One (Sane k)) a stop None
     scalar_none {k} f g x = none_alone v (λ t q h l. by t q.shaped h)
       where
         by : {l : ℕ} (t : Tree) → Shaped l t → At v a (form t) → ⊥
@@ -141,10 +140,10 @@ module _ (v : List ℕ) where
         by false (node i j m b ts) (shaped_object x) u c d = absurd (omega arith)
 
     -- none is allowed; no members stand there
-    pub container_deep : (o : Bool) → kind ≡ container_kind o → Tests v (One (Sane 0)) a stop Bad
+    pub container_deep : (o : Bool) → kind ≡ container_kind o → Tests v (One (Sane 0)) a stop None
     container_deep o g = none_alone v (λ t q h l. let c = container_has o t g q h in omega (arith, c.one_less))
 
-    pub container_bad : {k : ℕ} (o : Bool) → kind ≡ container_kind o → Went inner o k 0 n Bad → Tests v (One (Sane (suc k))) a stop Bad
+    pub container_bad : {k : ℕ} (o : Bool) → kind ≡ container_kind o → Went inner o k 0 n None → Tests v (One (Sane (suc k))) a stop None
     container_bad {k} o g f =
         none_alone v
         (λ t q h l.
@@ -172,7 +171,7 @@ module _ (v : List ℕ) where
       closed_good d = alone v made (contained o p.many d) made_here end (rows + 1) bytes made_ends (omega (arith, p.count)) p.text w.below
 
       -- an object's keys are not distinct, so no tree without repeated keys stands here
-      pub closed_bad : o ≡ true → (Distinct p.front → ⊥) → Tests v (One (Sane (suc k))) a stop Bad
+      pub closed_bad : o ≡ true → (Distinct p.front → ⊥) → Tests v (One (Sane (suc k))) a stop None
       closed_bad e d =
           none_alone v
           (λ u s h l.

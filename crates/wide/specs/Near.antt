@@ -3,6 +3,8 @@ use Rattle.std.specs.Prelude.{◌≡◌, List, ℕ, ◌+◌, ◌-◌, ◌≤◌,
 use Rattle.std.proofs.Common.{sym, ap, ◌∙◌, arith, ext_get_or, rules}
 use Rattle.std.proofs.Math.Seq.{slice, length-slice}
 use Rattle.views.specs.Views.{viewed, place_of, Seen, Reached, run_slice}
+use Rattle.views.specs.declared.Reach.{Reach}
+use Rattle.views.specs.declared.view.View.{View}
 use Rattle.views.specs.Spans.{Lies}
 
 -- `left` bytes of the content from `at` on, before `stop`, stand from `place` on
@@ -14,6 +16,10 @@ pub record Nearby (stored starts : List ℕ) (d at stop place left : ℕ) : Type
   pub below : at + left ≤ stop
   pub within : stop ≤ length (viewed stored starts d)
   pub few : left ≤ 65535
+
+-- .. of a content, before its end
+abbrev pub Nearest : View → ℕ → Reach → Type 0
+Nearest v at r = Nearby v.stored.now v.starts.now v.d at v.n r.place r.left
 
 module _ (stored starts : List ℕ) (d at stop : ℕ) (h : Lies stored starts d at stop) where
   -- nothing is left
@@ -36,7 +42,7 @@ module _ (stored starts : List ℕ) (d at stop : ℕ) (h : Lies stored starts d 
     pub near_seen : Seen starts d at
     near_seen = record { stored = stored; few = h.few; inside_view = omega (arith, h.order, h.inside_view) }
 
-    near_run : (most place left : ℕ) → most ≤ 65535 → most ≤ stop - at → 0 < most → Reached starts d at most place left → Nearby stored starts d at stop place left
+    pub near_run : (most place left : ℕ) → most ≤ 65535 → most ≤ stop - at → 0 < most → Reached starts d at most place left → Nearby stored starts d at stop place left
     near_run most place left m n s r =
         let z = run_slice stored starts d at most place left r (omega (arith, h.order, h.inside_view)) (omega (arith, r.least, h.order, h.inside_view)) left (omega arith) in
         record {
@@ -49,11 +55,4 @@ module _ (stored starts : List ℕ) (d at stop : ℕ) (h : Lies stored starts d 
           few = omega (arith, r.least);
         }
 
-    -- more is left than one field holds, or not
-    pub near_far : (n place left : ℕ) → n ≡ stop - at → 65535 < n → Reached starts d at 65535 place left → Nearby stored starts d at stop place left
-    near_far n place left e l r = near_run 65535 place left (omega arith) (omega arith) (omega arith) r
-
-    pub near_left : (n place left : ℕ) → n ≡ stop - at → n ≤ 65535 → Reached starts d at n place left → Nearby stored starts d at stop place left
-    near_left n place left e l r = near_run n place left l (omega arith) (omega (arith, h.order)) r
-
-pub ruleset nearing = (near_none, near_seen, near_far, near_left, rules)
+pub ruleset nearing = (near_none, near_seen, near_run, rules)

@@ -11,8 +11,13 @@ use Rattle.stored.specs.Parts.{Fields}
 use Rattle.stored.proofs.PartsLaws.{cut_apart}
 use Rattle.stored.specs.Bytes.{At, at_left, at_right, at_join, at_as, at_place}
 use Rattle.sound.specs.Members.{Sane, One, one, IsKey, is_a_key, Member, pair, element}
+use Rattle.std.specs.declared.option.Option.{Option}
+use Rattle.std.specs.declared.option.Option.TheVariants.{Some, None}
 use Rattle.wide.specs.declared.Walked.{Walked}
-use Rattle.wide.specs.declared.Walked.TheVariants.{Good, Bad}
+
+-- fields up to a place, with so many rows and text bytes
+abbrev pub Good : ℕ → ℕ → ℕ → Option Walked
+Good e n b = Some (record { to = e; rows = n; bytes = b })
 
 -- the fields of one tree, and of two; their rows and their texts
 pub one_form : (t : Tree) → forms (more t none) ≡ form t
@@ -50,9 +55,9 @@ module _ (v : List ℕ) where
     pub text : b ≡ length (texts_of members)
     pub below : e ≤ stop
 
-  abbrev pub Tests : (Forest → Type 0) → ℕ → ℕ → Walked → Type 0
-  Tests Q a stop (Good e n b) = Stand Q a stop e n b
-  Tests Q a stop Bad = (ts : Forest) → Q ts → At v a (forms ts) → a + length (forms ts) ≤ stop → ⊥
+  abbrev pub Tests : (Forest → Type 0) → ℕ → ℕ → Option Walked → Type 0
+  Tests Q a stop (Some w) = Stand Q a stop w.to w.rows w.bytes
+  Tests Q a stop None = (ts : Forest) → Q ts → At v a (forms ts) → a + length (forms ts) ≤ stop → ⊥
 
   -- a tree out of its forest
   pub record Lone (P : Tree → Type 0) (a stop e n b : ℕ) : Type 0 where
@@ -78,7 +83,7 @@ module _ (v : List ℕ) where
           below = l;
         }
 
-    pub none_alone : ((t : Tree) → P t → At v a (form t) → a + length (form t) ≤ stop → ⊥) → Tests (One P) a stop Bad
+    pub none_alone : ((t : Tree) → P t → At v a (form t) → a + length (form t) ≤ stop → ⊥) → Tests (One P) a stop None
     none_alone f ts (one {t = t} q) h l = f t q (at_as (one_form t) h) (omega (arith, ap length (one_form t)))
 
     pub lone : {e n b : ℕ} → Stand (One P) a stop e n b → Lone P a stop e n b
@@ -124,17 +129,17 @@ module _ (v : List ℕ) where
       }
 
   module _ (k a stop : ℕ) where
-    pub element_tests : (q : Walked) → Tests (One (Sane k)) a stop q → Tests (Member false k) a stop q
-    element_tests (Good e n b) z = record { members = z.members; good = go z.good; here = z.here; end = z.end; rows = z.rows; text = z.text; below = z.below }
+    pub element_tests : (q : Option Walked) → Tests (One (Sane k)) a stop q → Tests (Member false k) a stop q
+    element_tests (Some w) z = record { members = z.members; good = go z.good; here = z.here; end = z.end; rows = z.rows; text = z.text; below = z.below }
       where
         go : {ts : Forest} → One (Sane k) ts → Member false k ts
         go (one s) = element s
-    element_tests Bad z = λ ts m h l. z ts (back m) h l
+    element_tests None z = λ ts m h l. z ts (back m) h l
       where
         back : {ts : Forest} → Member false k ts → One (Sane k) ts
         back (element s) = one s
 
-    pub keyless_tests : Tests (One IsKey) a stop Bad → Tests (Member true k) a stop Bad
+    pub keyless_tests : Tests (One IsKey) a stop None → Tests (Member true k) a stop None
     keyless_tests z ts m h l = by m h l
       where
         by : {ts : Forest} → Member true k ts → At v a (forms ts) → a + length (forms ts) ≤ stop → ⊥
@@ -163,7 +168,7 @@ module _ (v : List ℕ) where
           key_row : {t : Tree} → IsKey t → size t ≡ 1
           key_row (is_a_key x) = refl
 
-      pub pair_bad : Tests (One (Sane k)) e stop Bad → Tests (Member true k) a stop Bad
+      pub pair_bad : Tests (One (Sane k)) e stop None → Tests (Member true k) a stop None
       unfolding f
       pair_bad z ts m h l = by m h l
         where

@@ -12,8 +12,9 @@ use Rattle.stored.specs.Unspanned.{form_alike}
 use Rattle.stored.proofs.LengthsLaws.{forms_length, form_longer}
 use Rattle.stored.specs.Bytes.{At, at_left, at_right, at_join, at_as, at_place}
 use Rattle.sound.specs.Members.{Sane, Member, pair, element, Many, many_none, many_more, many_last}
+use Rattle.std.specs.declared.option.Option.{Option}
+use Rattle.std.specs.declared.option.Option.TheVariants.{Some, None}
 use Rattle.wide.specs.declared.Walked.{Walked}
-use Rattle.wide.specs.declared.Walked.TheVariants.{Good, Bad}
 use Rattle.wide.specs.Tests.{one_form, two_forms, key_same, Stand, Tests}
 
 pub beside_forms : (ts us : Forest) → forms (beside ts us) ≡ forms ts ++ forms us
@@ -117,7 +118,7 @@ module _ (v : List ℕ) where
           }
 
       -- no member stands here: so none in all
-      pub passed_bad : at < end → Tests v (Member o k) at end Bad → (m : ℕ) (ts : Forest) → Many (Member o k) m ts → At v from (forms ts) → from + length (forms ts) ≡ end → ⊥
+      pub passed_bad : at < end → Tests v (Member o k) at end None → (m : ℕ) (ts : Forest) → Many (Member o k) m ts → At v from (forms ts) → from + length (forms ts) ≡ end → ⊥
       unfolding content
       passed_bad l f m ts x h t = by z.members z.many z.here z.total
         where
@@ -129,6 +130,6 @@ module _ (v : List ℕ) where
           by us (many_more {ts = fs} {us = vs} q y i) g e = f fs q (front_at fs vs i g) (omega (arith, whole_length fs vs i g))
 
   -- WHAT A WALK OVER ALL MEMBERS TELLS
-  abbrev pub Went : Bool → ℕ → ℕ → ℕ → Walked → Type 0
-  Went o k from end (Good n rows bytes) = Passed o k from end end n rows bytes
-  Went o k from end Bad = (m : ℕ) (ts : Forest) → Many (Member o k) m ts → At v from (forms ts) → from + length (forms ts) ≡ end → ⊥
+  abbrev pub Went : Bool → ℕ → ℕ → ℕ → Option Walked → Type 0
+  Went o k from end (Some w) = Passed o k from end end w.to w.rows w.bytes
+  Went o k from end None = (m : ℕ) (ts : Forest) → Many (Member o k) m ts → At v from (forms ts) → from + length (forms ts) ≡ end → ⊥

@@ -1,49 +1,21 @@
 -- HEX DIGITS, LETTERED ESCAPES AND ALLOWED CHARACTERS as tests in code tell them. Assumes nothing.
-use Rattle.std.specs.Prelude.{◌≡◌, refl, Bool, true, false, ℕ, ◌+◌, ◌%◌, ◌≤◌, ◌<◌, eqb, leb}
+use Rattle.std.specs.Prelude.{◌≡◌, refl, Bool, true, false, ℕ, ◌+◌, ◌-◌, ◌%◌, ◌≤◌, ◌<◌, eqb, leb}
 use Rattle.std.proofs.Common.{sym, ap, ◌∙◌, arith, leb-true, leb-false, le-leb, eq-eqb, ne_eqb}
 use Rattle.std.proofs.Math.Decide.{ℕ_discrete}
 use Rattle.std.proofs.lemmas.Bool.{lt-leb}
 use Rattle.exact.specs.Class.{only_no}
 use Rattle.language.specs.Characters.{ascii, character}
-use Rattle.language.specs.House.{hexletter, letter}
+use Rattle.language.specs.House.{hexletter}
 
 -- a hex digit
 module _ (d : ℕ) where
   pub digit_low : d ≤ 9 → 48 + d ≡ hexletter d
   digit_low h = rw (le-leb d 9 h)
 
-  pub digit_high : 9 < d → 87 + d ≡ hexletter d
-  digit_high h = rw (lt-leb d 9 h)
+  pub digit_high : 9 < d → 97 + (d - 10) ≡ hexletter d
+  digit_high h = let e : 97 + (d - 10) ≡ 87 + d = omega arith in e ∙ rw (lt-leb d 9 h) refl
 
 pub ruleset digits = (digit_low, digit_high)
-
--- "Quote, backslash and the five lettered escapes"
-module _ (v : ℕ) where
-  pub letter_34 : v ≡ 34 → 34 ≡ letter v
-  letter_34 e = ap letter (sym e)
-
-  pub letter_92 : v ≡ 92 → 92 ≡ letter v
-  letter_92 e = ap letter (sym e)
-
-  pub letter_8 : v ≡ 8 → 98 ≡ letter v
-  letter_8 e = ap letter (sym e)
-
-  pub letter_12 : v ≡ 12 → 102 ≡ letter v
-  letter_12 e = ap letter (sym e)
-
-  pub letter_10 : v ≡ 10 → 110 ≡ letter v
-  letter_10 e = ap letter (sym e)
-
-  pub letter_13 : v ≡ 13 → 114 ≡ letter v
-  letter_13 e = ap letter (sym e)
-
-  pub letter_9 : v ≡ 9 → 116 ≡ letter v
-  letter_9 e = ap letter (sym e)
-
-  pub letter_none : (v ≡ 34 → ⊥) → (v ≡ 92 → ⊥) → (v ≡ 8 → ⊥) → (v ≡ 12 → ⊥) → (v ≡ 10 → ⊥) → (v ≡ 13 → ⊥) → (v ≡ 9 → ⊥) → 0 ≡ letter v
-  letter_none a b c d e f g = simp (only_no 34 v a, only_no 92 v b, only_no 8 v c, only_no 12 v d, only_no 10 v e, only_no 13 v f, only_no 9 v g)
-
-pub ruleset letters = (letter_34, letter_92, letter_8, letter_12, letter_10, letter_13, letter_9, letter_none)
 
 -- the characters of a document
 module _ (v : ℕ) where

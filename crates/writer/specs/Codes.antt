@@ -1,9 +1,10 @@
 -- THE CHARACTERS OF A TEXT, decoded and shown: what the code of one character asks and promises. Assumes nothing.
-use Rattle.std.specs.Prelude.{◌≡◌, refl, List, [], ◌∷◌, ◌++◌, Bool, true, false, ℕ, zero, suc, ◌+◌, ◌-◌, ◌*◌, ◌/◌, ◌%◌, ◌≤◌, ◌<◌, length, get_or, take, drop, ltb}
+use Rattle.std.specs.Prelude.{◌≡◌, refl, List, [], ◌∷◌, ◌++◌, Bool, true, false, ℕ, zero, suc, ◌+◌, ◌-◌, ◌*◌, ◌/◌, ◌%◌, ◌≤◌, ◌<◌, length, get_or, take, drop, ltb, Option, Some, None}
 use Rattle.std.proofs.Common.{sym, ap, ◌∙◌, add-zero, arith, length-append, length-drop, get_or-drop, drop-drop, ltb-true, le-leb, eq-eqb, ne_eqb}
 use Rattle.std.proofs.Math.Decide.{dec_le}
-use Rattle.std.proofs.Math.Seq.{slice, length-slice, take-append_seam, drop-append_seam}
+use Rattle.std.proofs.Math.Seq.{slice, take-append_seam, drop-append_seam}
 use Rattle.std.proofs.lemmas.Bool.{lt-leb}
+use Rattle.exact.specs.Class.{only_no}
 use Rattle.exact.specs.Place.{slice_at}
 use Rattle.language.specs.Characters.{utf8, ascii, character}
 use Rattle.language.specs.Strings.{scalar}
@@ -14,6 +15,7 @@ use Rattle.shaped.specs.Shaped.{Scripted, scripted_none, scripted_more}
 use Rattle.writer.specs.declared.Code.{Code}
 use Rattle.writer.specs.Allowed.{low_allowed}
 use Rattle.writer.specs.Puts.{ceiling, Puts, puts_none, puts_as, puts_then}
+use borrow.Author.Rules.{rules}
 
 -- the first character of a text, and what is behind it
 pub record First (s : List ℕ) : Type 0 where
@@ -58,11 +60,9 @@ pub record Coded (v a : ℕ) (r : Code) : Type 0 where
   pub value : r.value ≡ v
   pub next : r.next ≡ a + length (utf8 v)
 
--- ASKED of a character that is shown: its bytes stand from a up to e
-pub record Marks (s : List ℕ) (a e v x : ℕ) : Type 0 where
-  pub bytes : slice a e s ≡ utf8 v
-  pub from : a ≤ e
-  pub inside : e ≤ length s
+-- ASKED of a character that is shown, with its bytes s
+pub record Marks (s : List ℕ) (v x : ℕ) : Type 0 where
+  pub bytes : s ≡ utf8 v
   pub room : x + length (shown v) ≤ ceiling
 
 -- a quote, a backslash or a control
@@ -274,26 +274,66 @@ module _ (v x : ℕ) (room : x + length (92 ∷ 117 ∷ 123 ∷ hexes 6 v ++ 125
 
 pub ruleset numbering = (numbered_puts, code_room, close_room)
 
+-- what stands behind a backslash for a character, if it is written short
+pub data Lettered (v : ℕ) : Option ℕ → Type 0 where
+  unlettered : letter v ≡ 0 → Lettered v None
+  lettered : {b : ℕ} → letter v ≡ b → 0 < b → Lettered v (Some b)
+
+-- "Quote, backslash and the five lettered escapes"
+module _ (v : ℕ) where
+  pub letter_34 : v ≡ 34 → Lettered v (Some 34)
+  letter_34 e = lettered (ap letter e) (omega arith)
+
+  pub letter_92 : v ≡ 92 → Lettered v (Some 92)
+  letter_92 e = lettered (ap letter e) (omega arith)
+
+  pub letter_8 : v ≡ 8 → Lettered v (Some 98)
+  letter_8 e = lettered (ap letter e) (omega arith)
+
+  pub letter_12 : v ≡ 12 → Lettered v (Some 102)
+  letter_12 e = lettered (ap letter e) (omega arith)
+
+  pub letter_10 : v ≡ 10 → Lettered v (Some 110)
+  letter_10 e = lettered (ap letter e) (omega arith)
+
+  pub letter_13 : v ≡ 13 → Lettered v (Some 114)
+  letter_13 e = lettered (ap letter e) (omega arith)
+
+  pub letter_9 : v ≡ 9 → Lettered v (Some 116)
+  letter_9 e = lettered (ap letter e) (omega arith)
+
+  pub letter_none : (v ≡ 34 → ⊥) → (v ≡ 92 → ⊥) → (v ≡ 8 → ⊥) → (v ≡ 12 → ⊥) → (v ≡ 10 → ⊥) → (v ≡ 13 → ⊥) → (v ≡ 9 → ⊥) → Lettered v None
+  letter_none a b c d e f g =
+      unlettered (simp (only_no 34 v a, only_no 92 v b, only_no 8 v c, only_no 12 v d, only_no 10 v e, only_no 13 v f, only_no 9 v g) refl)
+
+pub ruleset letters = (letter_34, letter_92, letter_8, letter_12, letter_10, letter_13, letter_9, letter_none, rules)
+
+no_letter : {v : ℕ} → Lettered v None → letter v ≡ 0
+no_letter (unlettered e) = e
+
+a_letter : {v b : ℕ} → Lettered v (Some b) → (letter v ≡ b) × (letter v ≡ 0 → ⊥)
+a_letter (lettered e l) = (e, λ z. omega arith)
+
 -- A CHARACTER SHOWN: short, as itself, or by its number
 module _ (v : ℕ) {x y : ℕ} {out out' : List ℕ} where
-  pub shown_short : {b : ℕ} → b ≡ letter v → (b ≡ 0 → ⊥) → Puts (92 ∷ b ∷ []) x y out out' → Puts (shown v) x y out out'
-  shown_short e z h = puts_as (ap (λ k. 92 ∷ k ∷ []) e ∙ sym (short_is v (λ k. z (e ∙ k)))) h
+  pub shown_short : {b : ℕ} → Lettered v (Some b) → Puts (92 ∷ b ∷ []) x y out out' → Puts (shown v) x y out out'
+  shown_short l h = let e = a_letter l in puts_as (ap (λ k. 92 ∷ k ∷ []) (sym e.0) ∙ sym (short_is v e.1)) h
 
-  pub shown_self : {b : ℕ} (a e : ℕ) (s : List ℕ) → b ≡ letter v → b ≡ 0 → {t : Bool} → t ≡ character ascii v → t ≡ true → slice a e s ≡ utf8 v → Puts (slice a e s) x y out out' → Puts (shown v) x y out out'
-  shown_self a e s k z c w u h = puts_as (u ∙ sym (self_is v (sym k ∙ z) (sym c ∙ w))) h
+  pub shown_self : {s : List ℕ} → Lettered v None → {t : Bool} → t ≡ character ascii v → t ≡ true → s ≡ utf8 v → Puts s x y out out' → Puts (shown v) x y out out'
+  shown_self l c w u h = puts_as (u ∙ sym (self_is v (no_letter l) (sym c ∙ w))) h
 
-  pub shown_number : {b : ℕ} → b ≡ letter v → b ≡ 0 → {t : Bool} → t ≡ character ascii v → t ≡ false → Puts (92 ∷ 117 ∷ 123 ∷ hexes 6 v ++ 125 ∷ []) x y out out' → Puts (shown v) x y out out'
-  shown_number e z c w h = puts_as (sym (number_is v (sym e ∙ z) (sym c ∙ w))) h
+  pub shown_number : Lettered v None → {t : Bool} → t ≡ character ascii v → t ≡ false → Puts (92 ∷ 117 ∷ 123 ∷ hexes 6 v ++ 125 ∷ []) x y out out' → Puts (shown v) x y out out'
+  shown_number l c w h = puts_as (sym (number_is v (no_letter l) (sym c ∙ w))) h
 
 module _ (v x : ℕ) (room : x + length (shown v) ≤ ceiling) where
-  pub short_room : {b : ℕ} → b ≡ letter v → (b ≡ 0 → ⊥) → x + 2 ≤ ceiling
-  short_room e z = let n = ap length (short_is v (λ k. z (e ∙ k))) in omega arith
+  pub short_room : {b : ℕ} → Lettered v (Some b) → x + 2 ≤ ceiling
+  short_room l = let n = ap length (short_is v (a_letter l).1) in omega arith
 
-  pub self_room : {b : ℕ} (a e : ℕ) (s : List ℕ) → b ≡ letter v → b ≡ 0 → {t : Bool} → t ≡ character ascii v → t ≡ true → slice a e s ≡ utf8 v → e ≤ length s → x + (e - a) ≤ ceiling
-  self_room a i s e z c w u l = let n = ap length (self_is v (sym e ∙ z) (sym c ∙ w)) in omega (arith, length-slice a i s l, ap length u)
+  pub self_room : {s : List ℕ} → Lettered v None → {t : Bool} → t ≡ character ascii v → t ≡ true → s ≡ utf8 v → x + length s ≤ ceiling
+  self_room l c w u = let n = ap length (self_is v (no_letter l) (sym c ∙ w)) in omega (arith, ap length u)
 
-  pub number_room : {b : ℕ} → b ≡ letter v → b ≡ 0 → {t : Bool} → t ≡ character ascii v → t ≡ false → x + length (92 ∷ 117 ∷ 123 ∷ hexes 6 v ++ 125 ∷ []) ≤ ceiling
-  number_room e z c w = let n = ap length (number_is v (sym e ∙ z) (sym c ∙ w)) in omega arith
+  pub number_room : Lettered v None → {t : Bool} → t ≡ character ascii v → t ≡ false → x + length (92 ∷ 117 ∷ 123 ∷ hexes 6 v ++ 125 ∷ []) ≤ ceiling
+  number_room l c w = let n = ap length (number_is v (no_letter l) (sym c ∙ w)) in omega arith
 
 pub ruleset showing = (shown_short, shown_self, shown_number, short_room, self_room, number_room)
 
@@ -317,10 +357,10 @@ module _ (b : ℕ) where
       }
 
   module _ {x y : ℕ} {out out' : List ℕ} where
-    pub special_number : {k : ℕ} → Special b → k ≡ letter b → k ≡ 0 → Puts (92 ∷ 117 ∷ 123 ∷ hexes 6 b ++ 125 ∷ []) x y out out' → Puts (shown b) x y out out'
-    special_number h e z p = puts_as (sym (number_is b (sym e ∙ z) (h.other (sym e ∙ z)))) p
+    pub special_number : Special b → Lettered b None → Puts (92 ∷ 117 ∷ 123 ∷ hexes 6 b ++ 125 ∷ []) x y out out' → Puts (shown b) x y out out'
+    special_number h l p = let e = no_letter l in puts_as (sym (number_is b e (h.other e))) p
 
-  pub special_room : (x : ℕ) {k : ℕ} → x + length (shown b) ≤ ceiling → Special b → k ≡ letter b → k ≡ 0 → x + length (92 ∷ 117 ∷ 123 ∷ hexes 6 b ++ 125 ∷ []) ≤ ceiling
-  special_room x l h e z = let n = ap length (number_is b (sym e ∙ z) (h.other (sym e ∙ z))) in omega arith
+  pub special_room : (x : ℕ) → x + length (shown b) ≤ ceiling → Special b → Lettered b None → x + length (92 ∷ 117 ∷ 123 ∷ hexes 6 b ++ 125 ∷ []) ≤ ceiling
+  special_room x l h k = let e = no_letter k in let n = ap length (number_is b e (h.other e)) in omega arith
 
 pub ruleset specials = (shown_short, short_room, special_number, special_room)

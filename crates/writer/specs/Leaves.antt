@@ -1,12 +1,14 @@
 -- SCALARS AND KEYS: texts shown character by character, keys bare where they can be, and bytes as hex pairs. Assumes nothing.
-use Rattle.std.specs.Prelude.{◌≡◌, refl, Bool, true, false, ℕ, suc, ◌+◌, ◌-◌, ◌*◌, ◌/◌, ◌%◌, ◌≤◌, ◌<◌, set, get_or}
-use Rattle.std.proofs.Common.{sym, subst, ◌∙◌, arith, length-append, length-drop, drop-cons, ne_eqb}
+use Rattle.std.specs.Prelude.{◌≡◌, ◌⊎◌, refl, Bool, true, false, ℕ, suc, ◌+◌, ◌*◌, ◌/◌, ◌%◌, ◌≤◌, ◌<◌, set, get_or}
+use Rattle.std.proofs.Common.{inl, inr, sym, subst, ◌∙◌, arith, length-append, length-drop, drop-cons, ne_eqb}
 use Rattle.std.proofs.Math.Path.{ap}
 use mathlib.Core.List.{List, [], ◌∷◌, ◌++◌, append_assoc, append-nil}
 use Rattle.std.proofs.Math.ListN.{length, drop}
 use Rattle.std.proofs.lemmas.List.Edits.{sets}
-use Rattle.std.proofs.Math.Seq.{slice, length-slice, drop-length}
+use Rattle.std.proofs.Math.Seq.{slice, drop-length}
 use Rattle.notation.specs.Class.{pick, and, is}
+use Rattle.std.specs.List.{between as part_of}
+use Rattle.std.proofs.lemmas.Slice.{between_is}
 use Rattle.exact.specs.Place.{run}
 use Rattle.characters.specs.Plains.{RunTo}
 use Rattle.language.specs.Characters.{utf8}
@@ -47,11 +49,11 @@ pub record Shown (s : List ℕ) (x at y : ℕ) (out out' : List ℕ) : Type 0 wh
 
 -- A RUN OF CHARACTERS THAT ARE SHOWN AS THEY ARE: it has room, and is a step
 module _ (s : List ℕ) (at e : ℕ) (h : Selfs s at e) where
-  pub run_room : {x : ℕ} → Text s at x → x + (e - at) ≤ ceiling
-  run_room t = omega (arith, t.room, ap length h.is, length-append (slice at e s) (shown_text (drop e s)), length-slice at e s h.inside)
+  pub run_room : {x : ℕ} → Text s at x → x + length (part_of at e s) ≤ ceiling
+  run_room t = omega (arith, t.room, ap length h.is, length-append (slice at e s) (shown_text (drop e s)), ap length (between_is s at e))
 
-  pub step_run : {x y : ℕ} {out out' : List ℕ} → Text s at x → at < e → Puts (slice at e s) x y out out' → Steps s at x (record { at = e; x = y }) out out'
-  step_run t l p = record { bytes = slice at e s; is = h.is; puts = p; script = h.script t.script; ahead = l; inside = h.inside }
+  pub step_run : {x y : ℕ} {out out' : List ℕ} → Text s at x → at < e → Puts (part_of at e s) x y out out' → Steps s at x (record { at = e; x = y }) out out'
+  step_run t l p = record { bytes = slice at e s; is = h.is; puts = puts_as (between_is s at e) p; script = h.script t.script; ahead = l; inside = h.inside }
 
 -- ---- a character
 
@@ -66,12 +68,17 @@ module _ (s : List ℕ) (at x : ℕ) (t : Text s at x) (l : at < length s) where
     next_is : drop c.next s ≡ text_leads.rest
     next_is = ap (λ i. drop i s) k.next ∙ lead_rest s at text_leads
 
-    pub char_marks : Marks s at c.next c.value x
+    -- its bytes stand from `at` on
+    pub char_from : at ≤ c.next
+    char_from = omega (arith, k.next)
+
+    pub char_inside : c.next ≤ length s
+    char_inside = omega (arith, k.next, lead_inside s at text_leads l)
+
+    pub char_marks : Marks (part_of at c.next s) c.value x
     char_marks =
         record {
-          bytes = ap (λ i. slice at i s) k.next ∙ (lead_bytes s at text_leads ∙ ap utf8 (sym k.value));
-          from = omega (arith, k.next);
-          inside = omega (arith, k.next, lead_inside s at text_leads l);
+          bytes = between_is s at c.next ∙ (ap (λ i. slice at i s) k.next ∙ (lead_bytes s at text_leads ∙ ap utf8 (sym k.value)));
           room =
               let e = ap length (ap (λ v. shown v) k.value) in
               omega (arith, t.room, ap length char_is, length-append (shown text_leads.value) (shown_text text_leads.rest));
@@ -181,26 +188,28 @@ module _ (s : List ℕ) {e : ℕ} (h : RunTo keybyte s 0 e) where
   whole : (e ≡ 0 → ⊥) → length s ≤ e → bareable s ≡ true
   whole z l = bare_yes s (omega (arith, run_at, h.inside)) (omega (arith, h.inside, z))
 
-  pub key_empty : {x y : ℕ} {out out' : List ℕ} → e ≡ 0 → Puts (quoted s) x y out out' → Puts (scalar_text 10 s) x y out out'
-  key_empty z p = puts_as (sym (key_quoted_is s (empty z))) p
+  -- told by code
+  abbrev pub Other : Type 0
+  Other = (e ≡ 0) ⊎ ((e ≡ 0 → ⊥) × (e < length s))
 
-  pub key_other : {x y : ℕ} {out out' : List ℕ} → e < length s → Puts (quoted s) x y out out' → Puts (scalar_text 10 s) x y out out'
-  key_other l p = puts_as (sym (key_quoted_is s (other l))) p
+  no_bare : Other → bareable s ≡ false
+  no_bare (inl z) = empty z
+  no_bare (inr (n, l)) = other l
+
+  pub key_quoted : {x y : ℕ} {out out' : List ℕ} → Other → Puts (quoted s) x y out out' → Puts (scalar_text 10 s) x y out out'
+  key_quoted o p = puts_as (sym (key_quoted_is s (no_bare o))) p
 
   pub key_bare : {x y : ℕ} {out out' : List ℕ} → (e ≡ 0 → ⊥) → length s ≤ e → Puts s x y out out' → Puts (scalar_text 10 s) x y out out'
   key_bare z l p = puts_as (sym (key_bare_is s (whole z l))) p
 
   module _ (x : ℕ) (room : x + length (scalar_text 10 s) ≤ ceiling) where
-    pub empty_room : e ≡ 0 → x + length (quoted s) ≤ ceiling
-    empty_room z = subst (λ w. x + length w ≤ ceiling) (key_quoted_is s (empty z)) room
-
-    pub other_room : e < length s → x + length (quoted s) ≤ ceiling
-    other_room l = subst (λ w. x + length w ≤ ceiling) (key_quoted_is s (other l)) room
+    pub quoted_room : Other → x + length (quoted s) ≤ ceiling
+    quoted_room o = subst (λ w. x + length w ≤ ceiling) (key_quoted_is s (no_bare o)) room
 
     pub bare_room : (e ≡ 0 → ⊥) → length s ≤ e → x + length s ≤ ceiling
     bare_room z l = subst (λ w. x + length w ≤ ceiling) (key_bare_is s (whole z l)) room
 
-pub ruleset keying = (key_empty, key_other, key_bare, empty_room, other_room, bare_room)
+pub ruleset keying = (key_quoted, key_bare, quoted_room, bare_room)
 
 -- ---- "inline bytes without spaces"
 
@@ -212,18 +221,15 @@ length_pairs (b ∷ s) = let e = length_pairs s in omega arith
 pub pairs_none : (s out : List ℕ) (x : ℕ) → length out ≤ x → Puts (hex_pairs s) x (x + 2 * length s) out out
 pairs_none s out x h = record { ends = omega (arith, length_pairs s); holds = sets_past (hex_pairs s) out x h }
 
-pub pairs_turn : (goal s out mid new : List ℕ) (x at d e : ℕ) → goal ≡ sets out (x + 2 * at) (hex_pairs (drop at s)) → at < length s
-    → d ≡ hexletter (get_or s at 0 / 16) → mid ≡ set out (x + 2 * at) d → e ≡ hexletter (get_or s at 0 % 16) → new ≡ set mid (x + 2 * at + 1) e
-    → goal ≡ sets new (x + 2 * (at + 1)) (hex_pairs (drop (at + 1) s))
+pub pairs_turn : (goal s out new : List ℕ) (x y at d e : ℕ) → goal ≡ sets out (x + 2 * at) (hex_pairs (drop at s)) → at < length s
+    → d ≡ hexletter (get_or s at 0 / 16) → e ≡ hexletter (get_or s at 0 % 16) → Puts (d ∷ e ∷ []) (x + 2 * at) y out new → goal ≡ sets new (x + 2 * (at + 1)) (hex_pairs (drop (at + 1) s))
 unfolding hex_pairs
-pairs_turn goal s out mid new x at d e inv l p q r t =
+pairs_turn goal s out new x y at d e inv l p r t =
     let b = get_or s at 0 in
-    let rest = hex_pairs (drop (suc at) s) in
     let n : x + 2 * (at + 1) ≡ suc (suc (x + 2 * at)) = omega arith in
     let m : at + 1 ≡ suc at = omega arith in
-    let k : x + 2 * at + 1 ≡ suc (x + 2 * at) = omega arith in
     let w : new ≡ set (set out (x + 2 * at) (hexletter (b / 16))) (suc (x + 2 * at)) (hexletter (b % 16)) =
-    t ∙ (ap (λ i. set mid i e) k ∙ (ap (λ u. set u (suc (x + 2 * at)) e) (q ∙ ap (set out (x + 2 * at)) p) ∙ ap (set (set out (x + 2 * at) (hexletter (b / 16))) (suc (x + 2 * at))) r)) in
+    t.holds ∙ (ap (λ i. set (set out (x + 2 * at) i) (suc (x + 2 * at)) e) p ∙ ap (set (set out (x + 2 * at) (hexletter (b / 16))) (suc (x + 2 * at))) r) in
     inv ∙ (ap (λ u. sets out (x + 2 * at) (hex_pairs u)) (drop-cons s at 0 l) ∙ rw (n, m, w))
 
 pub pairs_done : (s out new : List ℕ) (x at : ℕ) → sets out x (hex_pairs s) ≡ sets new (x + 2 * at) (hex_pairs (drop at s)) → at ≤ length s → length s ≤ at

@@ -1,9 +1,9 @@
 -- BYTES WRITTEN AT A PLACE (`Puts`), one behind another. A store past the output's end changes nothing. Assumes nothing.
-use Rattle.std.specs.Prelude.{◌≡◌, refl, List, [], ◌∷◌, ◌++◌, ℕ, zero, suc, ◌+◌, ◌-◌, ◌≤◌, ◌<◌, length, set}
-use Rattle.std.proofs.Common.{sym, ap, subst, ◌∙◌, arith, length-append}
-use Rattle.std.proofs.lemmas.List.Edits.{sets}
-use Rattle.std.proofs.Math.Seq.{slice, length-slice, length-sets, take-length}
-use Rattle.exact.specs.Place.{slice_join}
+use Rattle.std.specs.Prelude.{◌≡◌, ◌⊎◌, refl, List, [], ◌∷◌, ◌++◌, ℕ, zero, suc, ◌+◌, ◌-◌, ◌≤◌, ◌<◌, min, length, set, take, drop}
+use Rattle.std.proofs.Common.{inl, inr, sym, ap, subst, ◌∙◌, arith, length-append, take_all, take-append-drop}
+use Rattle.std.proofs.Math.Decide.{dec_le}
+use Rattle.std.proofs.lemmas.List.Edits.{sets, sets-eq}
+use Rattle.std.proofs.Math.Seq.{paste, length-sets, length-take-le}
 use Rattle.language.specs.BlockText.{spaces}
 use Rattle.rooms.specs.Stores.{sets_append, sets_past}
 
@@ -54,39 +54,33 @@ pub length_spaces : (n : ℕ) → length (spaces n) ≡ n
 length_spaces zero = refl
 length_spaces (suc n) = ap suc (length_spaces n)
 
--- where not all bytes have room, those that have it are written
-pub part_past : (room out out' : List ℕ) (a b e x : ℕ) → a ≤ b → b ≤ e → e ≤ length room → length out ≤ x + (b - a)
-    → out' ≡ sets out x (slice a b room) → out' ≡ sets out x (slice a e room)
-part_past room out out' a b e x h k l m w =
-    let u = slice a b room in
-    let v = slice b e room in
-    let n : length u ≡ b - a = length-slice a b room (omega arith) in
-    let q : length (sets out x u) ≡ length out = length-sets out x u in
-    w ∙ (sets_past v (sets out x u) (x + length u) (omega arith) ∙ (sym (sets_append out x u v) ∙ ap (sets out x) (slice_join a b e room h k)))
+-- where not all bytes of a text have room, those that have it are written
+pub put_some : (text out : List ℕ) (x n : ℕ) → x + n ≤ length out → n ≤ length text → (length text ≤ n) ⊎ (length out ≤ x + n) → sets out x (take n text) ≡ sets out x text
+put_some text out x n h k (inl l) = ap (sets out x) (take_all n text l)
+put_some text out x n h k (inr l) =
+    let u = take n text in
+    let v = drop n text in
+    let m : length u ≡ n = length-take-le n text k in
+    sets_past v (sets out x u) (x + length u) (omega (arith, length-sets out x u))
+    ∙ (sym (sets_append out x u v) ∙ ap (sets out x) (take-append-drop n text))
 
-module _ (room out : List ℕ) (a e x y : ℕ) (ends : y ≡ x + (e - a)) (inside : e ≤ length room) where
-  -- no byte has room
-  pub part_none : length out ≤ x → Puts (slice a e room) x y out out
-  part_none h = record { ends = omega (arith, length-slice a e room inside); holds = sets_past (slice a e room) out x h }
+pub all_none : (text out : List ℕ) (x y : ℕ) → y ≡ x + length text → length out ≤ x → Puts text x y out out
+all_none text out x y e h = record { ends = e; holds = sets_past text out x h }
 
-  pub part_whole : {out' : List ℕ} → out' ≡ sets out x (slice a e room) → Puts (slice a e room) x y out out'
-  part_whole h = record { ends = omega (arith, length-slice a e room inside); holds = h }
-
-  pub part_some : {out' : List ℕ} (n : ℕ) → a ≤ e → n ≡ length out - x → n < e - a → out' ≡ sets out x (slice a (a + n) room) → Puts (slice a e room) x y out out'
-  part_some {out'} n h k l w =
-      record {
-        ends = omega (arith, length-slice a e room inside);
-        holds = part_past room out out' a (a + n) e x (omega arith) (omega arith) inside (omega arith) w;
-      }
-
-pub ruleset parts = (part_none, part_whole, part_some)
-
--- a room whole
-pub slice_all : (l : List ℕ) → slice 0 (length l) l ≡ l
-slice_all l = take-length l
-
-pub puts_all : {room : List ℕ} {x y : ℕ} {out out' : List ℕ} → Puts (slice 0 (length room) room) x y out out' → Puts room x y out out'
-puts_all {room} h = puts_as (slice_all room) h
+-- as many bytes of a text as have room, copied by the loop
+pub all_put : (text out out' : List ℕ) (x y n : ℕ) → y ≡ x + length text → x ≤ length out → n ≡ min (length text) (length out - x) → out' ≡ paste out x text n → Puts text x y out out'
+all_put text out out' x y n e h f w =
+    let k : n ≤ length text = omega arith in
+    let m : x + length (take n text) ≡ x + n = omega (arith, length-take-le n text k) in
+    let s : paste out x text n ≡ sets out x (take n text) = sym (sets-eq (take n text) out x (omega arith) ∙ ap (λ j. take x out ++ take n text ++ drop j out) m) in
+    record { ends = e; holds = w ∙ (s ∙ put_some text out x n (omega arith) k (less (length text) (length out) n f)) }
+  where
+    less : (a b n : ℕ) → n ≡ min a (b - x) → (a ≤ n) ⊎ (b ≤ x + n)
+    less a b n e = by (dec_le a n)
+      where
+        by : Dec (a ≤ n) → (a ≤ n) ⊎ (b ≤ x + n)
+        by (yes l) = inl l
+        by (no l) = inr (omega arith)
 
 -- a turn of the loop that writes spaces, and its end
 pub spaces_turn : (goal out new : List ℕ) (x n i : ℕ) → goal ≡ sets out (x + i) (spaces (n - i)) → i < n → new ≡ set out (x + i) 32

@@ -45,6 +45,9 @@ selfs_then {s} {at} {b} {e} h k =
       script = λ x. k.script (h.script x);
     }
 
+pub selfs_as : {s : List ℕ} {at e f : ℕ} → Selfs s at e → e ≡ f → Selfs s at f
+selfs_as {s} {at} h e = subst (λ (i : ℕ). Selfs s at i) e h
+
 -- ---- plain bytes are shown as they are
 
 plain_small : (b : ℕ) → is (plain_of 34) b ≡ true → b ≤ 127

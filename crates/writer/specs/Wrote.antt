@@ -11,6 +11,7 @@ use Rattle.language.specs.Sound.{Sound}
 use Rattle.language.specs.House.{house}
 use Rattle.language.specs.Written.{Sounded, is_sound, unsound, Written, fits, bad, long, needs}
 use Rattle.shaped.specs.Holds.{profile_shaped, holds_at}
+use Rattle.writer.specs.declared.TheConstants.{ROWS, BYTES}
 use Rattle.writer.specs.Puts.{Puts}
 use Rattle.writer.specs.Lines.{Root}
 use Rattle.writer.specs.Bound.{house_most}
@@ -87,7 +88,7 @@ module _ (rows : ℕ) (text out : List ℕ) where
   pub roomy_not : Roomy rows text out false
   roomy_not e = absurd (clash e refl)
 
-  pub roomy_yes : (m : ℕ) → m ≡ bytes_in out → rows ≤ 5000 → length text ≤ 50000 → 100 * rows + 10 * length text ≤ m → Roomy rows text out true
+  pub roomy_yes : (m : ℕ) → m ≡ bytes_in out → rows ≤ ROWS → length text ≤ BYTES → 100 * rows + 10 * length text ≤ m → Roomy rows text out true
   roomy_yes m f k l h e = record { short = omega arith; fits = omega arith }
 
 pub ruleset rooming = (roomy_not, roomy_yes, rules)

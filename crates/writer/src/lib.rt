@@ -11,9 +11,15 @@ mod runs;
 ghost use Rattle.language.specs.Written.{wrote_number, wrote_count, Written};
 ghost use Rattle.writer.specs.Wrote.{Roomy};
 
-use language::{LIMIT, Wrote, bytes_lent};
-use lines::{count, house};
+use language::{LIMIT, WriteRefusal, bytes_lent};
 use sound::sound;
+
+// A table and its text.
+#[derive(Clone, Copy)]
+struct Profile<'a> {
+    table: &'a [u32],
+    text: &'a [u8],
+}
 
 // A character: its scalar value, and the place behind its bytes.
 #[derive(Clone, Copy)]
@@ -38,35 +44,28 @@ const BYTES: usize = 50000;
 fn roomy(rows: usize, text: &[u8], out: &[u8]) -> bool
     ensures { Roomy rows text.now out.now result }
 {
-    if ROWS < rows {
-        return false;
-    }
-    if BYTES < text.len() {
-        return false;
-    }
-    if bytes_lent(&*out) < 100 * rows + 10 * text.len() {
-        return false;
-    }
-    true
+    rows <= ROWS && text.len() <= BYTES && 100 * rows + 10 * text.len() <= bytes_lent(out)
 }
 
 // Writes a profile into the output lent; a refusal leaves it as it came.
-pub fn write(table: &[u32], rows: usize, text: &[u8], out: &mut [u8]) -> Wrote
+#[tactic(auto, using(crate::specs::Wrote::writing))]
+pub fn write(table: &[u32], rows: usize, text: &[u8], out: &mut [u8]) -> Result<usize, WriteRefusal>
     ensures { Written table.now rows text.now out.old (wrote_number result) (wrote_count result) out.new }
 {
-    if sound(&*table, rows, &*text) {
-        if roomy(rows, &*text, &*out) {
-            return Wrote::Done(house(&*table, &*text, out));
-        }
-        let n = count(&*table, &*text);
-        if LIMIT < n {
-            return Wrote::TooLong;
-        }
-        if bytes_lent(&*out) < n {
-            return Wrote::TooShort(n);
-        }
-        house(&*table, &*text, out);
-        return Wrote::Done(n);
+    if !sound(table, rows, text) {
+        return Err(WriteRefusal::BadRow);
     }
-    Wrote::BadRow
+    let profile = Profile { table, text };
+    if roomy(rows, text, out) {
+        return Ok(profile.house(out));
+    }
+    let n = profile.count();
+    if LIMIT < n {
+        return Err(WriteRefusal::TooLong);
+    }
+    if bytes_lent(out) < n {
+        return Err(WriteRefusal::TooShort(n));
+    }
+    profile.house(out);
+    Ok(n)
 }

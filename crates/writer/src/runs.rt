@@ -1,4 +1,5 @@
 // Runs of characters that are shown as they are: found at once, and copied at once.
+// Stays (points 5, 6): `Scripted` is asked of the bytes from `at` on, other bytes at each call, and n is how far to look at most.
 ghost use Rattle.std.specs.Prelude.{◌≡◌, true, ◌+◌, ◌≤◌, ◌<◌, length, get_or, drop};
 ghost use Rattle.shaped.specs.Shaped.{Scripted};
 ghost use Rattle.writer.specs.Runs.{Selfs, Here};
@@ -12,12 +13,10 @@ fn all_plain(s: &[u8], at: usize, many: usize) -> bool
     ensures { result ≡ true → Selfs s.now at (at + many) }
 {
     let mut n = 0;
-    let mut i = 0;
-    while i < many {
-        if is_plain(s[at + i], 34) {
+    for i in 0..many {
+        if is_plain(s[at + i], b'"') {
             n += 1;
         }
-        i += 1;
     }
     n == many
 }
@@ -27,15 +26,13 @@ fn plain_blocks(s: &[u8], at: usize) -> usize
     requires { at ≤ length s.now }
     ensures { Selfs s.now at result }
 {
-    let mut e = at;
-    while 16 <= s.len() - e {
-        if all_plain(&*s, e, 16) {
-            e += 16;
-        } else {
-            return e;
+    let blocks = (s.len() - at) / 16;
+    for k in 0..blocks {
+        if !all_plain(s, at + 16 * k, 16) {
+            return at + 16 * k;
         }
     }
-    e
+    at + 16 * blocks
 }
 
 // The place behind the plain bytes that stand at `at`, n of them at most.
@@ -43,18 +40,13 @@ fn plain_near(s: &[u8], at: usize, n: usize) -> usize
     requires { at ≤ length s.now }
     ensures { Selfs s.now at result }
 {
-    let mut e = at;
-    while e < s.len() {
-        if e - at == n {
-            return e;
-        }
-        if is_plain(s[e], 34) {
-            e += 1;
-        } else {
+    let end = at + n.min(s.len() - at);
+    for e in at..end {
+        if !is_plain(s[e], b'"') {
             return e;
         }
     }
-    e
+    end
 }
 
 // The place behind 8 plain bytes, if they stand at `at`; or else `at`.
@@ -62,10 +54,7 @@ fn plain_half(s: &[u8], at: usize) -> usize
     requires { at ≤ length s.now }
     ensures { Selfs s.now at result }
 {
-    if s.len() - at < 8 {
-        return at;
-    }
-    if all_plain(&*s, at, 8) {
+    if 8 <= s.len() - at && all_plain(s, at, 8) {
         return at + 8;
     }
     at
@@ -76,13 +65,13 @@ fn plain_end(s: &[u8], at: usize) -> usize
     requires { at ≤ length s.now }
     ensures { Selfs s.now at result }
 {
-    let near = plain_near(&*s, at, 4);
+    let near = plain_near(s, at, 4);
     if near - at < 4 {
         return near;
     }
-    let far = plain_blocks(&*s, near);
-    let half = plain_half(&*s, far);
-    plain_near(&*s, half, s.len())
+    let far = plain_blocks(s, near);
+    let half = plain_half(s, far);
+    plain_near(s, half, s.len())
 }
 
 // The place behind the character of several bytes at `at`, if it is shown as it is; or else `at`.
@@ -90,7 +79,7 @@ fn rare_end(s: &[u8], at: usize) -> usize
     requires { Here s.now at × (127 < get_or s.now at 0) }
     ensures { Selfs s.now at result }
 {
-    let c = code(&*s, at);
+    let c = code(s, at);
     if allowed(c.value) {
         return c.next;
     }
@@ -102,20 +91,12 @@ fn wide_end(s: &[u8], at: usize) -> usize
     requires { Here s.now at }
     ensures { Selfs s.now at result }
 {
-    let b = s[at];
-    if b < 128 {
-        return at;
+    match s[at] {
+        0..=127 => at,
+        195..=223 => at + 2,
+        224..=236 => at + 3,
+        _ => rare_end(s, at),
     }
-    if b < 195 {
-        return rare_end(&*s, at);
-    }
-    if b <= 223 {
-        return at + 2;
-    }
-    if b <= 236 {
-        return at + 3;
-    }
-    rare_end(&*s, at)
 }
 
 // The place behind the characters of several bytes at `at` that are shown as they are: most stand beside others.
@@ -125,7 +106,7 @@ fn wides(s: &[u8], at: usize) -> usize
 {
     let mut e = at;
     while e < s.len() {
-        let n = wide_end(&*s, e);
+        let n = wide_end(s, e);
         if n == e {
             return e;
         }
@@ -139,13 +120,13 @@ pub fn run(s: &[u8], at: usize) -> usize
     requires { Scripted (drop at s.now) × (at ≤ length s.now) }
     ensures { Selfs s.now at result }
 {
-    let mut e = plain_end(&*s, at);
+    let mut e = plain_end(s, at);
     while e < s.len() {
-        let n = wides(&*s, e);
+        let n = wides(s, e);
         if n == e {
             return e;
         }
-        e = plain_end(&*s, n);
+        e = plain_end(s, n);
     }
     e
 }

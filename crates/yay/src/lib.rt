@@ -1,4 +1,5 @@
 // The C interface: each function answers a number of documents 01 and 02, 0 for none, and puts its values where it is told.
+// Stays (points 1, 5): the C interface. A number with its values behind pointers, and tables as words, rows and text, are what include/yay.h declares.
 #![tactic(auto)]
 
 ghost use Rattle.exports.specs.Exports.{FoundAt, ComparedTo, TextAt};
@@ -11,9 +12,12 @@ ghost use Rattle.stored.specs.Loaded.{Loads};
 ghost use Rattle.std.specs.Prelude.{◌≡◌, ◌+◌, ◌*◌, ◌<◌, length, get_or};
 ghost use Rattle.language.specs.Tree.{width};
 
-use integers::Compared;
-use language::{Row, WIDTH, Wrote};
-use questions::Found;
+use integers::NotInt;
+use language::{Row, WIDTH};
+use overlay::{overlay_first, overlay_number, overlay_second};
+use questions::BadRow;
+use std::cmp::Ordering;
+use stored::{loading_number, loading_second, loading_value, storing_count, storing_number};
 
 // 0 with the counts of rows, text bytes and escapes; or the number of a refusal with its place, or what is needed, 0 and 0.
 #[unsafe(no_mangle)]
@@ -28,11 +32,11 @@ pub extern "C" fn yay_read(
     ensures answered { Answered doc.now table.old text.old result first.new second.new table.new text.new }
     ensures totals { Totals doc.now result third.new }
 {
-    let answer = reader::read(&*doc, table, text);
-    *first = answer.value();
-    *second = answer.second();
-    *third = answer.third();
-    answer.number()
+    let answer = reader::read(doc, table, text);
+    *first = language::value(answer);
+    *second = language::second(answer);
+    *third = language::third(answer);
+    language::number(answer)
 }
 
 // 0 with the row of the key's value; or 9 or 10 with 0.
@@ -47,16 +51,16 @@ pub extern "C" fn yay_find(
 ) -> u32
     ensures { FoundAt table.now rows text.now object key.now result value.new }
 {
-    match questions::find(&*table, rows, &*text, Row(object), &*key) {
-        Found::At(row) => {
+    match questions::find(table, rows, text, Row(object), key) {
+        Ok(Some(row)) => {
             *value = row.0;
             0
         }
-        Found::Missing => {
+        Ok(None) => {
             *value = 0;
             10
         }
-        Found::BadRow => {
+        Err(BadRow) => {
             *value = 0;
             9
         }
@@ -68,20 +72,20 @@ pub extern "C" fn yay_find(
 pub extern "C" fn yay_compare(left: &[u8], right: &[u8], order: &mut i32) -> u32
     ensures { ComparedTo left.now right.now result order.new }
 {
-    match integers::compare(&*left, &*right) {
-        Compared::Less => {
+    match integers::compare(left, right) {
+        Ok(Ordering::Less) => {
             *order = -1;
             0
         }
-        Compared::Equal => {
+        Ok(Ordering::Equal) => {
             *order = 0;
             0
         }
-        Compared::Greater => {
+        Ok(Ordering::Greater) => {
             *order = 1;
             0
         }
-        Compared::NotInt => {
+        Err(NotInt) => {
             *order = 0;
             11
         }
@@ -108,9 +112,9 @@ pub extern "C" fn yay_text(
 ) -> u32
     ensures { TextAt table.now rows text.now row result from.new to.new }
 {
-    if questions::text_number(&*table, rows, &*text, Row(row)) == 0 {
-        *from = word(&*table, row, 3);
-        *to = word(&*table, row, 4);
+    if questions::text_number(table, rows, text, Row(row)) == 0 {
+        *from = word(table, row, 3);
+        *to = word(table, row, 4);
         return 0;
     }
     *from = 0;
@@ -123,10 +127,11 @@ pub extern "C" fn yay_text(
 pub extern "C" fn yay_sound(table: &[u32], rows: usize, text: &[u8]) -> u32
     ensures { Sounded table.now rows text.now result }
 {
-    if sound::sound(&*table, rows, &*text) {
-        return 0;
+    if sound::sound(table, rows, text) {
+        0
+    } else {
+        9
     }
-    9
 }
 
 // 0 with the bytes written; 8 with the bytes needed; or 9 or 1 with 0.
@@ -140,24 +145,9 @@ pub extern "C" fn yay_write(
 ) -> u32
     ensures { Written table.now rows text.now out.old result count.new out.new }
 {
-    match writer::write(&*table, rows, &*text, out) {
-        Wrote::Done(n) => {
-            *count = n;
-            0
-        }
-        Wrote::BadRow => {
-            *count = 0;
-            9
-        }
-        Wrote::TooLong => {
-            *count = 0;
-            1
-        }
-        Wrote::TooShort(n) => {
-            *count = n;
-            8
-        }
-    }
+    let answer = writer::write(table, rows, text, out);
+    *count = language::wrote_count(answer);
+    language::wrote_number(answer)
 }
 
 // 0 with 1 to install, 2 to keep or 3 where the floor blocks it; or 14 or 15 with 0.
@@ -174,15 +164,15 @@ pub extern "C" fn yay_decide(
     ensures { Decides sheet.now sheet_rows sheet_text.now installed.now installed_rows installed_text.now result decision.new }
 {
     let answer = decide::decide(
-        &*sheet,
+        sheet,
         sheet_rows,
-        &*sheet_text,
-        &*installed,
+        sheet_text,
+        installed,
         installed_rows,
-        &*installed_text,
+        installed_text,
     );
-    *decision = answer.value();
-    answer.number()
+    *decision = upgrade::value(answer);
+    upgrade::number(answer)
 }
 
 // 0 with the rows and the text bytes of the result; 7 and 8 with what is needed and 0; or 9 or 16 with 0 and 0.
@@ -202,18 +192,11 @@ pub extern "C" fn yay_overlay(
     ensures { Overlaid lower.now lower_rows lower_text.now upper.now upper_rows upper_text.now table.old text.old result first.new second.new table.new text.new }
 {
     let answer = lay::overlay(
-        &*lower,
-        lower_rows,
-        &*lower_text,
-        &*upper,
-        upper_rows,
-        &*upper_text,
-        table,
-        text,
+        lower, lower_rows, lower_text, upper, upper_rows, upper_text, table, text,
     );
-    *first = answer.first();
-    *second = answer.second();
-    answer.number()
+    *first = overlay_first(answer);
+    *second = overlay_second(answer);
+    overlay_number(answer)
 }
 
 // 0 with the bytes stored; 8 with the bytes needed; or 9 with 0.
@@ -227,9 +210,9 @@ pub extern "C" fn yay_store(
 ) -> u32
     ensures { Stores table.now rows text.now out.old result count.new out.new }
 {
-    let answer = store::store(&*table, rows, &*text, out);
-    *count = answer.count();
-    answer.number()
+    let answer = store::store(table, rows, text, out);
+    *count = storing_count(answer);
+    storing_number(answer)
 }
 
 // 0 with the counts of rows and text bytes; 7 or 8 with what is needed and 0; or 13 with 0 and 0.
@@ -243,8 +226,8 @@ pub extern "C" fn yay_load(
 ) -> u32
     ensures { Loads stored.now table.old text.old result first.new second.new table.new text.new }
 {
-    let answer = load::load(&*stored, table, text);
-    *first = answer.value();
-    *second = answer.second();
-    answer.number()
+    let answer = load::load(stored, table, text);
+    *first = loading_value(answer);
+    *second = loading_second(answer);
+    loading_number(answer)
 }

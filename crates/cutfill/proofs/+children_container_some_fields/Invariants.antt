@@ -8,16 +8,16 @@ use Rattle.cutfill.proofs.+children_container_some_fields.Given as goal
 
 abbrev pub invariant-children-loop-at : goal.invariant-children-loop-at
 invariant-children-loop-at l =
-    ((h : FillCut l.stored l.starts l.d 0 l.stop l.r l.up l.x) → Left l.stored l.starts l.d h.trees l.stop l.r l.up l.x l.at l.row l.y l.n l.initial.table l.table l.initial.text l.text) × (length l.table ≡ length l.initial.table) × (length l.text ≡ length l.initial.text)
+    ((h : FillCut l.v.stored.now l.v.starts.now l.v.d 0 l.v.n l.r l.up l.x) → Left l.v.stored.now l.v.starts.now l.v.d h.trees l.v.n l.r l.up l.x l.at l.row l.y l.n l.initial.table l.table l.initial.text l.text) × (length l.table ≡ length l.initial.table) × (length l.text ≡ length l.initial.text)
 
 abbrev pub decreases-children-loop-at : goal.decreases-children-loop-at
-decreases-children-loop-at l = l.stop - l.at
+decreases-children-loop-at l = l.v.n - l.at
 
 abbrev pub decreases-children : goal.decreases-children
-decreases-children l = 3 * l.stop + 2
+decreases-children l = 3 * l.v.n + 2
 
 abbrev pub decreases-container : goal.decreases-container
-decreases-container l = 3 * (l.end - l.at)
+decreases-container l = 3 * (l.f.end - l.at)
 
 abbrev pub decreases-some_fields : goal.decreases-some_fields
-decreases-some_fields l = 3 * (l.stop - l.at) + 1
+decreases-some_fields l = 3 * (l.v.n - l.at) + 1

@@ -2,14 +2,14 @@
 use Rattle.cutkeys.specs.Apart.{telling}
 use Rattle.cutkeys.proofs.apart.Goals as goal
 
+pub returns-else-windows : goal.returns-else-windows
+returns-else-windows c = let v = c.args.v.content in rw c.if-windows.false (search (v, telling))
+
 pub windows-requires : goal.windows-requires
-windows-requires c = search telling
+windows-requires c = let v = c.args.v.content in search (v, telling)
 
 pub cut_apart-requires : goal.cut_apart-requires
-cut_apart-requires c = search telling
+cut_apart-requires c = let v = c.args.v.content in search (v, telling)
 
 pub returns-then-windows : goal.returns-then-windows
-returns-then-windows c = search telling
-
-pub returns : goal.returns
-returns c = search telling
+returns-then-windows c = let v = c.args.v.content in search (v, telling)

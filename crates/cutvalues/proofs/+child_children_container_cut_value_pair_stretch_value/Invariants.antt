@@ -1,14 +1,15 @@
--- The cycle of values and containers meets its contracts. The allowance falls from a container to what is inside it; in the loop, the bytes that are left fall.
-use Rattle.cutvalues.proofs.CycleLaws.{Going}
+-- The cycle of values and members: a container has one container less allowed for what is inside it, and in the loop fewer bytes are left.
+use Rattle.wide.specs.Walk.{Passed}
+use Rattle.views.specs.Contents.{all}
 use Prim.Native.Nat.{◌+◌, ◌-◌, ◌*◌}
 use Rattle.cutvalues.proofs.+child_children_container_cut_value_pair_stretch_value.Given as goal
 
 abbrev pub invariant-children-loop-at : goal.invariant-children-loop-at
 invariant-children-loop-at l =
-    Going l.stored l.starts l.d l.object l.allow l.n l.at l.members l.rows l.bytes
+    Passed (all l.v) l.object l.allow 0 l.v.n l.at l.members l.rows l.bytes
 
 abbrev pub decreases-children-loop-at : goal.decreases-children-loop-at
-decreases-children-loop-at l = l.n - l.at
+decreases-children-loop-at l = l.v.n - l.at
 
 abbrev pub decreases-child : goal.decreases-child
 decreases-child l = 8 * l.allow + 6

@@ -1,24 +1,12 @@
--- `cut_key` tells whether a key stands there that is cut.
-use Rattle.cutvalues.proofs.CutLaws.{extending}
+-- `cut_key` asks the field for its extent.
+use Rattle.cutvalues.proofs.CutLaws.{extent_no_key, extent_other, extent_key}
 use Rattle.cutvalues.proofs.cut_key.Goals as goal
 
-pub extent-requires : goal.extent-requires
-extent-requires c = search extending
+pub returns-in_err-f : goal.returns-in_err-f
+returns-in_err-f c = rw c.from_residual.ensures (extent_no_key _ _ _ _ c.extent.ensures c.in_err-f.was)
 
-pub enum_told-1 : goal.enum_told-1
-enum_told-1 c = search extending
-
-pub enum_known-tag : goal.enum_known-tag
-enum_known-tag c = search extending
-
-pub returns-then-tag-ne10 : goal.returns-then-tag-ne10
-returns-then-tag-ne10 c = search extending
+pub returns-then-f-ne10 : goal.returns-then-f-ne10
+returns-then-f-ne10 c = extent_other _ _ _ _ c.extent.ensures _ c.in_ok-f.was c.if-f-ne10.true
 
 pub named-requires : goal.named-requires
-named-requires c = search extending
-
-pub returns-in-Nothing : goal.returns-in-Nothing
-returns-in-Nothing c = search extending
-
-pub returns-else-tag-ne10 : goal.returns-else-tag-ne10
-returns-else-tag-ne10 c = search extending
+named-requires c = (c.requires.0, c.requires.1, extent_key _ _ _ _ c.extent.ensures _ c.in_ok-f.was c.if-f-ne10.false)

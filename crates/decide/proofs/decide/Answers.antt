@@ -1,27 +1,11 @@
--- `decide` keeps the promise.
-use Rattle.decide.proofs.SheetLaws.{deciding}
+-- `decide` tests the installed version first, then the sheet.
+use Rattle.std.proofs.Common.{rules}
+use Rattle.exact.specs.Tells.{tells_yes, tells_no}
+use Rattle.decide.specs.Deciding.{told_uninstalled, told_no_sheet}
 use Rattle.decide.proofs.decide.Goals as goal
 
-pub is_installed-requires : goal.is_installed-requires
-is_installed-requires c = search deciding
+pub returns-then-not-is_installed : goal.returns-then-not-is_installed
+returns-then-not-is_installed c = told_uninstalled (tells_no _ (search rules) c.is_installed.ensures)
 
-pub sheet_of-requires : goal.sheet_of-requires
-sheet_of-requires c = search deciding
-
-pub enum_known-v : goal.enum_known-v
-enum_known-v c = search deciding
-
-pub decided-requires : goal.decided-requires
-decided-requires c = search deciding
-
-pub enum_told-1 : goal.enum_told-1
-enum_told-1 c = search deciding
-
-pub returns-in-Rows : goal.returns-in-Rows
-returns-in-Rows c = search deciding
-
-pub returns-in-Other : goal.returns-in-Other
-returns-in-Other c = search deciding
-
-pub returns : goal.returns
-returns c = search deciding
+pub returns-in-None : goal.returns-in-None
+returns-in-None c = told_no_sheet (tells_yes _ (search rules) c.is_installed.ensures) c.in-None.ensures

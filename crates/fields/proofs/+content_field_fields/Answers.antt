@@ -2,15 +2,12 @@
 use mathlib.Core.Path.{refl}
 use native.Mathlib.Omega.{arith}
 use borrow.Author.Rules.{rules}
-use Rattle.fields.specs.Fields.{left_start, left_end, turn_ahead, turn_field, turn_word, turn_again, content_kind, array_fields, object_fields, field_closes, contents, fielding}
+use Rattle.fields.specs.Fields.{left_start, left_end, turn_ahead, turn_field, turn_word, turn_again, content_kind, container_fields, container_puts, field_closes, contents, fielding}
 use Rattle.fields.specs.Rows.{next_word, size_some}
 use Rattle.fields.proofs.+content_field_fields.Goals as goal
 
 pub content-word-kind-requires : goal.content-word-kind-requires
 content-word-kind-requires t c = content_kind _ _ c.requires
-
-pub content-overflow_add-r : goal.content-overflow_add-r
-content-overflow_add-r t c = search (contents, rules)
 
 pub content-word-requires : goal.content-word-requires
 content-word-requires t c = search (contents, rules)
@@ -19,43 +16,13 @@ pub content-fields-requires : goal.content-fields-requires
 content-fields-requires t c =
     let h = c.requires in
     let n = next_word _ _ h.here c.word.ensures in
-    (omega (arith, c.decreases, size_some h.tree), array_fields _ _ h c.word-kind.ensures c.word.ensures c.if-kind-eq8.true)
-
-pub content-shape_of-out-then-kind-eq8 : goal.content-shape_of-out-then-kind-eq8
-content-shape_of-out-then-kind-eq8 t c = search (contents, rules)
+    (omega (arith, c.decreases, size_some h.tree), container_fields _ _ h c.word-kind.ensures c.word.ensures c.then-kind-eq8.either)
 
 pub content-returns-then-kind-eq8 : goal.content-returns-then-kind-eq8
-content-returns-then-kind-eq8 t c = λ h. search (contents, rules)
-
-pub content-overflow_add-r-then-kind-eq9 : goal.content-overflow_add-r-then-kind-eq9
-content-overflow_add-r-then-kind-eq9 t c = search (contents, rules)
-
-pub content-word-requires-then-kind-eq9 : goal.content-word-requires-then-kind-eq9
-content-word-requires-then-kind-eq9 t c = search (contents, rules)
-
-pub content-fields-requires-then-kind-eq9 : goal.content-fields-requires-then-kind-eq9
-content-fields-requires-then-kind-eq9 t c =
-    let h = c.requires in
-    let n = next_word _ _ h.here c.word-then-kind-eq9.ensures in
-    (omega (arith, c.decreases, size_some h.tree), object_fields _ _ h c.word-kind.ensures c.word-then-kind-eq9.ensures c.if-kind-eq9.true)
-
-pub content-shape_of-out-then-kind-eq9 : goal.content-shape_of-out-then-kind-eq9
-content-shape_of-out-then-kind-eq9 t c = search (contents, rules)
-
-pub content-returns-then-kind-eq9 : goal.content-returns-then-kind-eq9
-content-returns-then-kind-eq9 t c = λ h. search (contents, rules)
-
-pub content-leaf-requires : goal.content-leaf-requires
-content-leaf-requires t c = search (contents, rules)
-
-pub content-shape_of-out : goal.content-shape_of-out
-content-shape_of-out t c = search (contents, rules)
+content-returns-then-kind-eq8 t c = λ h. container_puts _ _ h c.word-kind.ensures c.word.ensures c.then-kind-eq8.either c.fields.ensures
 
 pub content-returns : goal.content-returns
 content-returns t c = λ h. search (contents, rules)
-
-pub field-overflow_add-x : goal.field-overflow_add-x
-field-overflow_add-x t c = search (fielding, rules)
 
 pub field-content-y-requires : goal.field-content-y-requires
 field-content-y-requires t c = search (fielding, rules)
@@ -65,9 +32,6 @@ field-word-requires t c = search (fielding, rules)
 
 pub field-closed-requires : goal.field-closed-requires
 field-closed-requires t c = field_closes _ _ c.requires c.content-y.ensures c.word.ensures refl
-
-pub field-shape_of-out : goal.field-shape_of-out
-field-shape_of-out t c = search (fielding, rules)
 
 pub field-returns : goal.field-returns
 field-returns t c = λ h. search (fielding, rules)
@@ -93,9 +57,6 @@ fields-loop-at-preserved t c =
     let h = c.requires in
     let a = turn_ahead _ _ h.fits (l.0 h) c.loop-at-test.true c.word-at.ensures in
     (λ h. turn_again _ _ h.fits (l.0 h) c.loop-at-test.true l.1 c.field-y.ensures c.word-at.ensures, search rules, omega (arith, a.0, l.2))
-
-pub fields-shape_of-out : goal.fields-shape_of-out
-fields-shape_of-out t c = search rules
 
 pub fields-returns : goal.fields-returns
 fields-returns t c = λ h. left_end _ _ (c.loop-at.invariant.0 h) c.loop-at-test.false

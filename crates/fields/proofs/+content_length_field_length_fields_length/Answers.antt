@@ -3,59 +3,17 @@ use mathlib.Core.Path.{refl}
 use native.Mathlib.Omega.{arith}
 use borrow.Author.Rules.{rules}
 use Rattle.fields.specs.Rows.{next_word, size_some}
-use Rattle.fields.specs.Measured.{counted_start, counted_end, counted_field, counted_word, counted_ahead, counted_more, counted_again, measured_few, measured_array, measured_object, measuring}
+use Rattle.fields.specs.Measured.{counted_start, counted_end, counted_field, counted_word, counted_ahead, counted_more, counted_again, measured_few, measured_container, container_measured, measuring}
 use Rattle.fields.proofs.+content_length_field_length_fields_length.Goals as goal
-
-pub content_length-word-kind-requires : goal.content_length-word-kind-requires
-content_length-word-kind-requires t c = search (measuring, rules)
-
-pub content_length-overflow_add-r : goal.content_length-overflow_add-r
-content_length-overflow_add-r t c = search (measuring, rules)
-
-pub content_length-word-requires : goal.content_length-word-requires
-content_length-word-requires t c = search (measuring, rules)
 
 pub content_length-fields_length-requires : goal.content_length-fields_length-requires
 content_length-fields_length-requires t c =
     let h = c.requires in
     let n = next_word _ _ h.here c.word.ensures in
-    (omega (arith, c.decreases, size_some h.tree), measured_array _ h c.word-kind.ensures c.word.ensures c.if-kind-eq8.true)
+    (omega (arith, c.decreases, size_some h.tree), measured_container _ h c.word-kind.ensures c.word.ensures c.then-kind-eq8.either)
 
 pub content_length-returns-then-kind-eq8 : goal.content_length-returns-then-kind-eq8
-content_length-returns-then-kind-eq8 t c = λ h. search (measuring, rules)
-
-pub content_length-overflow_add-r-then-kind-eq9 : goal.content_length-overflow_add-r-then-kind-eq9
-content_length-overflow_add-r-then-kind-eq9 t c = search (measuring, rules)
-
-pub content_length-word-requires-then-kind-eq9 : goal.content_length-word-requires-then-kind-eq9
-content_length-word-requires-then-kind-eq9 t c = search (measuring, rules)
-
-pub content_length-fields_length-requires-then-kind-eq9 : goal.content_length-fields_length-requires-then-kind-eq9
-content_length-fields_length-requires-then-kind-eq9 t c =
-    let h = c.requires in
-    let n = next_word _ _ h.here c.word-then-kind-eq9.ensures in
-    (omega (arith, c.decreases, size_some h.tree), measured_object _ h c.word-kind.ensures c.word-then-kind-eq9.ensures c.if-kind-eq9.true)
-
-pub content_length-returns-then-kind-eq9 : goal.content_length-returns-then-kind-eq9
-content_length-returns-then-kind-eq9 t c = λ h. search (measuring, rules)
-
-pub content_length-word-requires-2 : goal.content_length-word-requires-2
-content_length-word-requires-2 t c = search (measuring, rules)
-
-pub content_length-word-requires-3 : goal.content_length-word-requires-3
-content_length-word-requires-3 t c = search (measuring, rules)
-
-pub content_length-overflow_sub-result : goal.content_length-overflow_sub-result
-content_length-overflow_sub-result t c = search (measuring, rules)
-
-pub content_length-returns : goal.content_length-returns
-content_length-returns t c = λ h. search (measuring, rules)
-
-pub field_length-content_length-n-requires : goal.field_length-content_length-n-requires
-field_length-content_length-n-requires t c = search (measuring, rules)
-
-pub field_length-heads-requires : goal.field_length-heads-requires
-field_length-heads-requires t c = search (measuring, rules)
+content_length-returns-then-kind-eq8 t c = λ h. container_measured _ h c.word-kind.ensures c.word.ensures c.then-kind-eq8.either c.fields_length.ensures
 
 pub field_length-overflow_add-result : goal.field_length-overflow_add-result
 field_length-overflow_add-result t c =

@@ -20,8 +20,5 @@ overflow_add-result c =
     let k = leaf_fits _ _ c.requires c.word-from.ensures c.word-to.ensures in
     search rules
 
-pub shape_of-out : goal.shape_of-out
-shape_of-out c = search (leafing, rules)
-
 pub returns : goal.returns
 returns c = search (leafing, rules)

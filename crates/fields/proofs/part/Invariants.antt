@@ -1,12 +1,9 @@
 -- `part` stores a run of bytes, all of which have room.
 use mathlib.Core.Path.{◌≡◌}
-use Prim.Native.Nat.{◌+◌, ◌-◌, ◌≤◌}
+use Rattle.std.specs.Prelude.{drop}
+use Rattle.std.proofs.Math.Seq.{paste}
 use lib.ListN.{length}
-use lib.Seq.{sets, slice}
 use Rattle.fields.proofs.part.Given as goal
 
 abbrev pub invariant-loop-i : goal.invariant-loop-i
-invariant-loop-i l = (sets l.initial.out l.x (slice l.a l.e l.text) ≡ sets l.out (l.x + (l.i - l.a)) (slice l.i l.e l.text)) × (length l.out ≡ length l.initial.out) × (l.a ≤ l.i) × (l.i ≤ l.e)
-
-abbrev pub decreases-loop-i : goal.decreases-loop-i
-decreases-loop-i l = l.e - l.i
+invariant-loop-i l = (l.out ≡ paste l.initial.out l.x (drop l.a l.text) l.i) × (length l.out ≡ length l.initial.out)

@@ -8,5 +8,5 @@ word-requires c = root_word _ _ _ c.sound.ensures c.if-sound.true
 pub returns-then-sound : goal.returns-then-sound
 returns-then-sound c = root_told _ _ _ c.sound.ensures c.if-sound.true _ c.word.ensures.0
 
-pub returns : goal.returns
-returns c = root_bad _ _ _ c.sound.ensures c.if-sound.false
+pub returns-else-sound : goal.returns-else-sound
+returns-else-sound c = rw c.if-sound.false (root_bad _ _ _ c.sound.ensures c.if-sound.false)

@@ -1,7 +1,7 @@
 -- `behind` goes back to an LF by blocks. The loop's invariant: none stands from i on. Assumes nothing.
 use Rattle.lined.specs.Between.{between}
 use mathlib.Core.Path.{◌≡◌}
-use Prim.Native.Nat.{◌-◌, ◌≤◌, ◌<◌}
+use Prim.Native.Nat.{◌≤◌, ◌<◌}
 use Rattle.lined.specs.Counted.{range}
 use Rattle.lined.proofs.behind.Given as goal
 

@@ -5,7 +5,7 @@ use Rattle.lined.specs.Counted.{range}
 use Rattle.lined.proofs.count.Given as goal
 
 abbrev pub invariant-loop-i : goal.invariant-loop-i
-invariant-loop-i l = Counting (range l.lo l.hi) l.doc l.a l.i l.n × (l.i ≤ l.e)
+invariant-loop-i g l = Counting (range g.row.LO g.row.HI) l.doc l.a l.i l.n × (l.i ≤ l.e)
 
 abbrev pub decreases-loop-i : goal.decreases-loop-i
-decreases-loop-i l = l.e - l.i
+decreases-loop-i g l = l.e - l.i

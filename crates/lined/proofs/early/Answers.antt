@@ -7,5 +7,5 @@ use Rattle.lined.proofs.early.Goals as goal
 pub returns-then-highest-lt128 : goal.returns-then-highest-lt128
 returns-then-highest-lt128 c = c.highest.ensures c.if-highest-lt128.true
 
-pub returns : goal.returns
-returns c = clear_first (range 128 191) c.args.doc.now 0 (omega arith)
+pub returns-else-highest-lt128 : goal.returns-else-highest-lt128
+returns-else-highest-lt128 c = clear_first (range 128 191) c.args.doc.now 0 (omega arith)

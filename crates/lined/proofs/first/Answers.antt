@@ -1,43 +1,19 @@
 -- `first` finds the first byte of a range in a block. The loop's invariant: m is where, among those up to i. Assumes nothing.
 use native.Mathlib.Omega.{arith}
-use Prim.Native.Nat.{◌-◌}
 use Rattle.lined.specs.Counted.{range}
-use Rattle.lined.specs.Searching.{First, first_none, first_byte, first_all, searching}
+use Rattle.lined.specs.Searching.{first_none, first_byte, first_all}
 use Rattle.lined.proofs.first.Goals as goal
 
 pub loop-i-init : goal.loop-i-init
-loop-i-init c = let s = c.args in (first_none (range s.lo s.hi) s.doc.now s.a, omega arith)
-
-pub overflow_add-a : goal.overflow_add-a
-overflow_add-a c = search searching
-
-pub bounds-doc-a : goal.bounds-doc-a
-bounds-doc-a c = search searching
-
-pub overflow_cast-i : goal.overflow_cast-i
-overflow_cast-i c = search searching
-
-pub spot-requires : goal.spot-requires
-spot-requires c = search searching
-
-pub less-m-requires : goal.less-m-requires
-less-m-requires c = search searching
-
-pub overflow_add-i : goal.overflow_add-i
-overflow_add-i c = search searching
-
-pub loop-i-smaller : goal.loop-i-smaller
-loop-i-smaller c = search searching
+loop-i-init g c = first_none (range g.row.LO g.row.HI) c.args.doc.now c.args.a
 
 pub loop-i-preserved : goal.loop-i-preserved
-loop-i-preserved c =
+loop-i-preserved g c =
     let s = c.args in
     let l = c.loop-i in
-    let p = c.spot in
-    (first_byte (range s.lo s.hi) s.doc.now s.a l.i l.m p.result c.less-m.result l.invariant.0 (omega arith) (omega arith) p.ensures c.less-m.ensures, omega arith)
+    first_byte (range g.row.LO g.row.HI) s.doc.now s.a l.i l.m c.spot.result c.min-m.result l.invariant (omega arith) (omega arith) c.spot.ensures c.min-m.ensures
 
 pub returns : goal.returns
-returns c =
-    let s = c.args in
+returns g c =
     let l = c.loop-i in
-    first_all (range s.lo s.hi) s.doc.now s.a l.i l.m l.invariant.0 l.invariant.1 c.loop-i-test.false
+    first_all (range g.row.LO g.row.HI) c.args.doc.now c.args.a l.i l.m l.invariant (omega arith) (omega arith)

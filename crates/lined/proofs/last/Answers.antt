@@ -1,46 +1,17 @@
--- `last` finds the last byte of a range in a block. The loop's invariant: it stands just before the m-th, among those up to i. Assumes nothing.
+-- `last` finds the last LF in a block. The loop's invariant: it stands just before the m-th, among those up to i. Assumes nothing.
 use native.Mathlib.Omega.{arith}
-use Prim.Native.Nat.{◌-◌}
 use Rattle.lined.specs.Counted.{range}
-use Rattle.lined.specs.Searching.{Last, last_none, last_byte, last_all, searching}
+use Rattle.lined.specs.Searching.{last_none, last_byte, last_all}
 use Rattle.lined.proofs.last.Goals as goal
 
 pub loop-i-init : goal.loop-i-init
-loop-i-init c = let s = c.args in (last_none (range s.lo s.hi) s.doc.now s.a, omega arith)
-
-pub overflow_add-a : goal.overflow_add-a
-overflow_add-a c = search searching
-
-pub bounds-doc-a : goal.bounds-doc-a
-bounds-doc-a c = search searching
-
-pub overflow_cast-i : goal.overflow_cast-i
-overflow_cast-i c = search searching
-
-pub overflow_add-i : goal.overflow_add-i
-overflow_add-i c = search searching
-
-pub spot-requires : goal.spot-requires
-spot-requires c = search searching
-
-pub more-m-requires : goal.more-m-requires
-more-m-requires c = search searching
-
-pub overflow_add-i-in-loop-i : goal.overflow_add-i-in-loop-i
-overflow_add-i-in-loop-i c = search searching
-
-pub loop-i-smaller : goal.loop-i-smaller
-loop-i-smaller c = search searching
+loop-i-init c = last_none (range 10 10) c.args.doc.now c.args.a
 
 pub loop-i-preserved : goal.loop-i-preserved
 loop-i-preserved c =
     let s = c.args in
     let l = c.loop-i in
-    let p = c.spot in
-    (last_byte (range s.lo s.hi) s.doc.now s.a l.i l.m p.result c.more-m.result l.invariant.0 (omega arith) p.ensures c.more-m.ensures, omega arith)
+    last_byte (range 10 10) s.doc.now s.a l.i l.m c.spot.result c.max-m.result l.invariant (omega arith) c.spot.ensures c.max-m.ensures
 
 pub returns : goal.returns
-returns c =
-    let s = c.args in
-    let l = c.loop-i in
-    last_all (range s.lo s.hi) s.doc.now s.a l.i l.m l.invariant.0 l.invariant.1 c.loop-i-test.false
+returns c = let l = c.loop-i in last_all (range 10 10) c.args.doc.now c.args.a l.i l.m l.invariant (omega arith) (omega arith)

@@ -5,7 +5,7 @@ use Rattle.lined.specs.Searching.{Clear}
 use Rattle.lined.proofs.next.Given as goal
 
 abbrev pub invariant-loop-a : goal.invariant-loop-a
-invariant-loop-a l = Clear (range l.lo l.hi) l.doc l.at l.a
+invariant-loop-a g l = Clear (range g.row.LO g.row.HI) l.doc l.at l.a
 
 abbrev pub decreases-loop-a : goal.decreases-loop-a
-decreases-loop-a l = l.end - l.a
+decreases-loop-a g l = l.end - l.a

@@ -1,21 +1,9 @@
 -- `held_long` tests bytes that are in parts.
-use Rattle.load.specs.Testing.{telling}
+use Rattle.load.specs.Testing.{long_content, long_bad}
 use Rattle.load.proofs.held_long.Goals as goal
 
-pub value-requires : goal.value-requires
-value-requires c = search telling
+pub invariant_of-v : goal.invariant_of-v
+invariant_of-v c = record { content = long_content _ c.requires _ }
 
-pub enum_told-1 : goal.enum_told-1
-enum_told-1 c = search telling
-
-pub enum_known-after : goal.enum_known-after
-enum_known-after c = search telling
-
-pub returns-then-after-stored : goal.returns-then-after-stored
-returns-then-after-stored c = search telling
-
-pub returns-in-Bad : goal.returns-in-Bad
-returns-in-Bad c = search telling
-
-pub returns-else-after-stored : goal.returns-else-after-stored
-returns-else-after-stored c = search telling
+pub returns-in_err-w : goal.returns-in_err-w
+returns-in_err-w c = rw c.from_residual.ensures (long_bad _ c.requires _ _ c.value.ensures c.in_err-w.was)

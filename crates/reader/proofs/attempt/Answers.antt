@@ -10,5 +10,5 @@ blame-requires c = record { doc_len_bound = search rules; doc_value = search (st
 pub settled-requires : goal.settled-requires
 settled-requires c = search (reads, rules)
 
-pub returns-in-No : goal.returns-in-No
-returns-in-No c = search (attempt_stop, rules)
+pub returns-in-Err : goal.returns-in-Err
+returns-in-Err c = search (attempt_stop, rules)

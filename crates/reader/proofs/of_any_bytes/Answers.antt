@@ -10,8 +10,8 @@ blame-requires c = record { doc_len_bound = search rules; doc_value = search (st
 pub sieved-requires : goal.sieved-requires
 sieved-requires c = (search (passes, rules), search (passes_sieved, rules))
 
-pub returns-in-No : goal.returns-in-No
-returns-in-No c = record { answered = search (answer_stop_same, rules); totals = search (stop_total, rules) }
+pub returns-in-Err : goal.returns-in-Err
+returns-in-Err c = record { answered = search (answer_stop_same, rules); totals = search (stop_total, rules) }
 
 pub returns-in-Ok : goal.returns-in-Ok
 returns-in-Ok c = record { answered = search (answer_same, rules); totals = search rules }

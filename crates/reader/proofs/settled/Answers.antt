@@ -3,8 +3,8 @@ use borrow.Author.Rules.{rules}
 use Rattle.reader.specs.Filling.{attempt_few, attempt_done, read_holds, read_four}
 use Rattle.reader.proofs.settled.Goals as goal
 
-pub returns-then-rows-n : goal.returns-then-rows-n
-returns-then-rows-n c = search (attempt_few, rules)
+pub returns-then-rows-counts : goal.returns-then-rows-counts
+returns-then-rows-counts c = search (attempt_few, rules)
 
 pub log_word-requires : goal.log_word-requires
 log_word-requires c = search (read_four, rules)

@@ -1,6 +1,5 @@
 -- `sparse` guesses no more than two rows at a byte, so its products are small.
 use mathlib.Core.Path.{refl}
-use Prim.Native.Nat.{◌*◌}
 use native.Mathlib.Omega.{arith}
 use native.Mathlib.Nat.{mul-le-mul}
 use lib.ListN.{length}
@@ -12,7 +11,4 @@ pub returns-then-bytes-n : goal.returns-then-bytes-n
 returns-then-bytes-n c = λ e. absurd (clash e refl)
 
 pub overflow_mul-result : goal.overflow_mul-result
-overflow_mul-result c = omega (arith, mul-le-mul {n₁ = c.loop-parts.guessed} {m₁ = length c.args.doc.now} {n₂ = 1024} {m₂ = limit} (omega arith) (omega arith))
-
-pub overflow_mul-result-3 : goal.overflow_mul-result-3
-overflow_mul-result-3 c = omega (arith, mul-le-mul {n₁ = c.args.rows * 64} {m₁ = c.loop-parts.parts} {n₂ = 108800} {m₂ = 8} (omega arith) (omega arith))
+overflow_mul-result c = omega (arith, mul-le-mul {n₁ = c.loop-i.guessed} {m₁ = length c.args.doc.now} {n₂ = 1024} {m₂ = limit} (omega arith) (omega arith))

@@ -1,5 +1,4 @@
 -- `put_row` stores the words of a row.
-use mathlib.Core.Path.{refl}
 use borrow.Author.Rules.{rules}
 use native.Mathlib.Omega.{arith}
 use Prim.Native.Nat.{◌*◌}
@@ -8,23 +7,8 @@ use Rattle.rooms.specs.Stores.{sets_past, stored}
 use Rattle.language.specs.Tree.{width}
 use Rattle.rooms.proofs.put_row.Goals as goal
 
-pub slice_bounds-put_part-end : goal.slice_bounds-put_part-end
-slice_bounds-put_part-end c = search rules
-
-pub put_part-requires : goal.put_part-requires
-put_part-requires c = search rules
-
-pub shape_of-rows-then-rows-i : goal.shape_of-rows-then-rows-i
-shape_of-rows-then-rows-i c = search rules
-
-pub returns-then-i-rows : goal.returns-then-i-rows
-returns-then-i-rows c = search rules
-
 pub returns-else-i-rows : goal.returns-else-i-rows
 returns-else-i-rows c = search (sets_past, rules)
-
-pub bounds-rows-i : goal.bounds-rows-i
-bounds-rows-i c = search rules
 
 pub bounds-rows-i-2 : goal.bounds-rows-i-2
 bounds-rows-i-2 c = simp length-set (omega arith)
@@ -49,9 +33,6 @@ bounds-rows-i-8 c = simp length-set (omega arith)
 
 pub bounds-rows-i-9 : goal.bounds-rows-i-9
 bounds-rows-i-9 c = simp length-set (omega arith)
-
-pub shape_of-rows : goal.shape_of-rows
-shape_of-rows c = simp length-set refl
 
 pub returns : goal.returns
 returns c =

@@ -1,6 +1,6 @@
 -- The cycle of values and containers meets its contracts. The allowance falls from a container to what is inside it; in the loop, the rows that are left fall.
 use Rattle.sound.proofs.CycleLaws.{Going}
-use Prim.Native.Nat.{ℕ, ◌+◌, ◌-◌, ◌*◌}
+use Prim.Native.Nat.{◌+◌, ◌-◌, ◌*◌}
 use Rattle.sound.proofs.+child_children_container_of_kind_value.Given as goal
 
 abbrev pub invariant-children-loop-at : goal.invariant-children-loop-at

@@ -2,21 +2,12 @@
 use Rattle.store.specs.Answers.{needing, needs_few, needs_text}
 use Rattle.store.proofs.needed.Goals as goal
 
-pub overflow_mul-n : goal.overflow_mul-n
-overflow_mul-n c = search needing
-
-pub text_end-requires : goal.text_end-requires
-text_end-requires c = search needing
-
 pub overflow_add-n : goal.overflow_add-n
 overflow_add-n c =
     let h = c.requires in
     let few = needs_few _ h in
     let short = needs_text _ h c.text_end.ensures in
     search needing
-
-pub overflow_add-t-4 : goal.overflow_add-t-4
-overflow_add-t-4 c = search needing
 
 pub returns-then-n : goal.returns-then-n
 returns-then-n c = search needing

@@ -5,6 +5,4 @@ use Rattle.texts.specs.Scalars.{part_told}
 use Rattle.texts.proofs.float_text.Goals as goal
 
 pub returns : goal.returns
-returns c =
-    let s = c.args in
-    part_told FloatText s.a s.e s.text.now (omega arith) c.is_float.result c.is_float.ensures
+returns c = let s = c.args in part_told FloatText s.a s.e s.text.now (omega arith) c.is_float.result c.is_float.ensures

@@ -1,13 +1,10 @@
 -- `byte_at` gives a byte of a content.
-use borrow.Author.Rules.{rules}
-use Rattle.views.specs.Views.{asking}
+use Rattle.std.proofs.Common.{refl}
+use Rattle.views.specs.Views.{asked_inside, asked_byte}
 use Rattle.views.proofs.byte_at.Goals as goal
 
-pub place-requires : goal.place-requires
-place-requires c = search (asking, rules)
-
-pub byte-requires : goal.byte-requires
-byte-requires c = search (asking, rules)
+pub bounds-stored-place : goal.bounds-stored-place
+bounds-stored-place c = asked_inside c.requires c.place.ensures
 
 pub returns : goal.returns
-returns c = search (asking, rules)
+returns c = asked_byte c.requires c.place.ensures refl

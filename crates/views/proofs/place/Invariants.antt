@@ -5,6 +5,3 @@ use Rattle.views.proofs.place.Given as goal
 
 abbrev pub invariant-loop-k : goal.invariant-loop-k
 invariant-loop-k l = Came l.starts l.d l.i l.k l.p × (l.d ≤ 34)
-
-abbrev pub decreases-loop-k : goal.decreases-loop-k
-decreases-loop-k l = l.k

@@ -1,28 +1,15 @@
 -- `run` goes from a view out to the stored bytes, and keeps to the nearest cut.
-use borrow.Author.Rules.{rules}
-use Rattle.views.specs.Views.{reaching}
+use Rattle.std.proofs.Common.{refl, rules}
+use Rattle.views.specs.Views.{along_next, along_next_few, reaching}
 use Rattle.views.proofs.run.Goals as goal
 
-pub loop-k-init : goal.loop-k-init
-loop-k-init c = search (reaching, rules)
-
-pub overflow_sub-k : goal.overflow_sub-k
-overflow_sub-k c = search (reaching, rules)
-
-pub nearer-left-requires : goal.nearer-left-requires
-nearer-left-requires c = search (reaching, rules)
-
-pub start-requires : goal.start-requires
-start-requires c = search (reaching, rules)
-
 pub outward-p-requires : goal.outward-p-requires
-outward-p-requires c = search (reaching, rules)
-
-pub loop-k-smaller : goal.loop-k-smaller
-loop-k-smaller c = search (reaching, rules)
+outward-p-requires c = along_next_few c.loop-k.invariant.0 c.loop-k-test.true refl
 
 pub loop-k-preserved : goal.loop-k-preserved
-loop-k-preserved c = search (reaching, rules)
+loop-k-preserved c =
+    let n = c.nearer-left.ensures in
+    (along_next c.loop-k.invariant.0 c.loop-k-test.true refl c.outward-p.ensures n.0 n.1 n.2, c.loop-k.invariant.1)
 
 pub returns : goal.returns
 returns c = search (reaching, rules)

@@ -1,21 +1,9 @@
 -- `near` gives the bytes before the nearest cut.
-use Rattle.wide.specs.Near.{nearing}
+use Rattle.std.proofs.Common.{arith}
+use Rattle.views.specs.Contents.{content_lies}
+use Rattle.wide.specs.Near.{near_run}
 use Rattle.wide.proofs.near.Goals as goal
 
-pub returns-then-at-stop : goal.returns-then-at-stop
-returns-then-at-stop c = search nearing
-
-pub overflow_sub-left : goal.overflow_sub-left
-overflow_sub-left c = search nearing
-
-pub run-requires : goal.run-requires
-run-requires c = search nearing
-
-pub returns-then-left-gt-WIDEST : goal.returns-then-left-gt-WIDEST
-returns-then-left-gt-WIDEST c = search nearing
-
-pub run-requires-2 : goal.run-requires-2
-run-requires-2 c = search nearing
-
 pub returns : goal.returns
-returns c = search nearing
+returns c =
+    near_run _ _ _ _ _ (content_lies c.args.v.content c.requires) c.if-at-v.false c.min.result _ _ (omega (arith, c.min.ensures)) (omega (arith, c.min.ensures)) (omega (arith, c.min.ensures, c.if-at-v.false, c.requires)) c.run.ensures

@@ -1,8 +1,7 @@
 -- `put_body` meets its contract: with the lines that are left the text would be the body's.
 use native.Mathlib.Omega.{arith}
 use mathlib.Core.Path.{refl, ◌∙◌}
-use Prim.Native.Nat.{◌-◌}
-use Rattle.blocktext.proofs.PutLaws.{Putting, put_first, put_lined, put_on, put_further, put_past, put_word, put_stored, putting}
+use Rattle.blocktext.proofs.PutLaws.{put_first, put_lined, put_on, put_further, put_past, put_word, put_stored, putting}
 use Rattle.blocktext.proofs.body.put_body.Goals as goal
 
 pub spot-from-requires : goal.spot-from-requires

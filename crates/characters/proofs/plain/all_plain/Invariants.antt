@@ -1,11 +1,7 @@
 -- `all_plain` meets its contract. The loop's invariant: n of the i bytes from `at` on are plain.
-use Prim.Native.Nat.{◌-◌, ◌≤◌}
 use Rattle.characters.specs.Plains.{plain_of}
 use Rattle.characters.proofs.Plains.{Counted}
 use Rattle.characters.proofs.plain.all_plain.Given as goal
 
 abbrev pub invariant-loop-i : goal.invariant-loop-i
-invariant-loop-i l = Counted (plain_of l.quote) l.doc l.at l.n l.i × (l.i ≤ 64)
-
-abbrev pub decreases-loop-i : goal.decreases-loop-i
-decreases-loop-i l = 64 - l.i
+invariant-loop-i l = Counted (plain_of l.quote) l.doc l.at l.n l.i

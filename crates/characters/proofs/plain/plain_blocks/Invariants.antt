@@ -1,11 +1,7 @@
--- `plain_blocks` answers a place up to which plain bytes stand. The loop's invariant: they stand up to e.
-use Prim.Native.Nat.{◌-◌}
-use lib.ListN.{length}
+-- `plain_blocks` answers a place up to which plain bytes stand. The loop's invariant: they stand up to the block at i.
+use Prim.Native.Nat.{◌+◌, ◌*◌}
 use Rattle.characters.specs.Plains.{plain_of, Passing}
 use Rattle.characters.proofs.plain.plain_blocks.Given as goal
 
-abbrev pub invariant-loop-e : goal.invariant-loop-e
-invariant-loop-e l = Passing (plain_of l.quote) l.doc l.at l.e
-
-abbrev pub decreases-loop-e : goal.decreases-loop-e
-decreases-loop-e l = length l.doc - l.e
+abbrev pub invariant-loop-i : goal.invariant-loop-i
+invariant-loop-i l = Passing (plain_of l.quote) l.doc l.at (l.at + 64 * l.i)

@@ -1,32 +1,9 @@
 -- `after_ef_b7` answers where the character ends that has come to the state `after_ef_b7`.
-use Rattle.utf8.specs.Utf8.{done, after_ef_b7}
-use Rattle.utf8.specs.OverNumbers.{says, through}
-use Rattle.characters.specs.Rest.{rest_ends}
-use Rattle.characters.proofs.Rests.{resting}
+use Rattle.characters.proofs.Rests.{b7_low, b7_high, resting}
 use Rattle.characters.proofs.states.after_ef_b7.Goals as goal
 
-pub byte-requires : goal.byte-requires
-byte-requires c = search resting
-
-pub overflow_add-result : goal.overflow_add-result
-overflow_add-result c = search resting
-
-pub overflow_add-result-in-176-to-191 : goal.overflow_add-result-in-176-to-191
-overflow_add-result-in-176-to-191 c = search resting
-
 pub returns-in-128-to-143 : goal.returns-in-128-to-143
-unfolding says through
-returns-in-128-to-143 c = search (rest_ends after_ef_b7 done 128 144, resting)
+returns-in-128-to-143 c = search (b7_low, resting)
 
 pub returns-in-176-to-191 : goal.returns-in-176-to-191
-unfolding says through
-returns-in-176-to-191 c = search (rest_ends after_ef_b7 done 176 192, resting)
-
-pub returns-in_default : goal.returns-in_default
-returns-in_default c = search resting
-
-pub returns-in_default-2 : goal.returns-in_default-2
-returns-in_default-2 c = search resting
-
-pub returns-in_default-3 : goal.returns-in_default-3
-returns-in_default-3 c = search resting
+returns-in-176-to-191 c = search (b7_high, resting)

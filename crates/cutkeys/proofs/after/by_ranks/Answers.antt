@@ -1,17 +1,15 @@
 -- `by_ranks` tells what clashes with a key of the window, by the order of texts.
 use Rattle.distinct.specs.Ranks.{ranged_in}
-use Rattle.distinct.specs.Windows.{rankwise}
-use borrow.Author.Rules.{rules}
+use Rattle.distinct.specs.Window.{clash_yes, clash_no}
 use Rattle.cutkeys.proofs.after.by_ranks.Goals as goal
-
-pub returns-then-ranked_all : goal.returns-then-ranked_all
-returns-then-ranked_all c = search rankwise
 
 pub ranked_behind-requires : goal.ranked_behind-requires
 ranked_behind-requires c =
-    let a = c.ranked_all in
-    let f = ranged_in c.args.text.now c.args.froms.now c.args.tos.now _ c.args.n a.result a.ensures c.args.order.now in
-    (search (f, rules), c.requires.2)
+    (ranged_in _ _ _ _ _ _ c.ranked_all.ensures _ c.requires.0 c.requires.1 c.ranked_all.auto.order c.if-ranked_all.false, c.requires.2)
 
-pub returns : goal.returns
-returns c = search rankwise
+pub returns-then-ranked_all : goal.returns-then-ranked_all
+returns-then-ranked_all c = rw c.if-ranked_all.true (clash_yes _ _ _ _ _ _ _ _ c.ranked_all.ensures c.if-ranked_all.true)
+
+pub returns-else-ranked_all : goal.returns-else-ranked_all
+returns-else-ranked_all c =
+    clash_no _ _ _ _ _ _ _ _ c.ranked_all.ensures c.if-ranked_all.false _ c.ranked_behind.ensures

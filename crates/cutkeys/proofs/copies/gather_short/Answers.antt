@@ -1,101 +1,82 @@
--- `gather_short` copies the texts of short keys that are cut. The loop's invariant: the first n stand in the room before x, and the others are those from k on.
-use Rattle.cutkeys.specs.Copies.{copying_open, copying_more, copying}
+-- `gather_short` copies the texts of short keys that are cut. The loop's invariant: the first n stand in the room before x, and the others are those from the one found on.
+use borrow.Author.Rules.{rules}
+use mathlib.Core.Path.{refl}
+use Rattle.cutkeys.specs.Copies.{copying_open, copying_less, copying_deep, copying_inner, copying_place, copying_content, copying_copied, copying_sum, copying_more, copying}
 use Rattle.cutkeys.proofs.copies.gather_short.Goals as goal
 
-pub seek_short-k-requires : goal.seek_short-k-requires
-seek_short-k-requires c = search copying
-
-pub loop-k-init : goal.loop-k-init
-loop-k-init c = search copying
-
-pub shape_of-room-then-n-froms : goal.shape_of-room-then-n-froms
-shape_of-room-then-n-froms c = search copying
-
-pub shape_of-froms-then-n-froms : goal.shape_of-froms-then-n-froms
-shape_of-froms-then-n-froms c = search copying
-
-pub shape_of-tos-then-n-froms : goal.shape_of-tos-then-n-froms
-shape_of-tos-then-n-froms c = search copying
+pub loop-found-init : goal.loop-found-init
+loop-found-init c = (search copying, c.seek_short-found.ensures.seeing, refl, refl, refl)
 
 pub returns-then-n-froms : goal.returns-then-n-froms
-returns-then-n-froms c = search copying
-
-pub overflow_sub-room : goal.overflow_sub-room
-overflow_sub-room c = search copying
-
-pub shape_of-room-then-room-x : goal.shape_of-room-then-room-x
-shape_of-room-then-room-x c = search copying
-
-pub shape_of-froms-then-room-x : goal.shape_of-froms-then-room-x
-shape_of-froms-then-room-x c = search copying
-
-pub shape_of-tos-then-room-x : goal.shape_of-tos-then-room-x
-shape_of-tos-then-room-x c = search copying
+returns-then-n-froms c = let g = rw c.in-Some.is at c.loop-found.invariant.0 in search (g, copying)
 
 pub returns-then-room-x : goal.returns-then-room-x
-returns-then-room-x c = search copying
+returns-then-room-x c = let g = rw c.in-Some.is at c.loop-found.invariant.0 in search (g, copying)
 
 pub deeper-a-requires : goal.deeper-a-requires
-deeper-a-requires c = search copying
+deeper-a-requires c =
+    let k = c.in-Some.k in
+    let s = c.loop-found.invariant.1.seen k c.in-Some.is in
+    let g = rw c.in-Some.is at c.loop-found.invariant.0 in
+    (copying_deep _ _ _ _ _ _ _ _ _ k g s, copying_place _ _ _ _ _ _ _ _ _ k g s)
 
-pub overflow_add-d : goal.overflow_add-d
-overflow_add-d c = search copying
+pub overflow_add-text : goal.overflow_add-text
+overflow_add-text c =
+    let k = c.in-Some.k in
+    let s = c.loop-found.invariant.1.seen k c.in-Some.is in
+    let g = rw c.in-Some.is at c.loop-found.invariant.0 in
+    copying_inner _ _ _ _ _ _ _ _ _ k g s
+
+pub invariant_of-text : goal.invariant_of-text
+invariant_of-text c =
+    let k = c.in-Some.k in
+    let s = c.loop-found.invariant.1.seen k c.in-Some.is in
+    let g = rw c.in-Some.is at c.loop-found.invariant.0 in
+    record { content = copying_content _ _ _ _ _ _ _ _ _ k g s _ c.deeper-a.ensures c.if-room-x.false }
 
 pub text_of-requires : goal.text_of-requires
-text_of-requires c = search copying
-
-pub overflow_cast-froms : goal.overflow_cast-froms
-overflow_cast-froms c = search copying
-
-pub offset_bounds-froms-n : goal.offset_bounds-froms-n
-offset_bounds-froms-n c = search copying
-
-pub bounds-froms-n : goal.bounds-froms-n
-bounds-froms-n c = search copying
+text_of-requires c =
+    let k = c.in-Some.k in
+    let s = c.loop-found.invariant.1.seen k c.in-Some.is in
+    let g = rw c.in-Some.is at c.loop-found.invariant.0 in
+    copying_copied _ _ _ _ _ _ _ _ _ k g s _ c.deeper-a.ensures c.if-room-x.false
 
 pub overflow_add-x : goal.overflow_add-x
-overflow_add-x c = search copying
+overflow_add-x c =
+    let k = c.in-Some.k in
+    let s = c.loop-found.invariant.1.seen k c.in-Some.is in
+    let g = rw c.in-Some.is at c.loop-found.invariant.0 in
+    let z = copying_sum _ _ _ _ _ _ _ _ _ k g s _ c.deeper-a.ensures c.if-room-x.false in
+    search (z, rules)
 
 pub overflow_cast-tos : goal.overflow_cast-tos
-overflow_cast-tos c = search copying
+overflow_cast-tos c =
+    let k = c.in-Some.k in
+    let s = c.loop-found.invariant.1.seen k c.in-Some.is in
+    let g = rw c.in-Some.is at c.loop-found.invariant.0 in
+    copying_sum _ _ _ _ _ _ _ _ _ k g s _ c.deeper-a.ensures c.if-room-x.false
 
-pub offset_bounds-tos-n : goal.offset_bounds-tos-n
-offset_bounds-tos-n c = search copying
+pub seek_short-found-requires-in-Some : goal.seek_short-found-requires-in-Some
+seek_short-found-requires-in-Some c =
+    let k = c.in-Some.k in
+    let s = c.loop-found.invariant.1.seen k c.in-Some.is in
+    let g = rw c.in-Some.is at c.loop-found.invariant.0 in
+    (copying_open _ _ _ _ _ _ _ _ _ k g s, s.run)
 
-pub bounds-tos-n : goal.bounds-tos-n
-bounds-tos-n c = search copying
+pub loop-found-smaller : goal.loop-found-smaller
+loop-found-smaller c =
+    let k = c.in-Some.k in
+    let s = c.loop-found.invariant.1.seen k c.in-Some.is in
+    let g = rw c.in-Some.is at c.loop-found.invariant.0 in
+    rw c.in-Some.is (copying_less _ _ _ _ _ _ _ _ _ k g s _ c.seek_short-found-in-Some.ensures)
 
-pub overflow_add-n : goal.overflow_add-n
-overflow_add-n c = search copying
-
-pub seek_short-k-requires-in-loop-k : goal.seek_short-k-requires-in-loop-k
-seek_short-k-requires-in-loop-k c =
-    let i = c.loop-k.invariant in
-    let l = c.loop-k-test.true in
-    (copying_open _ _ _ _ _ _ _ _ _ _ i.0 i.1 l, i.1.run)
-
-pub loop-k-smaller : goal.loop-k-smaller
-loop-k-smaller c = search copying
-
-pub loop-k-preserved : goal.loop-k-preserved
-loop-k-preserved c =
-    let i = c.loop-k.invariant in
-    let l = c.loop-k-test.true in
-    let f = c.if-n-froms.false in
-    let m = c.if-room-x.false in
-    let a = c.deeper-a in
-    let t = c.text_of.ensures in
-    let q = c.seek_short-k-in-loop-k in
-    (copying_more _ _ _ _ _ _ _ _ _ _ i.0 i.1 l a.result a.ensures m f q.result q.ensures _ t, q.ensures.seen, search copying, search copying, search copying)
-
-pub shape_of-room : goal.shape_of-room
-shape_of-room c = search copying
-
-pub shape_of-froms : goal.shape_of-froms
-shape_of-froms c = search copying
-
-pub shape_of-tos : goal.shape_of-tos
-shape_of-tos c = search copying
+pub loop-found-preserved : goal.loop-found-preserved
+loop-found-preserved c =
+    let k = c.in-Some.k in
+    let s = c.loop-found.invariant.1.seen k c.in-Some.is in
+    let g = rw c.in-Some.is at c.loop-found.invariant.0 in
+    let q = c.seek_short-found-in-Some.ensures in
+    (copying_more _ _ _ _ _ _ _ _ _ k g s _ c.deeper-a.ensures c.if-room-x.false c.if-n-froms.false _ q _ c.text_of.ensures, q.seeing, search rules, search rules, search rules)
 
 pub returns : goal.returns
-returns c = search copying
+returns c = let g = rw c.in_default.is at c.loop-found.invariant.0 in search (g, copying)

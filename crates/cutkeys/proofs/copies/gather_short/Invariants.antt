@@ -2,12 +2,12 @@
 use mathlib.Core.Path.{◌≡◌}
 use Prim.Native.Nat.{◌-◌}
 use lib.ListN.{length}
-use Rattle.cutkeys.specs.Shorts.{SeenShort}
+use Rattle.cutkeys.specs.Shorts.{short_in, SeeingShort}
 use Rattle.cutkeys.specs.Copies.{Copying}
 use Rattle.cutkeys.proofs.copies.gather_short.Given as goal
 
-abbrev pub invariant-loop-k : goal.invariant-loop-k
-invariant-loop-k l = Copying l.stored l.starts l.d l.stop l.room l.froms l.tos l.n l.x l.k.place × SeenShort l.stored l.starts l.d l.stop l.k × (length l.room ≡ length l.initial.room) × (length l.froms ≡ length l.initial.froms) × (length l.tos ≡ length l.initial.tos)
+abbrev pub invariant-loop-found : goal.invariant-loop-found
+invariant-loop-found l = Copying l.v.stored.now l.v.starts.now l.v.d l.v.n l.room l.froms l.tos l.n l.x (short_in l.v.n l.found) × SeeingShort l.v.stored.now l.v.starts.now l.v.d l.v.n l.found × (length l.room ≡ length l.initial.room) × (length l.froms ≡ length l.initial.froms) × (length l.tos ≡ length l.initial.tos)
 
-abbrev pub decreases-loop-k : goal.decreases-loop-k
-decreases-loop-k l = l.stop - l.k.place
+abbrev pub decreases-loop-found : goal.decreases-loop-found
+decreases-loop-found l = l.v.n - short_in l.v.n l.found

@@ -1,30 +1,17 @@
 -- `among` seeks the text of the key among the others.
-use Rattle.cutkeys.specs.CutsSought.{amongs}
+use Rattle.cutkeys.specs.CutsSought.{among_content, among_asks, among_told, amongs}
+use native.Mathlib.Omega.{arith}
 use Rattle.cutkeys.proofs.cuts.among.Goals as goal
 
-pub size_of-k-requires : goal.size_of-k-requires
-size_of-k-requires c = search amongs
-
-pub least-m-requires : goal.least-m-requires
-least-m-requires c = search amongs
-
-pub deeper-a-requires : goal.deeper-a-requires
-deeper-a-requires c = search amongs
-
-pub overflow_add-d : goal.overflow_add-d
-overflow_add-d c = search amongs
-
-pub overflow_sub-n : goal.overflow_sub-n
-overflow_sub-n c = search amongs
-
-pub last_bytes-room-requires : goal.last_bytes-room-requires
-last_bytes-room-requires c = search amongs
-
-pub slice_bounds-sought-end : goal.slice_bounds-sought-end
-slice_bounds-sought-end c = search amongs
+pub invariant_of-text : goal.invariant_of-text
+invariant_of-text c = record { content = among_content _ _ _ _ _ c.requires.1 _ c.deeper-s.ensures _ c.size_of.ensures }
 
 pub sought-requires : goal.sought-requires
-sought-requires c = search amongs
+sought-requires c =
+    among_asks _ _ _ _ _ c.requires.1 _ c.deeper-s.ensures _ c.size_of.ensures _ (omega arith) (omega arith) c.requires.0 _ c.last_bytes-room.ensures
 
 pub returns : goal.returns
-returns c = search amongs
+returns c = among_told _ _ _ _ _ c.requires.1 _ c.deeper-s.ensures _ c.size_of.ensures _ c.sought.ensures
+
+pub deeper-s-requires : goal.deeper-s-requires
+deeper-s-requires c = search amongs

@@ -1,33 +1,18 @@
 -- `rest_apart` seeks each key that is cut and not in the window. The loop's invariant: all are alone exactly if those from p on are, and the one at p stands where it is said to.
-use Rattle.cutkeys.specs.CutsWindow.{resting}
+use borrow.Author.Rules.{rules}
+use Rattle.cutkeys.specs.CutsWindow.{rest_inside, rest_on}
+use Rattle.cutkeys.proofs.cuts.rest_apart.Goals.{else-not-is_told-via-then-not-is_told+else-among, else-not-is_told-via-else-not-is_told}
 use Rattle.cutkeys.proofs.cuts.rest_apart.Goals as goal
 
-pub loop-p-init : goal.loop-p-init
-loop-p-init c = search resting
-
-pub key_at-k-requires : goal.key_at-k-requires
-key_at-k-requires c = search resting
-
-pub is_told-requires : goal.is_told-requires
-is_told-requires c = search resting
-
-pub among-requires : goal.among-requires
-among-requires c = search resting
-
-pub returns-then-among : goal.returns-then-among
-returns-then-among c = search resting
-
-pub loop-p-smaller-then-is_told : goal.loop-p-smaller-then-is_told
-loop-p-smaller-then-is_told c = search resting
-
-pub loop-p-preserved-then-is_told : goal.loop-p-preserved-then-is_told
-loop-p-preserved-then-is_told c = search resting
-
-pub loop-p-smaller : goal.loop-p-smaller
-loop-p-smaller c = search resting
-
 pub loop-p-preserved : goal.loop-p-preserved
-loop-p-preserved c = search resting
-
-pub returns : goal.returns
-returns c = search resting
+loop-p-preserved c =
+    let g = c.loop-p.invariant.0 in
+    let l = c.loop-p-test.true in
+    let k = c.key_at-k in
+    let t = c.is_told in (
+      elim c.else-not-is_told.branch [
+        | else-not-is_told-via-then-not-is_told+else-among w ↦ rest_on _ _ _ _ _ _ g l k.result k.ensures.0 t.result t.ensures (search rules) w.among.result w.among.ensures w.if-among.false
+        | else-not-is_told-via-else-not-is_told w ↦ rest_inside _ _ _ _ _ _ g l k.result k.ensures.0 t.result t.ensures (search rules)
+      ],
+      k.ensures.1,
+    )

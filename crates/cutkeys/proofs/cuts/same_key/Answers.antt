@@ -1,21 +1,15 @@
 -- `same_key` compares the length, then the text, which is a content.
-use Rattle.cutkeys.specs.CutsSame.{owning}
+use Rattle.cutkeys.specs.CutsSame.{own_content, own_other, own_same, owning}
 use Rattle.cutkeys.proofs.cuts.same_key.Goals as goal
 
-pub size_of-k-requires : goal.size_of-k-requires
-size_of-k-requires c = search owning
+pub returns-then-k-a : goal.returns-then-k-a
+returns-then-k-a c = own_other _ _ _ _ _ c.requires _ c.size_of-k.ensures _ _ _ _ c.args.a.content c.if-k-a.true
 
-pub deeper-b-requires : goal.deeper-b-requires
-deeper-b-requires c = search owning
-
-pub overflow_add-d : goal.overflow_add-d
-overflow_add-d c = search owning
-
-pub same_bytes-requires : goal.same_bytes-requires
-same_bytes-requires c = search owning
-
-pub returns-then-k-n : goal.returns-then-k-n
-returns-then-k-n c = search owning
+pub invariant_of-text : goal.invariant_of-text
+invariant_of-text c = record { content = own_content _ _ _ _ _ c.requires _ c.size_of-k.ensures _ c.deeper-s.ensures }
 
 pub returns : goal.returns
-returns c = search owning
+returns c = own_same _ _ _ _ _ c.requires _ c.size_of-k.ensures _ c.deeper-s.ensures _ _ c.same_bytes.ensures
+
+pub deeper-s-requires : goal.deeper-s-requires
+deeper-s-requires c = search owning

@@ -1,27 +1,12 @@
 -- `skip` passes those before the nearest cut.
-use Rattle.cutkeys.specs.CutsPast.{skipping}
+use Rattle.cutkeys.specs.CutsPast.{skip_below, skipping}
 use Rattle.cutkeys.proofs.cuts.skip.Goals as goal
 
 pub near-r-requires : goal.near-r-requires
-near-r-requires c = search skipping
-
-pub overflow_add-p : goal.overflow_add-p
-overflow_add-p c = search skipping
-
-pub slice_bounds-past-count : goal.slice_bounds-past-count
-slice_bounds-past-count c = search skipping
-
-pub slice_bounds-past-start : goal.slice_bounds-past-start
-slice_bounds-past-start c = search skipping
-
-pub slice_bounds-past-end : goal.slice_bounds-past-end
-slice_bounds-past-end c = search skipping
-
-pub past-requires : goal.past-requires
-past-requires c = search skipping
+near-r-requires c = skip_below _ _ _ _ _ _ _ _ c.args.v.content c.requires
 
 pub overflow_add-result : goal.overflow_add-result
-overflow_add-result c = search skipping
+overflow_add-result c = let v = c.args.v.content in search (v, skipping)
 
 pub returns : goal.returns
-returns c = search skipping
+returns c = let v = c.args.v.content in search (v, skipping)

@@ -2,20 +2,11 @@
 use Rattle.cutkeys.specs.CutsSought.{soughts}
 use Rattle.cutkeys.proofs.cuts.sought.Goals as goal
 
-pub skip-q-requires : goal.skip-q-requires
-skip-q-requires c = search soughts
-
-pub loop-q-init : goal.loop-q-init
-loop-q-init c = search soughts
-
 pub same_other-requires : goal.same_other-requires
 same_other-requires c = search soughts
 
 pub returns-then-same_other : goal.returns-then-same_other
 returns-then-same_other c = search soughts
-
-pub skip_from-q-requires : goal.skip_from-q-requires
-skip_from-q-requires c = search soughts
 
 pub loop-q-smaller : goal.loop-q-smaller
 loop-q-smaller c = search soughts

@@ -3,12 +3,12 @@ use mathlib.Core.Path.{◌≡◌}
 use Prim.Native.Nat.{◌-◌}
 use lib.ListN.{length}
 use Rattle.distinct.specs.Entering.{Entering}
-use Rattle.cutkeys.specs.Whole.{whole_keys}
-use Rattle.cutkeys.specs.Found.{Seen'}
+use Rattle.cutkeys.specs.Found.{Seeing, place_in}
+use Rattle.cutkeys.specs.Content.{wholes_of}
 use Rattle.cutkeys.proofs.windows.enter.Given as goal
 
-abbrev pub invariant-loop-k : goal.invariant-loop-k
-invariant-loop-k l = Entering (whole_keys l.stored l.starts l.d l.stop) l.stored l.froms l.tos l.heads l.links l.from l.n l.k.place × Seen' l.stored l.starts l.d l.stop l.k × (length l.froms ≡ length l.initial.froms) × (length l.tos ≡ length l.initial.tos) × (length l.heads ≡ length l.initial.heads) × (length l.links ≡ length l.initial.links)
+abbrev pub invariant-loop-found : goal.invariant-loop-found
+invariant-loop-found l = Entering (wholes_of l.v) l.v.stored.now l.froms l.tos l.heads l.links l.from l.n (place_in l.v.n l.found) × Seeing l.v.stored.now l.v.starts.now l.v.d l.v.n l.found × (length l.froms ≡ length l.initial.froms) × (length l.tos ≡ length l.initial.tos) × (length l.heads ≡ length l.initial.heads) × (length l.links ≡ length l.initial.links)
 
-abbrev pub decreases-loop-k : goal.decreases-loop-k
-decreases-loop-k l = l.stop - l.k.place
+abbrev pub decreases-loop-found : goal.decreases-loop-found
+decreases-loop-found l = l.v.n - place_in l.v.n l.found

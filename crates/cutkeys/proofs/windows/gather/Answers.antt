@@ -1,67 +1,42 @@
--- `gather` fills a window with the places of keys' texts. The loop's invariant: the first n stand there, and the others are those from k on.
+-- `gather` fills a window with the places of keys' texts. The loop's invariant: the first n stand there, and the others are those from the one found on.
+use borrow.Author.Rules.{rules}
+use mathlib.Core.Path.{refl}
 use Rattle.distinct.specs.Windows.{gather_more, gathering}
-use Rattle.cutkeys.proofs.WholeLaws.{found_part, found_text, found_open, found_next, finding}
+use Rattle.cutkeys.proofs.WholeLaws.{found_part, found_from, found_to, found_text, found_open, found_next, found_less, finding}
 use Rattle.cutkeys.proofs.windows.gather.Goals as goal
 
-pub seek-k-requires : goal.seek-k-requires
-seek-k-requires c = search (finding, gathering)
-
-pub loop-k-init : goal.loop-k-init
-loop-k-init c = search (finding, gathering)
-
-pub shape_of-froms-then-n-froms : goal.shape_of-froms-then-n-froms
-shape_of-froms-then-n-froms c = search (finding, gathering)
-
-pub shape_of-tos-then-n-froms : goal.shape_of-tos-then-n-froms
-shape_of-tos-then-n-froms c = search (finding, gathering)
+pub loop-found-init : goal.loop-found-init
+loop-found-init c = (search (finding, gathering), c.seek-found.ensures.seeing, refl, refl)
 
 pub returns-then-n-froms : goal.returns-then-n-froms
-returns-then-n-froms c = search (finding, gathering)
+returns-then-n-froms c = let g = rw c.in-Some.is at c.loop-found.invariant.0 in search (g, gathering)
 
 pub overflow_cast-froms : goal.overflow_cast-froms
-overflow_cast-froms c = search (finding, gathering)
-
-pub offset_bounds-froms-n : goal.offset_bounds-froms-n
-offset_bounds-froms-n c = search (finding, gathering)
-
-pub bounds-froms-n : goal.bounds-froms-n
-bounds-froms-n c = search (finding, gathering)
+overflow_cast-froms c = let k = c.in-Some.k in found_from _ _ _ _ k (c.loop-found.invariant.1.seen k c.in-Some.is)
 
 pub overflow_cast-tos : goal.overflow_cast-tos
-overflow_cast-tos c = search (finding, gathering)
+overflow_cast-tos c = let k = c.in-Some.k in found_to _ _ _ _ k (c.loop-found.invariant.1.seen k c.in-Some.is)
 
-pub offset_bounds-tos-n : goal.offset_bounds-tos-n
-offset_bounds-tos-n c = search (finding, gathering)
+pub seek-found-requires-in-Some : goal.seek-found-requires-in-Some
+seek-found-requires-in-Some c =
+    let k = c.in-Some.k in
+    let s = c.loop-found.invariant.1.seen k c.in-Some.is in
+    (found_open _ _ _ _ k s, s.run)
 
-pub bounds-tos-n : goal.bounds-tos-n
-bounds-tos-n c = search (finding, gathering)
+pub loop-found-smaller : goal.loop-found-smaller
+loop-found-smaller c =
+    let k = c.in-Some.k in
+    let s = c.loop-found.invariant.1.seen k c.in-Some.is in
+    let g = rw c.in-Some.is at c.loop-found.invariant.0 in
+    rw c.in-Some.is (found_less _ _ _ _ k s _ c.seek-found-in-Some.ensures g.keys)
 
-pub overflow_add-n : goal.overflow_add-n
-overflow_add-n c = search (finding, gathering)
-
-pub seek-k-requires-in-loop-k : goal.seek-k-requires-in-loop-k
-seek-k-requires-in-loop-k c =
-    let i = c.loop-k.invariant in
-    let l = c.loop-k-test.true in
-    (found_open _ _ _ _ _ i.1 l, i.1.run)
-
-pub loop-k-smaller : goal.loop-k-smaller
-loop-k-smaller c = search (finding, gathering)
-
-pub loop-k-preserved : goal.loop-k-preserved
-loop-k-preserved c =
-    let i = c.loop-k.invariant in
-    let l = c.loop-k-test.true in
-    let f = c.if-n-froms.false in
-    let p = found_part _ _ _ _ _ i.1 l in
-    let t = found_text _ _ _ _ _ i.1 l in
-    (gather_more _ _ _ _ _ _ _ i.0 f l _ _ p t _ (found_next _ _ _ _ _ i.1 l _ c.seek-k-in-loop-k.ensures), c.seek-k-in-loop-k.ensures.seen, search gathering, search gathering)
-
-pub shape_of-froms : goal.shape_of-froms
-shape_of-froms c = search (finding, gathering)
-
-pub shape_of-tos : goal.shape_of-tos
-shape_of-tos c = search (finding, gathering)
+pub loop-found-preserved : goal.loop-found-preserved
+loop-found-preserved c =
+    let k = c.in-Some.k in
+    let s = c.loop-found.invariant.1.seen k c.in-Some.is in
+    let g = rw c.in-Some.is at c.loop-found.invariant.0 in
+    let q = c.seek-found-in-Some.ensures in
+    (gather_more _ _ _ _ _ _ _ g c.if-n-froms.false s.low _ _ (found_part _ _ _ _ k s) (found_text _ _ _ _ k s) _ (found_next _ _ _ _ k s _ q), q.seeing, search rules, search rules)
 
 pub returns : goal.returns
-returns c = search (finding, gathering)
+returns c = let g = rw c.in_default.is at c.loop-found.invariant.0 in search (g, gathering)

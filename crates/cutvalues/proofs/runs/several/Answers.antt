@@ -1,36 +1,21 @@
--- `several` passes members, until no whole one stands there.
-use Rattle.cutvalues.proofs.RunLaws.{going}
+-- `several` passes members of a run. The loop's invariant: those before the place are passed.
+use Rattle.cutvalues.proofs.RunLaws.{going_rows, going_count, going_less, going}
 use Rattle.cutvalues.proofs.runs.several.Goals as goal
 
-pub loop-allow-init : goal.loop-allow-init
-loop-allow-init c = search going
-
-pub is_member-requires : goal.is_member-requires
-is_member-requires c = search going
-
-pub child-requires : goal.child-requires
-child-requires c = search going
-
-pub enum_told-1 : goal.enum_told-1
-enum_told-1 c = search going
-
-pub returns-in-Bad : goal.returns-in-Bad
-returns-in-Bad c = search going
-
-pub enum_known-next : goal.enum_known-next
-enum_known-next c = search going
+pub loop-at-init : goal.loop-at-init
+loop-at-init c = search going
 
 pub overflow_add-rows : goal.overflow_add-rows
-overflow_add-rows c = search going
+overflow_add-rows c = going_rows _ _ _ _ _ _ c.loop-at.invariant _ c.child.ensures _ c.in_ok-t.was
 
 pub overflow_add-members : goal.overflow_add-members
-overflow_add-members c = search going
+overflow_add-members c = going_count _ _ _ _ _ _ c.loop-at.invariant _ c.child.ensures _ c.in_ok-t.was
 
-pub loop-allow-smaller : goal.loop-allow-smaller
-loop-allow-smaller c = search going
+pub loop-at-smaller : goal.loop-at-smaller
+loop-at-smaller c = going_less _ _ _ _ _ _ c.loop-at.invariant _ c.child.ensures _ c.in_ok-t.was
 
-pub loop-allow-preserved : goal.loop-allow-preserved
-loop-allow-preserved c = search going
+pub loop-at-preserved : goal.loop-at-preserved
+loop-at-preserved c = search going
 
 pub overflow_mul-result : goal.overflow_mul-result
 overflow_mul-result c = search going
@@ -38,5 +23,5 @@ overflow_mul-result c = search going
 pub overflow_sub-result : goal.overflow_sub-result
 overflow_sub-result c = search going
 
-pub returns : goal.returns
-returns c = search going
+pub returns-in_err-t : goal.returns-in_err-t
+returns-in_err-t c = rw c.from_residual.ensures (search going)

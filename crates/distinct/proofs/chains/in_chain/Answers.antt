@@ -1,5 +1,5 @@
 -- `in_chain` tells whether a key of a chain has a text, or breaks off. The loop's invariant: one has if one of the rest has.
-use Rattle.distinct.specs.Chains.{Looking, looking}
+use Rattle.distinct.specs.Chains.{looking}
 use Rattle.distinct.proofs.chains.in_chain.Goals as goal
 
 pub loop-h-init : goal.loop-h-init

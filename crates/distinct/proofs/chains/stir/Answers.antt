@@ -1,6 +1,5 @@
 -- `stir` gives the number that picks a chain. The loop's invariant: it is that of the bytes passed.
-use Prim.Native.Nat.{◌-◌}
-use Rattle.distinct.specs.Chains.{Stirring, stirs}
+use Rattle.distinct.specs.Chains.{stirs}
 use Rattle.distinct.proofs.chains.stir.Goals as goal
 
 pub loop-i-init : goal.loop-i-init
@@ -11,12 +10,6 @@ bounds-text-i c = search stirs
 
 pub stirred-h-requires : goal.stirred-h-requires
 stirred-h-requires c = search stirs
-
-pub overflow_add-i : goal.overflow_add-i
-overflow_add-i c = search stirs
-
-pub loop-i-smaller : goal.loop-i-smaller
-loop-i-smaller c = search stirs
 
 pub loop-i-preserved : goal.loop-i-preserved
 loop-i-preserved c = search stirs

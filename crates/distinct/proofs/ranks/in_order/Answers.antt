@@ -1,7 +1,5 @@
 -- `in_order` tells where a text belongs. The loop's invariant: behind the first lo, and before those from hi on.
 use borrow.Author.Rules.{rules}
-use Prim.Native.Nat.{◌-◌}
-use Rattle.repeats.specs.Sorted.{Sought}
 use Rattle.distinct.specs.Ranks.{find_above, finding}
 use Rattle.distinct.proofs.ranks.in_order.Goals as goal
 
@@ -26,14 +24,14 @@ loop-lo-smaller-in-Less c = search finding
 pub loop-lo-preserved-in-Less : goal.loop-lo-preserved-in-Less
 loop-lo-preserved-in-Less c = search finding
 
-pub enum_told-in-Same : goal.enum_told-in-Same
-enum_told-in-Same c = search finding
+pub enum_told-in-Equal : goal.enum_told-in-Equal
+enum_told-in-Equal c = search finding
 
-pub returns-in-Same : goal.returns-in-Same
-returns-in-Same c = search finding
+pub returns-in-Equal : goal.returns-in-Equal
+returns-in-Equal c = search finding
 
-pub enum_told-in-More : goal.enum_told-in-More
-enum_told-in-More c = search finding
+pub enum_told-in-Greater : goal.enum_told-in-Greater
+enum_told-in-Greater c = search finding
 
 pub overflow_add-lo : goal.overflow_add-lo
 overflow_add-lo c = search finding

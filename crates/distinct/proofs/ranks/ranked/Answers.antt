@@ -14,8 +14,8 @@ in_order-requires c = search joining
 pub insert-requires : goal.insert-requires
 insert-requires c = (search joining, search joining, search joining)
 
-pub returns-in-At : goal.returns-in-At
-returns-in-At c = search joining
+pub returns-in-Ok : goal.returns-in-Ok
+returns-in-Ok c = search joining
 
-pub returns-in-Gap : goal.returns-in-Gap
-returns-in-Gap c = search joining
+pub returns-in-Err : goal.returns-in-Err
+returns-in-Err c = search joining

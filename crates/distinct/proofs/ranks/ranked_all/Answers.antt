@@ -1,7 +1,6 @@
 -- `ranked_all` puts all keys of the window in order. The loop's invariant: none passed has the text of an earlier one, and they stand in order.
 use borrow.Author.Rules.{rules}
-use Prim.Native.Nat.{◌-◌}
-use Rattle.distinct.specs.Ranks.{Sorting, sorting}
+use Rattle.distinct.specs.Ranks.{sorting}
 use Rattle.distinct.proofs.ranks.ranked_all.Goals as goal
 
 pub loop-i-init : goal.loop-i-init
@@ -15,12 +14,6 @@ shape_of-order-then-ranked c = search sorting
 
 pub returns-then-ranked : goal.returns-then-ranked
 returns-then-ranked c = search sorting
-
-pub overflow_add-i : goal.overflow_add-i
-overflow_add-i c = search sorting
-
-pub loop-i-smaller : goal.loop-i-smaller
-loop-i-smaller c = search sorting
 
 pub loop-i-preserved : goal.loop-i-preserved
 loop-i-preserved c = (search sorting, search rules)

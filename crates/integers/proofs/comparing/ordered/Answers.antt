@@ -1,48 +1,20 @@
 -- `ordered` orders two integers' texts by their signs, and below zero the other way round.
-use Rattle.integers.proofs.OrderLaws.{orders}
+use Rattle.std.proofs.Common.{ap₂, ◌∙◌}
+use Rattle.integers.specs.Contract.{by_size}
+use Rattle.integers.proofs.OrderLaws.{order_minuses, order_lesser, order_greater, order_plains}
 use Rattle.integers.proofs.comparing.ordered.Goals as goal
 
-pub negative-requires : goal.negative-requires
-negative-requires c = search orders
+pub returns-in-Some-Some : goal.returns-in-Some-Some
+returns-in-Some-Some c =
+    let a = c.in-Some-Some.ensures.cases in
+    let b = c.in-Some-Some.ensures'.cases in
+    order_minuses _ _ c.requires a.0 b.0 _ (c.by_size.ensures ∙ ap₂ by_size b.1 a.1)
 
-pub negative-requires-then-negative : goal.negative-requires-then-negative
-negative-requires-then-negative c = search orders
+pub returns-in-Some-None : goal.returns-in-Some-None
+returns-in-Some-None c = order_lesser _ _ c.requires c.in-Some-None.ensures.cases.0 c.in-Some-None.ensures'.cases
 
-pub slice_bounds-by_size-count : goal.slice_bounds-by_size-count
-slice_bounds-by_size-count c = search orders
+pub returns-in-None-Some : goal.returns-in-None-Some
+returns-in-None-Some c = order_greater _ _ c.requires c.in-None-Some.ensures.cases c.in-None-Some.ensures'.cases.0
 
-pub slice_bounds-by_size-start : goal.slice_bounds-by_size-start
-slice_bounds-by_size-start c = search orders
-
-pub slice_bounds-by_size-end : goal.slice_bounds-by_size-end
-slice_bounds-by_size-end c = search orders
-
-pub slice_bounds-by_size-count-then-negative-2 : goal.slice_bounds-by_size-count-then-negative-2
-slice_bounds-by_size-count-then-negative-2 c = search orders
-
-pub slice_bounds-by_size-start-then-negative-2 : goal.slice_bounds-by_size-start-then-negative-2
-slice_bounds-by_size-start-then-negative-2 c = search orders
-
-pub slice_bounds-by_size-end-then-negative-2 : goal.slice_bounds-by_size-end-then-negative-2
-slice_bounds-by_size-end-then-negative-2 c = search orders
-
-pub by_size-requires : goal.by_size-requires
-by_size-requires c = search orders
-
-pub returns-then-negative-2 : goal.returns-then-negative-2
-returns-then-negative-2 c = search orders
-
-pub returns-then-negative : goal.returns-then-negative
-returns-then-negative c = search orders
-
-pub negative-requires-2 : goal.negative-requires-2
-negative-requires-2 c = search orders
-
-pub returns-then-negative-3 : goal.returns-then-negative-3
-returns-then-negative-3 c = search orders
-
-pub by_size-requires-2 : goal.by_size-requires-2
-by_size-requires-2 c = search orders
-
-pub returns : goal.returns
-returns c = search orders
+pub returns-in-None-None : goal.returns-in-None-None
+returns-in-None-None c = order_plains _ _ c.requires c.in-None-None.ensures.cases c.in-None-None.ensures'.cases _ c.by_size-in-None-None.ensures

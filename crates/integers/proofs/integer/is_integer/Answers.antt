@@ -1,27 +1,14 @@
--- `is_integer` tells an integer's text.
-use Rattle.integers.proofs.NumeralLaws.{numerals}
+-- `is_integer` tells an integer's text: `0`, or digits behind at most one minus.
+use Rattle.std.proofs.Common.{refl, sym, ap, ◌∙◌, eqb}
+use Rattle.std.specs.Cmp.Lexicographic.{pointwise}
+use Rattle.integers.proofs.NumeralLaws.{zero_integer, rest_integer}
 use Rattle.integers.proofs.integer.is_integer.Goals as goal
 
-pub returns-then-s-eq0 : goal.returns-then-s-eq0
-returns-then-s-eq0 c = search numerals
+pub returns-then-eq : goal.returns-then-eq
+returns-then-eq c = zero_integer c.args.s.now c.eq.result (c.eq.ensures ∙ ap (pointwise eqb c.args.s.now) c.as_slice.ensures) c.if-eq.true
 
-pub bounds-s-0 : goal.bounds-s-0
-bounds-s-0 c = search numerals
-
-pub counting-requires : goal.counting-requires
-counting-requires c = search numerals
-
-pub returns-then-s-eq45 : goal.returns-then-s-eq45
-returns-then-s-eq45 c = search numerals
-
-pub bounds-s-0-2 : goal.bounds-s-0-2
-bounds-s-0-2 c = search numerals
-
-pub returns-then-s-eq48 : goal.returns-then-s-eq48
-returns-then-s-eq48 c = search numerals
-
-pub counting-requires-2 : goal.counting-requires-2
-counting-requires-2 c = search numerals
-
-pub returns : goal.returns
-returns c = search numerals
+pub returns-else-eq : goal.returns-else-eq
+returns-else-eq c =
+    let z = sym (c.eq.ensures ∙ ap (pointwise eqb c.args.s.now) c.as_slice.ensures) ∙ c.if-eq.false in
+    let h = rest_integer c.args.s.now z c.strip_prefix.result c.args.s refl c.strip_prefix.ensures.cases in
+    cc

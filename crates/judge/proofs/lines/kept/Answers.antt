@@ -2,8 +2,8 @@
 use Rattle.judge.proofs.Lining.{keeping}
 use Rattle.judge.proofs.lines.kept.Goals as goal
 
-pub returns-in-Done : goal.returns-in-Done
-returns-in-Done c = search keeping
+pub returns-in-Ok : goal.returns-in-Ok
+returns-in-Ok c = search keeping
 
-pub returns-in-Bad : goal.returns-in-Bad
-returns-in-Bad c = search keeping
+pub returns-in-Err : goal.returns-in-Err
+returns-in-Err c = search keeping

@@ -5,8 +5,8 @@ use Rattle.judge.proofs.lines.key_row.Goals as goal
 pub row_of-w-requires : goal.row_of-w-requires
 row_of-w-requires c = search keying
 
-pub returns-in-No : goal.returns-in-No
-returns-in-No c = search keying
+pub returns-in_err-n : goal.returns-in_err-n
+returns-in_err-n c = search keying
 
-pub returns-in-Ok : goal.returns-in-Ok
-returns-in-Ok c = search keying
+pub returns : goal.returns
+returns c = search keying

@@ -14,8 +14,8 @@ enum_known-n c = search looking
 pub look-requires : goal.look-requires
 look-requires c = search looking
 
-pub returns-in-No : goal.returns-in-No
-returns-in-No c = search looking
+pub returns-in-Err : goal.returns-in-Err
+returns-in-Err c = search looking
 
 pub returns-in-Ok : goal.returns-in-Ok
 returns-in-Ok c = search looking

@@ -5,11 +5,8 @@ use Rattle.judge.proofs.look.line_end.Goals as goal
 pub returns-then-root : goal.returns-then-root
 returns-then-root c = search ending
 
-pub feed-requires-in-End : goal.feed-requires-in-End
-feed-requires-in-End c = search ending
+pub returns-in_err-optional_comment : goal.returns-in_err-optional_comment
+returns-in_err-optional_comment c = search ending
 
-pub returns-in-Bad : goal.returns-in-Bad
-returns-in-Bad c = search ending
-
-pub returns-in-End : goal.returns-in-End
-returns-in-End c = search ending
+pub returns : goal.returns
+returns c = search ending

@@ -16,7 +16,7 @@ pub behind-on_line-requires : goal.behind-on_line-requires
 behind-on_line-requires t c = search behind_colon
 
 pub behind-returns-in-Ok : goal.behind-returns-in-Ok
-behind-returns-in-Ok t c = rw c.anew.ensures (record { blocks = search behind_colon; notes = search behind_noting })
+behind-returns-in-Ok t c = rw c.anew_block.ensures (record { blocks = search behind_colon; notes = search behind_noting })
 
 pub behind-enum_told-1 : goal.behind-enum_told-1
 behind-enum_told-1 t c = search behind_colon
@@ -24,11 +24,11 @@ behind-enum_told-1 t c = search behind_colon
 pub behind-nested-requires : goal.behind-nested-requires
 behind-nested-requires t c = (search rules, (search behind_colon, search rules))
 
-pub behind-returns-in-Bad : goal.behind-returns-in-Bad
-behind-returns-in-Bad t c = record { blocks = search behind_colon; notes = search behind_noting }
+pub behind-returns-in_err-a : goal.behind-returns-in_err-a
+behind-returns-in_err-a t c = record { blocks = search behind_colon; notes = search (c.in_err-a.was, behind_noting) }
 
-pub behind-returns-in-End : goal.behind-returns-in-End
-behind-returns-in-End t c = rw c.anew-in-End.ensures (record { blocks = search behind_colon; notes = search behind_noting })
+pub behind-returns : goal.behind-returns
+behind-returns t c = rw c.anew_block-2.ensures (record { blocks = search behind_colon; notes = search behind_noting })
 
 pub block-loop-p-init : goal.block-loop-p-init
 block-loop-p-init t c = (search block_noting, search rules, search rules, search rules)
@@ -36,17 +36,17 @@ block-loop-p-init t c = (search block_noting, search rules, search rules, search
 pub block-member-requires : goal.block-member-requires
 block-member-requires t c = search block_laws
 
-pub block-returns-in-Bad : goal.block-returns-in-Bad
-block-returns-in-Bad t c = record { blocks = search block_laws; notes = search block_noting }
+pub block-returns-in-Err : goal.block-returns-in-Err
+block-returns-in-Err t c = record { blocks = search block_laws; notes = search block_noting }
 
 pub block-further-requires : goal.block-further-requires
-block-further-requires t c = block_inside _ _ _ _ _ _ _ _ _ _ _ _ c.loop-p.invariant.0.loop _ _ _ c.member.ensures.members _ _ _ c.in-Done.is
+block-further-requires t c = block_inside _ _ _ _ _ _ _ _ _ _ _ _ c.loop-p.invariant.0.loop _ _ _ c.member.ensures.members _ _ _ c.in-Ok.is
 
 pub block-enclose-requires : goal.block-enclose-requires
-block-enclose-requires t c = block_encloses _ _ _ _ _ _ _ _ _ _ _ _ c.loop-p.invariant.0.loop _ _ _ c.member.ensures.members _ _ _ c.in-Done.is _ refl
+block-enclose-requires t c = block_encloses _ _ _ _ _ _ _ _ _ _ _ _ c.loop-p.invariant.0.loop _ _ _ c.member.ensures.members _ _ _ c.in-Ok.is _ refl
 
-pub block-returns-in-Over : goal.block-returns-in-Over
-block-returns-in-Over t c = record { blocks = block_done _ _ _ _ _ _ _ _ _ _ _ _ c.loop-p.invariant.0.loop _ _ _ c.member.ensures.members _ _ _ c.in-Done.is _ c.further.ensures _ _ _ _ _ _ c.in-Over.is c.greater-far.ensures c.greater-in-Over.ensures refl c.enclose.ensures; notes = block_done_notes _ _ _ _ _ _ _ _ _ _ _ _ _ _ c.loop-p.invariant.0 _ _ _ _ c.member.ensures.members c.member.ensures.notes _ _ _ c.in-Done.is _ c.further.ensures _ _ c.in-Over.is }
+pub block-returns-in-Err-further : goal.block-returns-in-Err-further
+block-returns-in-Err-further t c = record { blocks = block_done _ _ _ _ _ _ _ _ _ _ _ _ c.loop-p.invariant.0.loop _ _ _ c.member.ensures.members _ _ _ c.in-Ok.is _ c.further.ensures _ _ _ _ _ _ c.in-Err-further.is c.max-far.ensures c.max-in-Err-further.ensures refl c.enclose.ensures; notes = block_done_notes _ _ _ _ _ _ _ _ _ _ _ _ _ _ c.loop-p.invariant.0 _ _ _ _ c.member.ensures.members c.member.ensures.notes _ _ _ c.in-Ok.is _ c.further.ensures _ _ c.in-Err-further.is }
 
 pub block-enum_known-m : goal.block-enum_known-m
 block-enum_known-m t c = search block_laws
@@ -61,19 +61,19 @@ pub bullet-member-requires : goal.bullet-member-requires
 bullet-member-requires t c = search bullet_laws
 
 pub bullet-enclose-requires : goal.bullet-enclose-requires
-bullet-enclose-requires t c = bullet_encloses _ _ _ _ 0 _ _ _ _ _ c.member.ensures.members _ _ _ c.in-Done.is (search rules)
+bullet-enclose-requires t c = bullet_encloses _ _ _ _ 0 _ _ _ _ _ c.member.ensures.members _ _ _ c.in_ok-n.was (search rules)
 
-pub bullet-returns-in-Bad : goal.bullet-returns-in-Bad
-bullet-returns-in-Bad t c = record { blocks = search bullet_laws; notes = search item_noting }
+pub bullet-returns-in_err-n : goal.bullet-returns-in_err-n
+bullet-returns-in_err-n t c = record { blocks = search bullet_laws; notes = search item_noting }
 
-pub bullet-returns-in-Done : goal.bullet-returns-in-Done
-bullet-returns-in-Done t c = record { blocks = search bullet_laws; notes = search item_noting }
+pub bullet-returns : goal.bullet-returns
+bullet-returns t c = record { blocks = search bullet_laws; notes = search item_noting }
 
 pub item-opener-requires : goal.item-opener-requires
 item-opener-requires t c = search item_laws
 
 pub item-returns-then-allow-eq0 : goal.item-returns-then-allow-eq0
-item-returns-then-allow-eq0 t c = rw c.anew.ensures (record { blocks = search item_laws; notes = search item_noting })
+item-returns-then-allow-eq0 t c = rw c.anew_block.ensures (record { blocks = search item_laws; notes = search item_noting })
 
 pub item-starts-requires : goal.item-starts-requires
 item-starts-requires t c = search item_laws
@@ -91,7 +91,7 @@ pub item-returns-in-Dash : goal.item-returns-in-Dash
 item-returns-in-Dash t c = record { blocks = search item_laws; notes = search item_noting }
 
 pub item-returns-in-Key : goal.item-returns-in-Key
-item-returns-in-Key t c = rw c.anew-in-Key.ensures (record { blocks = search item_laws; notes = search item_noting })
+item-returns-in-Key t c = rw c.anew_block-in-Key.ensures (record { blocks = search item_laws; notes = search item_noting })
 
 pub item-returns-in-Line : goal.item-returns-in-Line
 item-returns-in-Line t c = record { blocks = search item_laws; notes = search item_noting }
@@ -105,20 +105,17 @@ member-returns-then-object t c = record { members = search member_laws; notes = 
 pub member-pass-requires : goal.member-pass-requires
 member-pass-requires t c = search member_laws
 
-pub member-enum_known-p : goal.member-enum_known-p
-member-enum_known-p t c = search member_laws
-
 pub member-enum_known-n : goal.member-enum_known-n
 member-enum_known-n t c = search member_laws
 
 pub member-item-requires : goal.member-item-requires
 member-item-requires t c = (search rules, (search member_laws, search rules))
 
-pub member-returns-in-No : goal.member-returns-in-No
-member-returns-in-No t c = record { members = search member_laws; notes = search member_noting }
+pub member-returns-in_err-n : goal.member-returns-in_err-n
+member-returns-in_err-n t c = record { members = search member_laws; notes = search (c.in_err-n.was, member_noting) }
 
-pub member-returns-in-Ok : goal.member-returns-in-Ok
-member-returns-in-Ok t c = record { members = search member_laws; notes = search member_noting }
+pub member-returns : goal.member-returns
+member-returns t c = record { members = search member_laws; notes = search member_noting }
 
 pub nested-returns-then-i-col : goal.nested-returns-then-i-col
 nested-returns-then-i-col t c = record { blocks = search nested_laws; notes = search nested_noting }
@@ -145,7 +142,7 @@ pub nested-returns-in-Dash : goal.nested-returns-in-Dash
 nested-returns-in-Dash t c = record { blocks = search nested_laws; notes = search nested_noting }
 
 pub nested-returns-in-Key : goal.nested-returns-in-Key
-nested-returns-in-Key t c = rw c.anew.ensures (record { blocks = search nested_laws; notes = search nested_noting })
+nested-returns-in-Key t c = rw c.anew_block.ensures (record { blocks = search nested_laws; notes = search nested_noting })
 
 pub nested-returns-in-Line : goal.nested-returns-in-Line
 nested-returns-in-Line t c = record { blocks = search nested_laws; notes = search nested_noting }
@@ -153,23 +150,20 @@ nested-returns-in-Line t c = record { blocks = search nested_laws; notes = searc
 pub property-take-requires : goal.property-take-requires
 property-take-requires t c = search property_laws
 
-pub property-enum_known-p-in-No-take : goal.property-enum_known-p-in-No-take
-property-enum_known-p-in-No-take t c = search property_laws
-
 pub property-enum_known-m : goal.property-enum_known-m
 property-enum_known-m t c = search property_laws
 
 pub property-note-requires : goal.property-note-requires
-property-note-requires t c = search (property_key, rules)
+property-note-requires t c = property_key _ _ _ _ _ _ _ _ c.key_row.ensures _ c.in_ok-n.was c.requires.stands.small
 
 pub property-behind-requires : goal.property-behind-requires
-property-behind-requires t c = (search rules, (property_ready _ _ _ _ _ _ _ _ c.key_row.ensures _ _ c.in-Ok.is c.take.ensures _ c.in-Ok-take.is c.requires.stands, c.requires.allow_bound))
+property-behind-requires t c = (search rules, (property_ready _ _ _ _ _ _ _ _ c.key_row.ensures _ _ c.in_ok-n.was c.take.ensures _ c.in_ok-m.was c.requires.stands, c.requires.allow_bound))
 
-pub property-returns-in-No : goal.property-returns-in-No
-property-returns-in-No t c = record { members = search property_laws; notes = search property_noting }
+pub property-returns-in_err-n : goal.property-returns-in_err-n
+property-returns-in_err-n t c = record { members = search property_laws; notes = search (c.in_err-n.was, property_noting) }
 
-pub property-returns-in-No-take : goal.property-returns-in-No-take
-property-returns-in-No-take t c = record { members = search property_laws; notes = search property_noting }
+pub property-returns-in_err-m : goal.property-returns-in_err-m
+property-returns-in_err-m t c = record { members = search property_laws; notes = search (c.in_err-m.was, c.in_ok-n.was, property_noting) }
 
-pub property-returns-in-Ok-take : goal.property-returns-in-Ok-take
-property-returns-in-Ok-take t c = record { members = search property_laws; notes = search property_noting }
+pub property-returns : goal.property-returns
+property-returns t c = record { members = search property_laws; notes = search property_noting }

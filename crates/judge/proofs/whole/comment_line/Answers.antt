@@ -5,8 +5,8 @@ use Rattle.judge.proofs.whole.comment_line.Goals as goal
 pub feed-requires : goal.feed-requires
 feed-requires c = search heading
 
-pub returns-in-Bad : goal.returns-in-Bad
-returns-in-Bad c = search heading
+pub returns-in_err-comment : goal.returns-in_err-comment
+returns-in_err-comment c = search heading
 
-pub returns-in-End : goal.returns-in-End
-returns-in-End c = search heading
+pub returns : goal.returns
+returns c = search heading

@@ -6,11 +6,11 @@ use Rattle.judge.proofs.whole.pass.Goals as goal
 pub root-requires : goal.root-requires
 root-requires c = search passing
 
-pub returns-in-Bad : goal.returns-in-Bad
-returns-in-Bad c = record { checked = search passing; filled = search passing; logged = search pass_noting }
+pub returns-in_err-at : goal.returns-in_err-at
+returns-in_err-at c = record { checked = search (c.in_err-at.was, passing); filled = search (c.in_err-at.was, passing); logged = search (c.in_err-at.was, pass_noting) }
 
-pub returns-in-Bad-root : goal.returns-in-Bad-root
-returns-in-Bad-root c = record { checked = search passing; filled = search passing; logged = search pass_noting }
+pub returns-in_err-n : goal.returns-in_err-n
+returns-in_err-n c = record { checked = search (c.in_ok-at.was, c.in_err-n.was, passing); filled = search (c.in_ok-at.was, c.in_err-n.was, passing); logged = search (c.in_ok-at.was, c.in_err-n.was, pass_noting) }
 
-pub returns-in-Done : goal.returns-in-Done
-returns-in-Done c = record { checked = search passing; filled = search passing; logged = search pass_noting }
+pub returns : goal.returns
+returns c = record { checked = search (c.in_ok-at.was, c.in_ok-n.was, passing); filled = search (c.in_ok-at.was, c.in_ok-n.was, passing); logged = search (c.in_ok-at.was, c.in_ok-n.was, pass_noting) }

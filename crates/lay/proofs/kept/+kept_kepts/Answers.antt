@@ -5,9 +5,6 @@ use native.Mathlib.Omega.{arith}
 use borrow.Author.Rules.{rules}
 use Rattle.lay.proofs.kept.+kept_kepts.Goals as goal
 
-pub kept-head-x-requires : goal.kept-head-x-requires
-kept-head-x-requires t c = search rules
-
 pub kept-word-next-requires : goal.kept-word-next-requires
 kept-word-next-requires t c = head_next_word _ _ _ _ c.requires.0
 
@@ -18,16 +15,10 @@ pub kept-overflow_add-row : goal.kept-overflow_add-row
 kept-overflow_add-row t c = omega (arith, head_row_lem _ _ _ _ c.requires.0)
 
 pub kept-kepts-requires : goal.kept-kepts-requires
-kept-kepts-requires t c = let h = c.requires.0 in (omega (arith, c.decreases, head_ahead _ _ _ _ h c.word-next.ensures.0, c.word-next.ensures.0), (kept_inner _ _ _ _ h _ _ (c.head-x.ensures.0 h) _ c.word-next.ensures.0 _ refl refl, omega (arith, head_row_lem _ _ _ _ h)))
-
-pub kept-shape_of-rows : goal.kept-shape_of-rows
-kept-shape_of-rows t c = search rules
-
-pub kept-shape_of-room : goal.kept-shape_of-room
-kept-shape_of-room t c = search rules
+kept-kepts-requires t c = let h = c.requires.0 in (omega (arith, c.decreases, head_ahead _ _ _ _ h c.word-next.ensures.0, c.word-next.ensures.0), (kept_inner _ _ _ _ h _ _ (c.head-text.ensures.0 h) _ c.word-next.ensures.0 _ refl refl, omega (arith, head_row_lem _ _ _ _ h)))
 
 pub kept-returns : goal.kept-returns
-kept-returns t c = λ h. kept_all _ _ _ _ h _ _ (c.head-x.ensures.0 h) _ c.word-next.ensures.0 _ refl refl c.kepts.ensures
+kept-returns t c = λ h. kept_all _ _ _ _ h _ _ (c.head-text.ensures.0 h) _ c.word-next.ensures.0 _ refl refl c.kepts.ensures
 
 pub kepts-loop-r-init : goal.kepts-loop-r-init
 kepts-loop-r-init t c = (λ h. left_start _ _ h, refl, refl, omega arith)
@@ -43,12 +34,6 @@ kepts-loop-r-smaller t c = let h = c.requires.0 in let a = turn_ahead _ _ (c.loo
 
 pub kepts-loop-r-preserved : goal.kepts-loop-r-preserved
 kepts-loop-r-preserved t c = let h = c.requires.0 in let l = c.loop-r.invariant in let a = turn_ahead _ _ (l.0 h) c.loop-r-test.true c.word-r.ensures.0 in (λ h. turn_again _ _ (l.0 h) c.loop-r-test.true h.rows_fit h.text_fit c.word-r.ensures.0 c.kept-y.ensures, search rules, search rules, omega (arith, a.0, l.3))
-
-pub kepts-shape_of-rows : goal.kepts-shape_of-rows
-kepts-shape_of-rows t c = search rules
-
-pub kepts-shape_of-room : goal.kepts-shape_of-room
-kepts-shape_of-room t c = search rules
 
 pub kepts-returns : goal.kepts-returns
 kepts-returns t c = λ h. left_end _ _ (c.loop-r.invariant.0 h) c.loop-r-test.false

@@ -6,35 +6,14 @@ use Rattle.lay.proofs.kept.head.Goals as goal
 pub word-kind-requires : goal.word-kind-requires
 word-kind-requires c = search heading
 
-pub overflow_cast-kind : goal.overflow_cast-kind
-overflow_cast-kind c = search heading
-
-pub has_text-requires : goal.has_text-requires
-has_text-requires c = search heading
-
 pub spell-end-requires : goal.spell-end-requires
 spell-end-requires c = head_spelling _ _ _ _ c.requires.0 _ c.word-kind.ensures.0 (sym c.has_text.ensures ∙ c.if-has_text.true)
-
-pub store-requires : goal.store-requires
-store-requires c = search heading
-
-pub shape_of-rows-then-has_text : goal.shape_of-rows-then-has_text
-shape_of-rows-then-has_text c = search heading
-
-pub shape_of-room-then-has_text : goal.shape_of-room-then-has_text
-shape_of-room-then-has_text c = search heading
 
 pub returns-then-has_text : goal.returns-then-has_text
 returns-then-has_text c = (λ h. head_spelt _ _ _ _ h _ c.word-kind.ensures.0 (sym c.has_text.ensures ∙ c.if-has_text.true) c.spell-end.ensures.0 c.store.ensures, c.spell-end.ensures.1)
 
 pub word-to-requires : goal.word-to-requires
 word-to-requires c = search heading
-
-pub store-requires-2 : goal.store-requires-2
-store-requires-2 c = search heading
-
-pub shape_of-rows : goal.shape_of-rows
-shape_of-rows c = search heading
 
 pub returns : goal.returns
 returns c = (λ h. head_blank _ _ _ _ h _ c.word-kind.ensures.0 (sym c.has_text.ensures ∙ c.if-has_text.false) _ c.word-to.ensures.0 c.store-2.ensures, head_spot _ _ _ _ c.requires.0)

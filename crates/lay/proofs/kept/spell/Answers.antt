@@ -14,11 +14,5 @@ copy-requires c = search spelling
 pub overflow_sub-result : goal.overflow_sub-result
 overflow_sub-result c = search spelling
 
-pub overflow_add-result : goal.overflow_add-result
-overflow_add-result c = search spelling
-
-pub shape_of-room : goal.shape_of-room
-shape_of-room c = search spelling
-
 pub returns : goal.returns
 returns c = (λ h. spell_told _ _ _ _ h _ _ c.word-from.ensures.0 c.word-to.ensures.0 c.copy.ensures, spell_end _ _ _ _ c.requires _ _ c.word-from.ensures.0 c.word-to.ensures.0)

@@ -1,5 +1,5 @@
 -- `few_matches` marks the keys of an object one after another: each turn, one key less is left.
-use Rattle.lay.specs.Matching.{match_word, match_seek, match_mark, fill_start, fill_end, fill_named, fill_word, fill_ahead, fill_on}
+use Rattle.lay.specs.Matching.{match_word, match_seek, match_mark, mark_word, fill_start, fill_end, fill_named, fill_word, fill_ahead, fill_on}
 use mathlib.Core.Path.{refl}
 use lib.ListN.{length-set}
 use native.Mathlib.Omega.{arith}
@@ -20,15 +20,6 @@ overflow_add-s c = omega (arith, match_word _ _ _ _ _ _ _ c.requires.0)
 pub match_of-requires : goal.match_of-requires
 match_of-requires c = let h = c.requires.0 in (fill_named _ _ _ _ _ _ _ h _ _ _ (c.loop-r.invariant.0 h) c.loop-r-test.true, match_seek _ _ _ _ _ _ _ h _ c.word-stop.ensures.0)
 
-pub overflow_cast-marks : goal.overflow_cast-marks
-overflow_cast-marks c = omega (arith, c.match_of.ensures.1)
-
-pub bounds-marks-n : goal.bounds-marks-n
-bounds-marks-n c = omega (arith, c.if-n-most.false, c.loop-r.invariant.1, c.loop-r.invariant.2, c.requires.2)
-
-pub overflow_add-r : goal.overflow_add-r
-overflow_add-r c = let h = c.requires.0 in omega (arith, h.few, c.loop-r-test.true)
-
 pub word-r-requires : goal.word-r-requires
 word-r-requires c = let h = c.requires.0 in fill_word _ _ _ _ _ _ _ h _ _ _ (c.loop-r.invariant.0 h) c.loop-r-test.true
 
@@ -36,7 +27,7 @@ pub loop-r-smaller : goal.loop-r-smaller
 loop-r-smaller c = let h = c.requires.0 in let a = fill_ahead _ _ _ _ _ _ _ h _ _ _ (c.loop-r.invariant.0 h) c.loop-r-test.true c.word-r.ensures.0 in omega (arith, a.0, a.1)
 
 pub loop-r-preserved : goal.loop-r-preserved
-loop-r-preserved c = let h = c.requires.0 in let l = c.loop-r.invariant in let a = fill_ahead _ _ _ _ _ _ _ h _ _ _ (l.0 h) c.loop-r-test.true c.word-r.ensures.0 in (λ h. fill_on _ _ _ _ _ _ _ h _ _ _ (l.0 h) c.loop-r-test.true c.word-r.ensures.0 (omega (arith, c.if-n-most.false, l.1, l.2, c.requires.2)) (match_mark _ _ _ _ _ _ _ h _ c.word-stop.ensures.0 c.match_of.ensures.0), simp length-set l.1, omega (arith, c.if-n-most.false, l.1, l.2), λ e. omega arith, omega (arith, a.0, l.4))
+loop-r-preserved c = let h = c.requires.0 in let l = c.loop-r.invariant in let a = fill_ahead _ _ _ _ _ _ _ h _ _ _ (l.0 h) c.loop-r-test.true c.word-r.ensures.0 in (λ h. fill_on _ _ _ _ _ _ _ h _ _ _ (l.0 h) c.loop-r-test.true _ c.word-r.ensures.0 (omega (arith, c.if-n-most.false, l.1, l.2, c.requires.2)) (mark_word c.unwrap_or.ensures (match_mark _ _ _ _ _ _ _ h _ c.word-stop.ensures.0 c.match_of.ensures.0)), simp length-set l.1, omega (arith, c.if-n-most.false, l.1, l.2), λ e. omega arith, omega (arith, a.0, l.4))
 
 pub returns : goal.returns
 returns c = let l = c.loop-r.invariant in record { some = λ e. l.3 (omega (arith, c.loop-r-test.false)); low = omega (arith, l.2); marked = λ h. fill_end _ _ _ _ _ _ _ h _ _ _ (l.0 h) }

@@ -12,9 +12,6 @@ same_key-requires c = let h = c.requires.1 in (c.requires.0, seek_named _ _ _ _ 
 pub returns-then-same_key : goal.returns-then-same_key
 returns-then-same_key c = let g = c.requires.1 in (λ h. seek_found _ _ _ _ _ _ _ (c.loop-r.invariant.0 h) c.loop-r-test.true _ c.same_key.ensures c.if-same_key.true (omega (arith, h.some, c.loop-r.invariant.1)) h.few, omega (arith, g.few, c.loop-r-test.true))
 
-pub overflow_add-r : goal.overflow_add-r
-overflow_add-r c = let h = c.requires.1 in omega (arith, h.few, c.loop-r-test.true)
-
 pub word-r-requires : goal.word-r-requires
 word-r-requires c = let h = c.requires.1 in seek_word _ _ _ _ _ _ _ (c.loop-r.invariant.0 h) c.loop-r-test.true
 

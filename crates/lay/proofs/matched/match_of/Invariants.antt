@@ -6,7 +6,7 @@ use Prim.Native.Nat.{◌-◌, ◌≤◌}
 use Rattle.lay.proofs.matched.match_of.Given as goal
 
 abbrev pub invariant-loop-r : goal.invariant-loop-r
-invariant-loop-r l = ((h : Seek l.other l.words l.from l.stop) → Seeking l.other l.words (text_at l.table l.text l.q) l.from l.stop (pairs_of h.trees) l.r) × (l.from ≤ l.r)
+invariant-loop-r l = ((h : Seek l.other.rows.now l.other.text.now l.from l.stop) → Seeking l.other.rows.now l.other.text.now (text_at l.table.rows.now l.table.text.now l.q) l.from l.stop (pairs_of h.trees) l.r) × (l.from ≤ l.r)
 
 abbrev pub decreases-loop-r : goal.decreases-loop-r
 decreases-loop-r l = l.stop - l.r

@@ -8,7 +8,7 @@ use Prim.Native.Nat.{◌+◌, ◌-◌, ◌*◌, ◌≤◌}
 use Rattle.lay.proofs.objects.+lay_lowers_object_pair.Given as goal
 
 abbrev pub invariant-lowers-loop-q : goal.invariant-lowers-loop-q
-invariant-lowers-loop-q l = ((h : Lowers l.lower l.lower_text l.r l.upper l.upper_text l.s l.allow l.initial.y) → (e : l.stop ≡ get_or l.lower (width * l.r + 6) 0) → Going l.lower l.lower_text l.r l.upper l.upper_text l.s l.allow l.initial.y h l.stop e l.parent l.q l.y l.initial.rows l.rows l.initial.room l.room l.marks l.n l.i) × (length l.rows ≡ length l.initial.rows) × (length l.room ≡ length l.initial.room) × (length l.marks ≡ length l.initial.marks) × (l.n ≤ l.most) × (l.i ≤ l.n) × (l.most + 16 * l.allow ≤ length l.initial.marks)
+invariant-lowers-loop-q l = ((h : Lowers l.lower.rows.now l.lower.text.now l.r l.upper.rows.now l.upper.text.now l.s l.allow l.initial.y) → (e : l.stop ≡ get_or l.lower.rows.now (width * l.r + 6) 0) → Going l.lower.rows.now l.lower.text.now l.r l.upper.rows.now l.upper.text.now l.s l.allow l.initial.y h l.stop e l.parent l.q l.y l.initial.rows l.rows l.initial.room l.room l.marks l.left.end l.left.start) × (length l.rows ≡ length l.initial.rows) × (length l.room ≡ length l.initial.room) × (length l.marks ≡ length l.initial.marks) × (l.left.end ≤ l.most) × (l.left.start ≤ l.left.end) × (l.most + 16 * l.allow ≤ length l.initial.marks)
 
 abbrev pub decreases-lowers-loop-q : goal.decreases-lowers-loop-q
 decreases-lowers-loop-q l = l.stop - l.q

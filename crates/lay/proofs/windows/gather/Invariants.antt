@@ -6,7 +6,7 @@ use Rattle.lay.specs.Gathering.{Gathers}
 use Rattle.lay.proofs.windows.gather.Given as goal
 
 abbrev pub invariant-loop-r : goal.invariant-loop-r
-invariant-loop-r l = Gathers l.table l.text l.q l.end l.froms l.tos l.marks l.most l.n l.r × (length l.froms ≡ length l.initial.froms) × (length l.tos ≡ length l.initial.tos) × (length l.marks ≡ length l.initial.marks)
+invariant-loop-r l = Gathers l.table.rows.now l.table.text.now l.q l.end l.froms l.tos l.marks l.most l.n l.r × (length l.froms ≡ length l.initial.froms) × (length l.tos ≡ length l.initial.tos) × (length l.marks ≡ length l.initial.marks)
 
 abbrev pub decreases-loop-r : goal.decreases-loop-r
 decreases-loop-r l = l.end - l.r

@@ -6,7 +6,7 @@ use Rattle.lay.specs.Windows.{Probing}
 use Rattle.lay.proofs.windows.probed.Given as goal
 
 abbrev pub invariant-loop-r : goal.invariant-loop-r
-invariant-loop-r l = Probing l.text l.froms l.tos l.n l.other l.words l.from l.stop l.marks l.r × (length l.marks ≡ length l.initial.marks)
+invariant-loop-r l = Probing l.text l.froms l.tos l.n l.other.rows.now l.other.text.now l.from l.stop l.marks l.r × (length l.marks ≡ length l.initial.marks)
 
 abbrev pub decreases-loop-r : goal.decreases-loop-r
 decreases-loop-r l = l.stop - l.r

@@ -1,8 +1,6 @@
 -- `Walk::down` goes on into a later line. Assumes nothing.
 use native.Mathlib.Omega.{arith}
-use Rattle.language.specs.Lines.{tail}
-use Rattle.lined.specs.Searching.{clear_first}
-use Rattle.lined.specs.Walking.{feed_here, line_fits, stands_down, stands_under}
+use Rattle.lined.specs.Walking.{feed_here, line_fits, stands_below}
 use Rattle.lined.proofs.Walk.down.Goals as goal
 
 pub behind-start-requires : goal.behind-start-requires
@@ -19,19 +17,10 @@ overflow_add-line c =
     let n = c.lines in
     omega (arith, line_fits s.args.doc.now s.args.end s.args.p s.args.self s.requires.0 s.requires.1 n.result n.ensures)
 
-pub returns-then-tail-start : goal.returns-then-tail-start
-returns-then-tail-start c =
-    let s = c.before in
-    let n = c.lines in
-    let k = c.behind-start in
-    let f = c.feed-feed in
-    let t = clear_first tail s.args.doc.now k.result (omega (arith, k.ensures.before, s.requires.0.inside)) in
-    stands_down s.args.doc.now s.args.end s.args.p s.args.self s.requires.0 s.requires.1 n.result k.result f.result k.result n.ensures k.ensures f.ensures t
-
 pub returns : goal.returns
 returns c =
     let s = c.before in
     let n = c.lines in
     let k = c.behind-start in
     let f = c.feed-feed in
-    stands_under s.args.doc.now s.args.end s.args.p s.args.self s.requires.0 s.requires.1 n.result k.result f.result n.ensures k.ensures f.ensures c.if-tail-start.false
+    stands_below s.args.doc.now s.args.end s.args.p s.args.self s.requires.0 s.requires.1 n.result k.result f.result c.max-tail.result n.ensures k.ensures f.ensures c.max-tail.ensures

@@ -4,8 +4,8 @@ use lib.ListN.{length}
 use Rattle.numbers.proofs.DigitLaws.{Going}
 use Rattle.numbers.proofs.digits.spaced_group.Given as goal
 
-abbrev pub invariant-loop-p : goal.invariant-loop-p
-invariant-loop-p l = Going l.doc l.at l.end.at l.dense
+abbrev pub invariant-loop-at : goal.invariant-loop-at
+invariant-loop-at l = Going l.doc l.fn.r.at l.end.at l.dense
 
-abbrev pub decreases-loop-p : goal.decreases-loop-p
-decreases-loop-p l = length l.doc - l.end.at
+abbrev pub decreases-loop-at : goal.decreases-loop-at
+decreases-loop-at l = length l.doc - l.end.at

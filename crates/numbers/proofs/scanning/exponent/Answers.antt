@@ -1,21 +1,12 @@
 -- `exponent` meets its contract: the letter was taken; a sign and digits follow.
+use mathlib.Core.Path.{◌≡◌}
+use Rattle.exact.specs.Class.{and}
 use Rattle.numbers.proofs.TakeLaws.{power_laws}
 use Rattle.numbers.proofs.scanning.exponent.Goals as goal
-
-pub after_sign-d-requires : goal.after_sign-d-requires
-after_sign-d-requires c = search power_laws
-
-pub group-g-requires : goal.group-g-requires
-group-g-requires c = search power_laws
-
-pub returns-then-end-d : goal.returns-then-end-d
-returns-then-end-d c = search power_laws
-
-pub both-requires : goal.both-requires
-both-requires c = search power_laws
-
-pub float-requires : goal.float-requires
-float-requires c = search power_laws
+use Rattle.numbers.proofs.scanning.exponent.Goals.{then-dense, else-dense}
 
 pub returns : goal.returns
-returns c = search power_laws
+returns c =
+    let Is : Type 0 = c.if-dense.float ≡ and c.args.dense c.group-g.result.dense in
+    let z : Is = elim c.if-dense.branch as (λ _. Is) [ then-dense w ↦ rw w.if-dense.true (cc) | else-dense w ↦ rw w.if-dense.false (cc) ] in
+    search (power_laws, z)

@@ -1,10 +1,6 @@
 -- `nonzero` meets its contract. Assumes nothing.
-use Prim.Native.Nat.{◌-◌}
 use Rattle.numbers.proofs.TextLaws.{Skipping}
 use Rattle.numbers.proofs.writing.nonzero.Given as goal
 
 abbrev pub invariant-loop-z : goal.invariant-loop-z
 invariant-loop-z l = Skipping l.doc l.d l.e l.z
-
-abbrev pub decreases-loop-z : goal.decreases-loop-z
-decreases-loop-z l = l.e - l.z

@@ -1,12 +1,13 @@
 -- `text_number` is 0 where the row can be read, and BADROW elsewhere.
-use Rattle.questions.proofs.TextLaws.{texts}
+use Rattle.std.proofs.Common.{sym, ap, ◌∙◌}
+use Rattle.language.specs.Kind.{pick}
+use Rattle.questions.proofs.RowLaws.{number_told}
 use Rattle.questions.proofs.reading.text_number.Goals as goal
 
-pub readable-requires : goal.readable-requires
-readable-requires c = search texts
+pub returns-then-is_some : goal.returns-then-is_some
+returns-then-is_some c =
+    ap (λ b. pick b 0 9) (sym c.if-is_some.true ∙ c.is_some.ensures) ∙ number_told _ _ _ _ c.text_in.result c.text_in.ensures
 
-pub returns-then-readable : goal.returns-then-readable
-returns-then-readable c = search texts
-
-pub returns : goal.returns
-returns c = search texts
+pub returns-else-is_some : goal.returns-else-is_some
+returns-else-is_some c =
+    ap (λ b. pick b 0 9) (sym c.if-is_some.false ∙ c.is_some.ensures) ∙ number_told _ _ _ _ c.text_in.result c.text_in.ensures

@@ -6,8 +6,5 @@ use Rattle.reader.proofs.rounds.first_repeat.Goals as goal
 pub sifted-requires : goal.sifted-requires
 sifted-requires c = search (doubled_repeated, rules)
 
-pub shape_of-keys : goal.shape_of-keys
-shape_of-keys c = search (doubled_repeated, rules)
-
 pub returns : goal.returns
 returns c = search (doubled_repeated, rules)

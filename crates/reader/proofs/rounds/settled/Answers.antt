@@ -8,8 +8,5 @@ turn-requires c = search settling
 pub listed-requires : goal.listed-requires
 listed-requires c = search settling
 
-pub shape_of-keys : goal.shape_of-keys
-shape_of-keys c = search settling
-
 pub returns : goal.returns
 returns c = search settling

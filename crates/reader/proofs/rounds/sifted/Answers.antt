@@ -3,14 +3,8 @@ use Rattle.reader.specs.Rounds.{sifting}
 use borrow.Author.Rules.{rules}
 use Rattle.reader.proofs.rounds.sifted.Goals as goal
 
-pub loop-round-init : goal.loop-round-init
-loop-round-init c = search sifting
-
 pub log_word-hits-requires : goal.log_word-hits-requires
 log_word-hits-requires c = search sifting
-
-pub shape_of-keys-then-hits-lt1 : goal.shape_of-keys-then-hits-lt1
-shape_of-keys-then-hits-lt1 c = search sifting
 
 pub returns-then-hits-lt1 : goal.returns-then-hits-lt1
 returns-then-hits-lt1 c = search sifting
@@ -18,17 +12,11 @@ returns-then-hits-lt1 c = search sifting
 pub settled-requires : goal.settled-requires
 settled-requires c = search sifting
 
-pub shape_of-keys-then-hits-le-HALF : goal.shape_of-keys-then-hits-le-HALF
-shape_of-keys-then-hits-le-HALF c = search sifting
-
 pub returns-then-hits-le-HALF : goal.returns-then-hits-le-HALF
 returns-then-hits-le-HALF c = search sifting
 
 pub settled-requires-then-round-gt8 : goal.settled-requires-then-round-gt8
 settled-requires-then-round-gt8 c = search sifting
-
-pub shape_of-keys-then-round-gt8 : goal.shape_of-keys-then-round-gt8
-shape_of-keys-then-round-gt8 c = search sifting
 
 pub returns-then-round-gt8 : goal.returns-then-round-gt8
 returns-then-round-gt8 c = search sifting
@@ -38,9 +26,6 @@ turn-requires c = search sifting
 
 pub sieved-requires : goal.sieved-requires
 sieved-requires c = search sifting
-
-pub overflow_add-round : goal.overflow_add-round
-overflow_add-round c = search sifting
 
 pub loop-round-smaller : goal.loop-round-smaller
 loop-round-smaller c = search sifting

@@ -3,17 +3,8 @@ use Rattle.reader.specs.Windows.{behind_on, going}
 use borrow.Author.Rules.{rules}
 use Rattle.reader.proofs.windows.behind.Goals as goal
 
-pub overflow_mul-j : goal.overflow_mul-j
-overflow_mul-j c = search going
-
-pub loop-j-init : goal.loop-j-init
-loop-j-init c = search going
-
 pub across-p-requires : goal.across-p-requires
 across-p-requires c = search going
-
-pub shape_of-keys-then-p-lt-LIMIT : goal.shape_of-keys-then-p-lt-LIMIT
-shape_of-keys-then-p-lt-LIMIT c = search going
 
 pub returns-then-p-lt-LIMIT : goal.returns-then-p-lt-LIMIT
 returns-then-p-lt-LIMIT c = search going
@@ -21,14 +12,8 @@ returns-then-p-lt-LIMIT c = search going
 pub log_word-requires : goal.log_word-requires
 log_word-requires c = search going
 
-pub shape_of-keys-then-log_word-lt1 : goal.shape_of-keys-then-log_word-lt1
-shape_of-keys-then-log_word-lt1 c = search going
-
 pub returns-then-log_word-lt1 : goal.returns-then-log_word-lt1
 returns-then-log_word-lt1 c = search going
-
-pub overflow_add-j : goal.overflow_add-j
-overflow_add-j c = search going
 
 pub loop-j-smaller : goal.loop-j-smaller
 loop-j-smaller c = search going

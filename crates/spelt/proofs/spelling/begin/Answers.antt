@@ -2,20 +2,11 @@
 use Rattle.spelt.specs.Spelling.{beginning}
 use Rattle.spelt.proofs.spelling.begin.Goals as goal
 
-pub look-b-requires : goal.look-b-requires
-look-b-requires c = search beginning
+pub returns-in-34 : goal.returns-in-34
+returns-in-34 c = rw c.text_at.ensures (search beginning)
 
-pub overflow_add-result : goal.overflow_add-result
-overflow_add-result c = search beginning
+pub returns-in-39 : goal.returns-in-39
+returns-in-39 c = rw c.text_at-in-39.ensures (search beginning)
 
-pub returns-then-b-eq34 : goal.returns-then-b-eq34
-returns-then-b-eq34 c = search beginning
-
-pub overflow_add-result-then-b-eq39 : goal.overflow_add-result-then-b-eq39
-overflow_add-result-then-b-eq39 c = search beginning
-
-pub returns-then-b-eq39 : goal.returns-then-b-eq39
-returns-then-b-eq39 c = search beginning
-
-pub returns : goal.returns
-returns c = search beginning
+pub returns-in_default : goal.returns-in_default
+returns-in_default c = rw c.text_at-in_default.ensures (search beginning)

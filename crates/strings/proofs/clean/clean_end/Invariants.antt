@@ -4,8 +4,8 @@ use lib.ListN.{length}
 use Rattle.strings.specs.Inside.{CleanUpto}
 use Rattle.strings.proofs.clean.clean_end.Given as goal
 
-abbrev pub invariant-loop-n : goal.invariant-loop-n
-invariant-loop-n l = CleanUpto l.quote l.doc l.initial.n.at l.n.at
+abbrev pub invariant-loop-m : goal.invariant-loop-m
+invariant-loop-m l = CleanUpto l.quote l.doc l.initial.n.at l.n.at
 
-abbrev pub decreases-loop-n : goal.decreases-loop-n
-decreases-loop-n l = length l.doc - l.n.at
+abbrev pub decreases-loop-m : goal.decreases-loop-m
+decreases-loop-m l = length l.doc - l.n.at

@@ -1,44 +1,19 @@
--- `some_pairs` meets its contract.
-use Prim.Native.Nat.{◌-◌}
+-- `some_pairs` meets its contract. The loop's invariant: the pairs up to n are read.
+use Rattle.std.proofs.lemmas.Result.{err_from_is_err_and}
 use borrow.Author.Rules.{rules}
-use Rattle.strings.proofs.PairsLaws.{Pairing, pairing_on, pairs_turn, pairs_digit}
+use Rattle.strings.proofs.PairsLaws.{pairing_on, pairs_turn, pairs_digit}
 use Rattle.strings.proofs.hex.some_pairs.Goals as goal
 
-pub loop-p-init : goal.loop-p-init
-loop-p-init c = search pairing_on
+pub returns-in_err-m : goal.returns-in_err-m
+returns-in_err-m c =
+    let p = err_from_is_err_and c.from_residual.result c.from_residual.ensures.1 in
+    rw (p.1, p.2) (search (pairing_on, c.in_err-m.was))
 
-pub pair-got-requires : goal.pair-got-requires
-pair-got-requires c = search pairing_on
+pub returns-in-Err : goal.returns-in-Err
+returns-in-Err c = search (pairing_on, c.in_ok-m.was)
 
-pub enum_known-got : goal.enum_known-got
-enum_known-got c = search pairing_on
+pub loop-m-smaller : goal.loop-m-smaller
+loop-m-smaller c = search (pairing_on, c.in_ok-m.was)
 
-pub shape_of-text-in-No : goal.shape_of-text-in-No
-shape_of-text-in-No c = search pairing_on
-
-pub returns-in-No : goal.returns-in-No
-returns-in-No c = search pairing_on
-
-pub enum_known-got-in-Ok-1 : goal.enum_known-got-in-Ok-1
-enum_known-got-in-Ok-1 c = search pairing_on
-
-pub further-next-requires : goal.further-next-requires
-further-next-requires c = search pairing_on
-
-pub enum_known-next : goal.enum_known-next
-enum_known-next c = search pairing_on
-
-pub shape_of-text-in-Stops : goal.shape_of-text-in-Stops
-shape_of-text-in-Stops c = search pairing_on
-
-pub returns-in-Stops : goal.returns-in-Stops
-returns-in-Stops c = search pairing_on
-
-pub enum_known-next-in-Begins-1 : goal.enum_known-next-in-Begins-1
-enum_known-next-in-Begins-1 c = search pairing_on
-
-pub loop-p-smaller : goal.loop-p-smaller
-loop-p-smaller c = search pairing_on
-
-pub loop-p-preserved : goal.loop-p-preserved
-loop-p-preserved c = (search pairs_turn, search rules, search pairs_digit)
+pub loop-m-preserved : goal.loop-m-preserved
+loop-m-preserved c = (search (pairs_turn, c.in_ok-m.was), search rules, search (pairs_digit, c.in_ok-m.was))

@@ -9,8 +9,8 @@ use Rattle.language.specs.Strings.{lowhex}
 use Rattle.strings.proofs.PairsLaws.{Pairing}
 use Rattle.strings.proofs.hex.some_pairs.Given as goal
 
-abbrev pub invariant-loop-p : goal.invariant-loop-p
-invariant-loop-p l = Pairing l.doc l.initial.n l.n l.initial.text l.text × (length l.text ≡ length l.initial.text) × (is lowhex (peek l.doc l.n.at) ≡ true)
+abbrev pub invariant-loop-m : goal.invariant-loop-m
+invariant-loop-m l = Pairing l.doc l.initial.n l.n l.initial.text l.text × (length l.text ≡ length l.initial.text) × (is lowhex (peek l.doc l.n.at) ≡ true)
 
-abbrev pub decreases-loop-p : goal.decreases-loop-p
-decreases-loop-p l = length l.doc - l.n.at
+abbrev pub decreases-loop-m : goal.decreases-loop-m
+decreases-loop-m l = length l.doc - l.n.at

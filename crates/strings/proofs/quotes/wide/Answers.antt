@@ -1,36 +1,15 @@
--- `wide` meets its contract.
+-- `wide` copies a character of several bytes.
+use Rattle.std.proofs.lemmas.Result.{err_from_is_err_and}
 use Rattle.strings.proofs.SpecialLaws.{specials}
 use Rattle.strings.proofs.quotes.wide.Goals as goal
 
-pub scalar-requires : goal.scalar-requires
-scalar-requires c = search specials
-
-pub enum_known-p : goal.enum_known-p
-enum_known-p c = search specials
-
-pub enum_known-v : goal.enum_known-v
-enum_known-v c = search specials
+pub returns-in_err-v : goal.returns-in_err-v
+returns-in_err-v c =
+    let p = err_from_is_err_and c.from_residual.result c.from_residual.ensures.1 in
+    rw (p.1, p.2) (search (specials, c.in_err-v.was))
 
 pub returns-then-v-lt128 : goal.returns-then-v-lt128
-returns-then-v-lt128 c = search specials
+returns-then-v-lt128 c = search (specials, c.in_ok-v.was)
 
-pub spot-requires : goal.spot-requires
-spot-requires c = search specials
-
-pub copy-requires : goal.copy-requires
-copy-requires c = search specials
-
-pub overflow_sub-result : goal.overflow_sub-result
-overflow_sub-result c = search specials
-
-pub overflow_add-result : goal.overflow_add-result
-overflow_add-result c = search specials
-
-pub returns-in-Not : goal.returns-in-Not
-returns-in-Not c = search specials
-
-pub shape_of-text : goal.shape_of-text
-shape_of-text c = search specials
-
-pub returns-else-v-lt128 : goal.returns-else-v-lt128
-returns-else-v-lt128 c = search specials
+pub returns : goal.returns
+returns c = search (specials, c.in_ok-v.was)

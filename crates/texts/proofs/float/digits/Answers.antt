@@ -1,31 +1,12 @@
--- `digits` meets its contract. Assumes nothing.
-use Prim.Native.Nat.{◌-◌}
-use Rattle.texts.specs.Runs.{Coming, runs}
+-- `digits` passes the digits that stand there, run by run. Assumes nothing.
+use Rattle.texts.specs.Digits.{digits_on, digits_stop, digiting}
 use Rattle.texts.proofs.float.digits.Goals as goal
 
-pub loop-i-init : goal.loop-i-init
-loop-i-init c = search runs
-
-pub bounds-s-i : goal.bounds-s-i
-bounds-s-i c = search runs
-
-pub returns-then-s-i-lt48 : goal.returns-then-s-i-lt48
-returns-then-s-i-lt48 c = search runs
-
-pub bounds-s-i-in-loop-i : goal.bounds-s-i-in-loop-i
-bounds-s-i-in-loop-i c = search runs
-
-pub returns-then-s-i-gt57 : goal.returns-then-s-i-gt57
-returns-then-s-i-gt57 c = search runs
-
-pub overflow_add-i : goal.overflow_add-i
-overflow_add-i c = search runs
-
-pub loop-i-smaller : goal.loop-i-smaller
-loop-i-smaller c = search runs
+pub returns-then-n-run : goal.returns-then-n-run
+returns-then-n-run g c = digits_stop c.loop-i.invariant c.run-run.ensures c.leading-n.ensures c.if-n-run.true
 
 pub loop-i-preserved : goal.loop-i-preserved
-loop-i-preserved c = search runs
+loop-i-preserved g c = digits_on c.loop-i.invariant c.run-run.ensures c.leading-n.ensures
 
 pub returns : goal.returns
-returns c = search runs
+returns g c = search digiting

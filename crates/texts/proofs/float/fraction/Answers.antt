@@ -3,4 +3,4 @@ use Rattle.texts.specs.Places.{fraction_told}
 use Rattle.texts.proofs.float.fraction.Goals as goal
 
 pub returns : goal.returns
-returns c = fraction_told _ _ _ c.digits-n.ensures c.powers.result c.powers.ensures
+returns g c = fraction_told _ _ _ c.digits.ensures c.powers.result c.powers.ensures

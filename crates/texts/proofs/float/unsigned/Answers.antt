@@ -3,7 +3,7 @@ use Rattle.texts.specs.Places.{unsigned_word, unsigned_told}
 use Rattle.texts.proofs.float.unsigned.Goals as goal
 
 pub returns-then-word : goal.returns-then-word
-returns-then-word c = unsigned_word _ c.word.result c.word.ensures c.if-word.true
+returns-then-word g c = unsigned_word _ c.word.result c.word.ensures c.if-word.true
 
 pub returns : goal.returns
-returns c = unsigned_told _ c.word.result c.word.ensures c.if-word.false c.decimal.result c.decimal.ensures
+returns g c = unsigned_told _ c.word.result c.word.ensures c.if-word.false c.decimal.result c.decimal.ensures

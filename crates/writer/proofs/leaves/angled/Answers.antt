@@ -7,8 +7,5 @@ use Rattle.writer.proofs.leaves.angled.Goals as goal
 pub hex_pairs-b-requires : goal.hex_pairs-b-requires
 hex_pairs-b-requires c = search (pairs_room, rules)
 
-pub put-requires : goal.put-requires
-put-requires c = search (enclosing, rules)
-
 pub returns : goal.returns
 returns c = search (enclosing, rules)

@@ -6,41 +6,35 @@ use Rattle.writer.proofs.leaves.scalar.Goals as goal
 pub all-requires : goal.all-requires
 all-requires c = search (spelling, rules)
 
-pub returns-then-kind-eq1 : goal.returns-then-kind-eq1
-returns-then-kind-eq1 c = search (spelling, rules)
+pub all-requires-in-2 : goal.all-requires-in-2
+all-requires-in-2 c = search (spelling, rules)
 
-pub all-requires-then-kind-eq2 : goal.all-requires-then-kind-eq2
-all-requires-then-kind-eq2 c = search (spelling, rules)
-
-pub returns-then-kind-eq2 : goal.returns-then-kind-eq2
-returns-then-kind-eq2 c = search (spelling, rules)
-
-pub all-requires-then-kind-eq3 : goal.all-requires-then-kind-eq3
-all-requires-then-kind-eq3 c = search (spelling, rules)
-
-pub returns-then-kind-eq3 : goal.returns-then-kind-eq3
-returns-then-kind-eq3 c = search (spelling, rules)
+pub all-requires-in-3 : goal.all-requires-in-3
+all-requires-in-3 c = search (spelling, rules)
 
 pub quoted-requires : goal.quoted-requires
 quoted-requires c = search (spelling, rules)
 
-pub returns-then-kind-eq6 : goal.returns-then-kind-eq6
-returns-then-kind-eq6 c = search (spelling, rules)
-
 pub angled-requires : goal.angled-requires
 angled-requires c = search (spelling, rules)
 
-pub returns-then-kind-eq7 : goal.returns-then-kind-eq7
-returns-then-kind-eq7 c = search (spelling, rules)
+pub all-requires-in_default : goal.all-requires-in_default
+all-requires-in_default c = search (spelling, rules)
 
-pub key-requires : goal.key-requires
-key-requires c = search (spelling, rules)
+pub returns-in-1 : goal.returns-in-1
+returns-in-1 c = search (spelling, rules)
 
-pub returns-then-kind-eq10 : goal.returns-then-kind-eq10
-returns-then-kind-eq10 c = search (spelling, rules)
+pub returns-in-2 : goal.returns-in-2
+returns-in-2 c = search (spelling, rules)
 
-pub all-requires-2 : goal.all-requires-2
-all-requires-2 c = search (spelling, rules)
+pub returns-in-3 : goal.returns-in-3
+returns-in-3 c = search (spelling, rules)
 
-pub returns : goal.returns
-returns c = search (spelling, rules)
+pub returns-in-6 : goal.returns-in-6
+returns-in-6 c = search (spelling, rules)
+
+pub returns-in-7 : goal.returns-in-7
+returns-in-7 c = search (spelling, rules)
+
+pub returns-in_default : goal.returns-in_default
+returns-in_default c = search (spelling, rules)

@@ -7,7 +7,7 @@ use native.Mathlib.Omega.{arith}
 use Rattle.writer.proofs.marks.spaces.Goals as goal
 
 pub loop-i-init : goal.loop-i-init
-loop-i-init c = let s = c.args in let z : s.x + 0 ≡ s.x = omega arith in let n : s.n - 0 ≡ s.n = omega arith in (rw (z, n) refl, refl, omega arith)
+loop-i-init c = let s = c.args in let z : s.x + 0 ≡ s.x = omega arith in let n : s.n - 0 ≡ s.n = omega arith in (rw (z, n) refl, refl)
 
 pub loop-i-preserved : goal.loop-i-preserved
 loop-i-preserved c = search (spaces_turn, rules)

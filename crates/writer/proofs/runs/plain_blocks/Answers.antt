@@ -1,9 +1,10 @@
 -- `plain_blocks` passes 16 plain bytes at a time.
-use Rattle.writer.specs.Runs.{selfs_none, selfs_then}
+use native.Mathlib.Omega.{arith}
+use Rattle.writer.specs.Runs.{selfs_none, selfs_then, selfs_as}
 use Rattle.writer.proofs.runs.plain_blocks.Goals as goal
 
-pub loop-e-init : goal.loop-e-init
-loop-e-init c = selfs_none c.requires
+pub loop-k-init : goal.loop-k-init
+loop-k-init c = selfs_as (selfs_none c.requires) (omega arith)
 
-pub loop-e-preserved : goal.loop-e-preserved
-loop-e-preserved c = selfs_then c.loop-e.invariant (c.all_plain.ensures c.if-all_plain.true)
+pub loop-k-preserved : goal.loop-k-preserved
+loop-k-preserved c = selfs_as (selfs_then c.loop-k.invariant (c.all_plain.ensures c.if-not-all_plain.false)) (omega arith)

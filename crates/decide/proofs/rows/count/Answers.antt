@@ -1,8 +1,0 @@
--- `count` gives the count of a container's row. Assumes nothing.
-use native.Mathlib.Omega.{arith}
-use Prim.Native.Nat.{◌+◌, ◌*◌}
-use Rattle.language.specs.Tree.{width}
-use Rattle.decide.proofs.rows.count.Goals as goal
-
-pub overflow_cast-result : goal.overflow_cast-result
-overflow_cast-result c = omega (arith, c.shared_slice_known-1.given (width * c.args.r + 4))

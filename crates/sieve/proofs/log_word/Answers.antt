@@ -1,0 +1,10 @@
+-- `log_word` gives a word of the room. Assumes nothing.
+use native.Mathlib.Omega.{arith}
+use borrow.Author.Rules.{rules}
+use Rattle.sieve.proofs.log_word.Goals as goal
+
+pub overflow_cast-result : goal.overflow_cast-result
+overflow_cast-result c = omega (arith, c.shared_slice_known-1.given c.args.i)
+
+pub returns : goal.returns
+returns c = (search rules, omega (arith, c.shared_slice_known-1.given c.args.i))

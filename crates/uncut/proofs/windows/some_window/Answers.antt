@@ -1,9 +1,0 @@
--- `some_window` starts with rooms that have nothing in them.
-use mathlib.Core.Path.{refl}
-use native.Mathlib.Omega.{arith}
-use Rattle.distinct.specs.Window.{rooms_first}
-use borrow.Author.Rules.{rules}
-use Rattle.uncut.proofs.windows.some_window.Goals as goal
-
-pub window-requires : goal.window-requires
-window-requires c = (search rules, search rules, rooms_first 2048 2048 4096 2048 (omega arith) (omega arith) refl refl refl)
