@@ -54,7 +54,7 @@ pub fn place_at(places: &[u32], k: usize) -> usize
 }
 
 // Whether the bytes from a to e of one text are those from b to f of another.
-// Stays (point 4): tried; most keys differ in their length or first byte, and by `text[a..e] == words[b..f]` the test of soundness takes 1.35 of START's instructions on small records, by this loop 1.13 (both as plain Rust).
+// Stays (point 4): tried; most keys differ in their length or first byte, and by `text[a..e] == words[b..f]` the test of soundness takes 1.35 of the instructions of the form of before on small records, by this loop 1.13 (all as plain Rust).
 #[tactic(auto, using(crate::specs::Same::comparing))]
 pub fn same_text(text: &[u8], a: usize, e: usize, words: &[u8], b: usize, f: usize) -> bool
     requires { Part text.now a e × Part words.now b f }

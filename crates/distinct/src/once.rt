@@ -1,4 +1,5 @@
 // Whether no two keys of an object have one text: few keys are each sought among those behind them, many in windows.
+// Stays (point 6): n says how many keys there are and picks the way, and is no count of a room.
 // Stays (point 5): keys, text and stop go as parameters: `Keys` takes the room with each call, so that the fields of stored bytes need no struct that holds it; stop is another for each object.
 ghost use Rattle.std.specs.Prelude.{◌≡◌};
 ghost use Rattle.std.proofs.Math.Seq.{slice};

@@ -12,7 +12,7 @@ use repeats::{insert, word};
 use std::cmp::Ordering;
 
 // How the bytes from a to e of one text stand to those from b to f of another.
-// Stays (point 4): tried; by `text[a..e].cmp(&words[b..f])` loading a megabyte of short keys of one chain takes 1.53 of START's instructions, by such a loop 0.97 (both as plain Rust).
+// Stays (point 4): tried; by `text[a..e].cmp(&words[b..f])` loading a megabyte of short keys of one chain takes 1.53 of the instructions of the form of before, by such a loop 0.97 (all as plain Rust).
 #[tactic(auto, using(crate::specs::Ranks::agreeing))]
 fn texts_order(text: &[u8], a: usize, e: usize, words: &[u8], b: usize, f: usize) -> Ordering
     requires { Part text.now a e × Part words.now b f }

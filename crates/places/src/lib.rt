@@ -1,5 +1,5 @@
 // Repeated keys, found by their places: the keys noted of a document stand in chains; where a chain grows long, in the order of their names.
-// Stays (points 5, 6): the document, the log, the rooms and the count of keys in them go as parameters. The rooms have a fixed size (no heap), and a struct that holds the `&mut` slices would need a clause in every contract that it still holds the same ones.
+// Stays (points 5, 6), here and in each file: the document, the log, the rooms and the count of keys in them go as parameters. The rooms have a fixed size (no heap), and a struct that holds the `&mut` slices would need a clause in every contract that it still holds the same ones.
 #![tactic(auto)]
 
 ghost use Rattle.std.specs.Prelude.{◌<◌, ◌≤◌, slice_index};

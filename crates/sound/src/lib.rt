@@ -127,6 +127,7 @@ fn key(table: &[u32], stop: usize, text: &[u8], r: usize, parent: usize, x: usiz
 }
 
 // A container whose n members are passed, and whose text ends at y.
+// Stays (point 6): n counts members, and no words of `table`.
 #[tactic(auto, using(crate::proofs::CycleLaws::closing))]
 fn closed(
     table: &[u32],
