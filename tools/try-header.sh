@@ -23,6 +23,9 @@ for document in '' '1' 'a: 1 \n' 'a: 1\nb:\t2\n' '"Gr\303\266\303\237e": [1,2]\n
     expect "that $document is refused" 1 "$(grep -c "^$folder/refused.yay:[0-9]*:[0-9]*: [A-Z]* (" <<< "$wanted")"
 done
 
+# A program that has no more than these two can link the library.
+expect 'what the library asks for' 'memcpy memset' "$(nm -u "$library" | awk '$1 == "U" { print $2 }' | sort -u | xargs)"
+
 if command -v c++ > /dev/null; then
     printf '#include "yay_help.h"\nint main() { return yay_kind_name(1)[0] != 110; }\n' > "$folder/help.cc"
     c++ -std=c++11 -Wall -Wextra -Werror -Iinclude "$folder/help.cc" -o "$folder/help-cc"

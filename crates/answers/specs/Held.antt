@@ -4,7 +4,6 @@ use Rattle.std.proofs.Common.{◌∙◌, arith, take_at, length-take-le}
 use Rattle.std.proofs.Math.Path.{ap}
 use Rattle.std.proofs.lemmas.List.Edits.{sets}
 use Rattle.std.proofs.Math.Seq.{slice}
-use Rattle.rooms.specs.Stores.{sets_mid}
 use Rattle.rooms.specs.Forest.{length_rows}
 use Rattle.language.specs.Tree.{unlined, width, size, text_of, escapes_of, rows_of}
 use Rattle.language.specs.Answered.{limit, REPEAT, ROWS, TEXT, Answered, Totals, untold}
@@ -16,10 +15,6 @@ use Rattle.places.specs.Log.{Log, Told, log_placed, log_told}
 use Rattle.language.specs.Lines.{lines_of}
 use Rattle.lined.specs.Lined.{Ranked, lined}
 use Rattle.answers.specs.Counted.{Counted, counted_repeat, counted_rows, counted_bytes, counted_ranked, counted_all, counted_total}
-
--- the first k words of one table, stored at the start of another
-pub words_stored : (l new w : List ℕ) (k : ℕ) → new ≡ take k w → k ≤ length w → k ≤ length l → new ++ drop k l ≡ sets l 0 (slice 0 k w)
-words_stored l new w k e h f = sets_mid l new 0 k (ap length e ∙ length-take-le k w h) (omega arith) ∙ ap (sets l 0) e
 
 -- ROOMS OF OUR OWN hold the n rows and the m text bytes of the document's tree, which has z escapes and whose keys are noted
 pub record Held (doc keys R T : List ℕ) (n m z : ℕ) : Type 0 where

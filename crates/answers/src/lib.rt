@@ -1,6 +1,9 @@
 // The answer for a document whose rows and text are known: REPEAT, ROWS and TEXT in this order, or both copied into the rooms lent, and the rows' lines and columns told.
 #![tactic(auto)]
 
+ghost use Rattle.std.specs.Prelude.{◌≡◌, ◌≤◌, length};
+ghost use Rattle.std.proofs.lemmas.List.Edits.{sets};
+ghost use Rattle.std.proofs.Math.Seq.{slice};
 ghost use Rattle.language.specs.Answered.{number, value, second, third, Answered, Totals};
 ghost use Rattle.answers.specs.Held.{Held};
 
@@ -8,6 +11,16 @@ use language::{Accepted, Place, Refusal, WIDTH};
 use lined::line_up;
 use places::first_again;
 use rooms::copy;
+
+// The first n words of a table, stored in another.
+fn copy_words(words: &[u32], n: usize, table: &mut [u32])
+    requires { (n ≤ length words.now) × (n ≤ length table.old) }
+    ensures { table.new ≡ sets table.old 0 (slice 0 n words.now) }
+{
+    for i in 0..n {
+        table[i] = words[i];
+    }
+}
 
 // The answer for a document whose rows and text stand in rooms of our own, and what it has of them.
 // Stays (point 5): the document, the rooms of our own and the rooms lent go as parameters. A struct that holds the `&mut` slices would need a clause in every contract that it still holds the same ones.
@@ -34,7 +47,7 @@ pub fn answer(
     if text.len() < counts.text {
         return Err(Refusal::Text(counts.text));
     }
-    table[..n].copy_from_slice(&rows[..n]);
+    copy_words(rows, n, table);
     copy(bytes, 0, counts.text, text, 0);
     line_up(doc, table, counts.rows.0);
     Ok(counts)

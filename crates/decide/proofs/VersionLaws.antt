@@ -7,7 +7,8 @@ use Rattle.std.specs.declared.cmp.Ordering.{Ordering}
 use Rattle.std.specs.declared.cmp.Ordering.TheVariants.{Less, Equal, Greater}
 use Rattle.exact.specs.Tells.{Tells}
 use Rattle.questions.specs.Text.{text_of}
-use Rattle.integers.specs.Order.{Compared, not_int, compared_verdict, compared}
+use Rattle.integers.specs.Integer.{is_integer, empty, integer, natural}
+use Rattle.integers.specs.Order.{Compared, not_int, compared_verdict, compared, order_of}
 use Rattle.upgrade.specs.Order as order
 use Rattle.decide.specs.Rows.{kind_at, count_at, zero_text, natural_greater, natural_equal, natural_less, natural_not, naturals_say, Said, NaturalRow, NaturalRows, VersionRow, place_text, number_at}
 use Rattle.decide.specs.Contract.{Versions, AboveRow}
@@ -51,6 +52,14 @@ module _ (table : List ℕ) (rows : ℕ) (text : List ℕ) where
   version_told r n e k m l false t = λ x. t (λ q h. x.places q (omega arith))
 
 -- ---- which is above
+
+-- where both places are missing
+zeros : compared_verdict (Ok Equal) ≡ compared zero_text zero_text
+unfolding compared order_of is_integer empty integer natural
+zeros = refl
+
+pub order_missing : (a b : List ℕ) → a ≡ zero_text → b ≡ zero_text → compared_verdict (Ok Equal) ≡ compared a b
+order_missing a b p q = rw (p, q) zeros
 
 -- the places before the i-th are equal
 pub record Level (table : List ℕ) (rows : ℕ) (text : List ℕ) (r : ℕ) (other : List ℕ) (rows' : ℕ) (text' : List ℕ) (s i : ℕ) : Type 0 where

@@ -4,6 +4,7 @@ ghost use Rattle.std.specs.Prelude.{◌≡◌, ◌+◌, ◌*◌, ◌≤◌, ◌<
 ghost use Rattle.exact.specs.Tells.{Tells};
 ghost use Rattle.language.specs.Tree.{width};
 ghost use Rattle.language.specs.Lent.{words_in};
+ghost use Rattle.integers.specs.Order.{compared, compared_verdict};
 ghost use Rattle.upgrade.specs.Version.{most};
 ghost use Rattle.decide.specs.Rows.{Inside, NaturalRow, NaturalRows, VersionRow, place_text};
 ghost use Rattle.decide.specs.Contract.{AboveRow, Versions};
@@ -12,6 +13,7 @@ use super::table::Table;
 use integers::{NotInt, compare};
 use language::{Kind, Row};
 use questions::text;
+use std::cmp::Ordering;
 
 // A version has so many places at most.
 const MOST: usize = 8;
@@ -58,13 +60,24 @@ impl<'a> Table<'a> {
         }
     }
 
+    // How the i-th places of the version in row r and of the other's, in row s, stand to each other. Most versions have few places, and where both are missing they are equal.
+    fn order(&self, r: usize, other: &Table, s: usize, i: usize) -> Result<Ordering, NotInt>
+        requires { Inside self.now.words.now self.now.rows r × Inside other.now.words.now other.now.rows s × (i < most) }
+        ensures { compared_verdict result ≡ compared (place_text self.now.words.now self.now.rows self.now.room.now r i) (place_text other.now.words.now other.now.rows other.now.room.now s i) }
+    {
+        if self.count(r).max(other.count(s)) <= i {
+            return Ok(Ordering::Equal);
+        }
+        compare(self.place(r, i), other.place(s, i))
+    }
+
     // Whether the version in row r is above the other's, in row s.
     pub fn above(&self, r: usize, other: &Table, s: usize) -> bool
         requires { Versions self.now.words.now self.now.rows self.now.room.now r other.now.words.now other.now.rows other.now.room.now s }
         ensures { Tells (AboveRow self.now.words.now self.now.rows self.now.room.now r other.now.words.now other.now.rows other.now.room.now s) result }
     {
         for i in 0..MOST {
-            match compare(self.place(r, i), other.place(s, i)) {
+            match self.order(r, other, s, i) {
                 Ok(order) => {
                     if order.is_ne() {
                         return order.is_gt();

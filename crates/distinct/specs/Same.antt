@@ -1,6 +1,10 @@
 -- TWO TEXTS COMPARED byte by byte: they are the same exactly if what is left of them is (`Same`). Assumes nothing.
-use Rattle.std.specs.Prelude.{◌≡◌, List, ◌∷◌, true, false, ℕ, suc, ◌+◌, ◌-◌, ◌≤◌, ◌<◌, length, get_or}
-use Rattle.std.proofs.Common.{ap, ◌∙◌, arith, add-zero, rules}
+use Rattle.std.specs.Prelude.{◌≡◌, List, ◌∷◌, Bool, true, false, ℕ, suc, ◌+◌, ◌-◌, ◌≤◌, ◌<◌, eqb, length, get_or, take, drop}
+use Rattle.std.proofs.Common.{sym, ap, ap₂, ◌∙◌, arith, add-zero, rules}
+use Rattle.std.specs.Cmp.Lexicographic.{pointwise}
+use Rattle.std.proofs.lemmas.Bool.{false≢true}
+use Rattle.std.proofs.lemmas.Slice.Eq.{bytes_eq-Decides}
+use Rattle.std.proofs.lemmas.Slice.{between_is}
 use Rattle.std.proofs.Math.Seq.{slice, slice-cons, slice_empty, length-slice}
 use Rattle.exact.specs.Tells.{Tells}
 use Rattle.distinct.specs.Names.{Part}
@@ -56,5 +60,13 @@ module _ (text : List ℕ) (a e : ℕ) (words : List ℕ) (b f n : ℕ) where
           to = λ z. let y = x.to z in let u = heads in let v = heads' in cc;
           from = λ z. x.from (let u = heads in let v = heads' in cc);
         }
+
+-- .. or as slices
+pub same_slices : (text : List ℕ) (a e : ℕ) (words : List ℕ) (b f : ℕ) (r : Bool) → r ≡ pointwise eqb (take (e - a) (drop a text)) (take (f - b) (drop b words)) → Tells (slice a e text ≡ slice b f words) r
+same_slices text a e words b f r h = by r (h ∙ ap₂ (pointwise eqb) (between_is text a e) (between_is words b f))
+  where
+    by : (r : Bool) → r ≡ pointwise eqb (slice a e text) (slice b f words) → Tells (slice a e text ≡ slice b f words) r
+    by true k = (bytes_eq-Decides (slice a e text) (slice b f words)).0 (sym k)
+    by false k = λ z. false≢true (k ∙ (bytes_eq-Decides (slice a e text) (slice b f words)).1 z)
 
 pub ruleset comparing = (same_uneven, same_first, same_yes, same_at, same_other, same_no, same_more, rules)

@@ -53,6 +53,9 @@ pub fn place_at(places: &[u32], k: usize) -> usize
     places[k] as usize
 }
 
+// So many bytes are compared one at a time, more as slices.
+const SHORT: usize = 16;
+
 // Whether the bytes from a to e of one text are those from b to f of another.
 // Stays (point 4): tried; most keys differ in their length or first byte, and by `text[a..e] == words[b..f]` the test of soundness takes 1.35 of the instructions of the form of before on small records, by this loop 1.13 (all as plain Rust).
 #[tactic(auto, using(crate::specs::Same::comparing))]
@@ -63,6 +66,9 @@ pub fn same_text(text: &[u8], a: usize, e: usize, words: &[u8], b: usize, f: usi
     let n = e - a;
     if f - b != n {
         return false;
+    }
+    if SHORT < n {
+        return text[a..e] == words[b..f];
     }
     for i in 0..n {
         if text[a + i] != words[b + i] {

@@ -65,6 +65,8 @@ pub fn part(text: &[u8], a: usize, e: usize, out: &mut [u8], x: usize)
 }
 
 // A part, or the end of a content: the k-th, of m bytes, is moved behind the heads of those before it.
+// It is put into no caller: where m is known when it is compiled, bytes are moved one by one, not 32 at a time.
+#[inline(never)]
 fn part_at(out: &mut [u8], x: usize, k: usize, tag: usize, m: usize)
     requires { Moves (length out.old) x k tag m }
     ensures { out.new ≡ sets out.old (x + 65538 * k) (form.tagged tag (slice (x + 3 + 65535 * k) (x + 3 + 65535 * k + m) out.old)) }

@@ -15,7 +15,9 @@ pub fn copy(text: &[u8], a: usize, e: usize, room: &mut [u8], x: usize)
 {
     if x < room.len() {
         let n = (e - a).min(room.len() - x);
-        room[x..x + n].copy_from_slice(&text[a..a + n]);
+        for i in 0..n {
+            room[x + i] = text[a + i];
+        }
     }
 }
 

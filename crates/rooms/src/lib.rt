@@ -208,7 +208,10 @@ fn put_part(rows: &mut [u32], i: usize, words: &[u32])
     ensures { rows.new ≡ sets rows.old i words.now }
 {
     let n = rows.len() - i;
-    rows[i..].copy_from_slice(&words[..n]);
+    // A loop, as in each copy here: with the slice's own the archive for C asks for memmove.
+    for k in 0..n {
+        rows[i + k] = words[k];
+    }
 }
 
 // The words of a row: one test, then plain stores.

@@ -78,6 +78,17 @@ fn near_ascii(run: &[u8], at: usize) -> usize
     i
 }
 
+// The same in a run, most often with four bytes that stand there.
+fn near_character(run: &[u8], i: usize) -> usize
+    requires { i < length run.now }
+    ensures { LedAt run.now i result }
+{
+    if run.len() - i < 4 {
+        return character(run, i);
+    }
+    size(run[i], run[i + 1], run[i + 2], run[i + 3])
+}
+
 // The place behind the characters that stand whole in a run, from a place behind such ones on.
 fn near_characters(run: &[u8], at: usize) -> usize
     requires { Whole run.now at }
@@ -85,7 +96,7 @@ fn near_characters(run: &[u8], at: usize) -> usize
 {
     let mut i = at;
     while i < run.len() {
-        let n = character(run, i);
+        let n = near_character(run, i);
         if n == 0 {
             return i;
         }
