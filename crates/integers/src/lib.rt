@@ -1,4 +1,4 @@
-// Integers' texts compared as numbers (document 01, Questions). No public function has a `requires`.
+// Integers' texts compared as numbers (document 01, Questions). No function has a `requires`; of a `Text`, `run` alone asks for a byte at its place.
 #![tactic(auto)]
 
 mod comparing;
