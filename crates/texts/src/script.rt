@@ -78,7 +78,7 @@ fn near_ascii(run: &[u8], at: usize) -> usize
     i
 }
 
-// The same in a run, most often with four bytes that stand there.
+// What `character` says at a place of a run; most often four bytes stand there.
 fn near_character(run: &[u8], i: usize) -> usize
     requires { i < length run.now }
     ensures { LedAt run.now i result }
